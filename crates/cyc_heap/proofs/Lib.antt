@@ -1,8 +1,5 @@
-pub mod Orders
 pub mod Slots
-pub mod Places
-pub mod Holes
-pub mod Hollows
+pub mod Playing
 pub mod Views
-pub mod Edits
-pub mod Widening
+pub mod Listed
+pub mod Growing

@@ -1,26 +1,58 @@
--- What each index has, read off the array.
-use Rattle.std.proofs.Common.{◌≡◌, ℕ, ◌<◌, ◌≤◌, ltb, cond, List, length, get_or, Option, Some, None, ap}
-use Rattle.std.proofs.lemmas.Bool.{lt-ltb, le-ltb, cond-true, cond-false}
-use Rattle.std.proofs.lemmas.List.{length-map, get_or-map}
+-- What each index has, read off the leaves.
+use Rattle.std.proofs.Common.{◌≡◌, ◌≢◌, ℕ, ◌<◌, ◌≤◌, inl, inr, ltb, List, length, take, get_or, Option, Some, None, sym, ap, ◌∙◌, arith}
+use Rattle.std.proofs.Math.ListN.{set}
+use Rattle.std.proofs.lemmas.Bool.{cases_eq, lt-ltb, le-ltb, cond-true, cond-false}
+use Rattle.std.proofs.lemmas.List.{length-map, length-set, length-take-le, get_or-map, get_or-take, get_or-set_same, get_or-set_other}
+use Rattle.std.proofs.lemmas.List.{ext_get_or}
+use Rattle.cyc_types.specs.Series.{never}
 use Rattle.cyc_types.specs.Expirations.{Expiration}
 use Rattle.cyc_heap.specs.declared.entry.Entry.{Entry}
-use Rattle.cyc_heap.specs.Array.{key, entry_at, key_at, slot, slots}
+use Rattle.cyc_heap.specs.Tournament.{nowhere, key, entry_at, slot, slots}
 
-pub length-slots : (len : ℕ) (entries : List Entry) (positions : List ℕ) → length (slots len entries positions) ≡ length positions
-unfolding slots
-length-slots len entries positions = length-map positions (slot len entries)
+-- a leaf with a moment, and a free one
+pub slot_used : (e : Entry) → e.moment ≤ never → slot e ≡ Some (key e)
+slot_used e low = cond-false (ltb never e.moment) None (Some (key e)) (le-ltb never e.moment low)
 
-pub slots_at : (len : ℕ) (entries : List Entry) (positions : List ℕ) (k : ℕ) (d : Option Expiration) → k < length positions
-    → get_or (slots len entries positions) k d ≡ slot len entries (get_or positions k 0)
-unfolding slots
-slots_at len entries positions k d low = get_or-map (slot len entries) positions k 0 d low
+pub slot_free : (e : Entry) → never < e.moment → slot e ≡ None
+slot_free e high = cond-true (ltb never e.moment) None (Some (key e)) (lt-ltb never e.moment high)
 
--- a position in the heap, and one after it
-pub slot_used : (len : ℕ) (entries : List Entry) (p : ℕ) → p < len → slot len entries p ≡ Some (key_at entries p)
-slot_used len entries p low = cond-true (ltb p len) (Some (key_at entries p)) None (lt-ltb p len low)
+module _ (size : ℕ) (entries : List Entry) (long : size ≤ length entries) where
+  pub length-slots : length (slots size entries) ≡ size
+  unfolding slots
+  length-slots = length-map (take size entries) slot ∙ length-take-le size entries long
 
-pub slot_free : (len : ℕ) (entries : List Entry) (p : ℕ) → len ≤ p → slot len entries p ≡ None
-slot_free len entries p high = cond-false (ltb p len) (Some (key_at entries p)) None (le-ltb p len high)
+  pub slots_at : (i : ℕ) (d : Option Expiration) → i < size → get_or (slots size entries) i d ≡ slot (entry_at entries i)
+  unfolding slots
+  slots_at i d low =
+      let l = length-take-le size entries long in
+      get_or-map slot (take size entries) i nowhere d (omega (arith, l, low))
+      ∙ ap slot (get_or-take size entries i nowhere low)
 
-pub slot_kept : (len : ℕ) (xs ys : List Entry) (p : ℕ) → entry_at ys p ≡ entry_at xs p → slot len ys p ≡ slot len xs p
-slot_kept len xs ys p same = ap (λ (x : Entry). cond (ltb p len) (Some (key x)) None) same
+-- the same leaves have the same
+pub slots_kept : (size : ℕ) (xs ys : List Entry) → size ≤ length xs → size ≤ length ys
+    → ((i : ℕ) → i < size → entry_at ys i ≡ entry_at xs i) → slots size ys ≡ slots size xs
+slots_kept size xs ys long_xs long_ys same =
+    let n = length-slots size xs long_xs in
+    let m = length-slots size ys long_ys in
+    ext_get_or None (slots size ys) (slots size xs) (m ∙ sym n)
+    (λ i low. slots_at size ys long_ys i None (omega (arith, low, m))
+    ∙ ap slot (same i (omega (arith, low, m)))
+    ∙ sym (slots_at size xs long_xs i None (omega (arith, low, m))))
+
+-- another entry in one leaf
+pub slots_set : (size : ℕ) (xs ys : List Entry) (at : ℕ) (e : Entry) → size ≤ length xs → size ≤ length ys → at < size
+    → entry_at ys at ≡ e → ((i : ℕ) → i < size → i ≢ at → entry_at ys i ≡ entry_at xs i)
+    → slots size ys ≡ set (slots size xs) at (slot e)
+slots_set size xs ys at e long_xs long_ys within here others =
+    let n = length-slots size xs long_xs in
+    let m = length-slots size ys long_ys in
+    let k = length-set (slots size xs) at (slot e) in
+    ext_get_or None (slots size ys) (set (slots size xs) at (slot e)) (m ∙ sym (k ∙ n))
+    (λ i low. elim (cases_eq i at) [
+      | inl is ↦ slots_at size ys long_ys i None (omega (arith, low, m)) ∙ ap (λ j. slot (entry_at ys j)) is ∙ ap slot here
+          ∙ sym (ap (λ j. get_or (set (slots size xs) at (slot e)) j None) is
+          ∙ get_or-set_same (slots size xs) at (slot e) None (omega (arith, within, n)))
+      | inr off ↦ slots_at size ys long_ys i None (omega (arith, low, m)) ∙ ap slot (others i (omega (arith, low, m)) off)
+          ∙ sym (get_or-set_other (slots size xs) at i (slot e) None off
+          ∙ slots_at size xs long_xs i None (omega (arith, low, m)))
+    ])

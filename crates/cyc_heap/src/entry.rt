@@ -1,10 +1,10 @@
-//! An entry of the heap, and which of two expires first.
+//! An entry of the tournament, and which of two expires first.
 
-ghost use Rattle.std.specs.Prelude.{◌≡◌, ◌+◌, ◌*◌, ◌/◌, ◌%◌, ◌<◌, ◌≤◌, ◌^◌, ◌↔◌, true, length, IfSome, IfNone, ℕ, ◌≢◌};
+ghost use Rattle.std.specs.Prelude.{◌≡◌, ◌+◌, ◌*◌, ◌/◌, ◌%◌, ◌<◌, ◌≤◌, ◌^◌, ◌↔◌, true, IfSome, IfNone};
 ghost use Rattle.std.specs.Bool.{OnTrue, OnFalse};
 ghost use Rattle.cyc_types.specs.Limits.{cyclics};
-ghost use Rattle.cyc_types.specs.Expirations.{is_before};
-ghost use Rattle.cyc_heap.specs.Array.{key, id_of, index_of, index_at};
+ghost use Rattle.cyc_types.specs.Series.{never};
+ghost use Rattle.cyc_heap.specs.Tournament.{id_of, index_of, comes};
 
 use cyc_types::{CYCLICS, CyclicId, Index, Moment};
 use std::marker::Model;
@@ -59,10 +59,13 @@ impl Word {
     }
 }
 
-/// An expiration and the index of its cyclic. Where the index is free, the expiration means nothing.
+/// The moment at which a free index has its turn: it comes after every moment.
+const FREE: u64 = u64::MAX;
+
+/// An expiration and the index of its cyclic. Where the index is free, its moment is after every other, and the id means nothing.
 #[derive(Clone, Copy)]
 pub(crate) struct Entry {
-    pub moment: Moment,
+    pub moment: u64,
     pub word: Word,
 }
 
@@ -70,13 +73,33 @@ impl Entry {
     /// The entry of a cyclic with this id and index.
     pub(crate) fn new(moment: Moment, id: CyclicId, index: Index) -> Entry
         ensures moment { result.moment ≡ moment }
+        ensures valid { result.moment ≤ never }
         ensures id { id_of result ≡ id }
         ensures index { index_of result ≡ index }
     {
         Entry {
-            moment,
+            moment: moment.nanoseconds(),
             word: Word::new(id, index),
         }
+    }
+
+    /// The entry of this index where it is free.
+    pub(crate) fn free(index: Index) -> Entry
+        ensures { never < result.moment }
+    {
+        Entry {
+            moment: FREE,
+            word: Word::new(CyclicId::LAST, index),
+        }
+    }
+
+    /// The moment of the expiration. None where the index is free.
+    pub(crate) fn moment(&self) -> Option<Moment>
+        ensures none { IfNone result (never < self.now.moment) }
+        ensures some { IfSome result (λ moment. (moment ≡ self.now.moment) × (moment ≤ never)) }
+    {
+        let nanoseconds = i64::try_from(self.moment).ok()?;
+        Moment::new(nanoseconds).ok()
     }
 
     /// The id of the cyclic.
@@ -98,29 +121,14 @@ impl Entry {
         ensures value { result ≡ self.now.moment * 2 ^ 64 + self.now.word }
         ensures word { self.now.word < 2 ^ 64 }
     {
-        u128::from(self.moment.nanoseconds()).wrapping_shl(64) | u128::from(self.word.bits())
+        u128::from(self.moment).wrapping_shl(64) | u128::from(self.word.bits())
     }
 
     /// Whether this entry expires before the other: at an earlier moment, or at the same one with a smaller id.
     pub(crate) fn expires_before(&self, other: &Entry) -> bool
-        ensures before { OnTrue result (is_before (key self.now) (key other.now) ≡ true) }
-        ensures after { OnFalse result (is_before (key other.now) (key self.now) ≡ true) }
+        ensures before { OnTrue result (comes self.now other.now ≡ true) }
+        ensures after { OnFalse result (comes other.now self.now ≡ true) }
     {
         self.number() < other.number()
     }
-}
-
-/// The first position at which an entry with this index stands, as `cyclic_remove_here` and `cyclic_reprogram_here` look an
-/// index up. None where there is none.
-pub(crate) fn position_of(entries: &[Entry], index: Index) -> Option<usize>
-    ensures none { IfNone result ((p : ℕ) → p < length entries.now → index_at entries.now p ≢ index) }
-    ensures some { IfSome result (λ p. (p < length entries.now) × (index_at entries.now p ≡ index)) }
-{
-    let number = index.number();
-    for position in 0..entries.len() {
-        if entries[position].index().number() == number {
-            return Some(position);
-        }
-    }
-    None
 }

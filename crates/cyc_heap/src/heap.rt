@@ -5,43 +5,49 @@ ghost use Rattle.std.specs.Prelude.{option_map, Some, None, IsSome, IfSome, IfNo
 ghost use Rattle.std.specs.Prelude.{vec_capacity};
 ghost use Rattle.cyc_types.specs.Limits.{cyclics};
 ghost use Rattle.cyc_types.specs.declared.refusal.Refusal.TheVariants.{Memory};
-ghost use Rattle.cyc_heap.specs.Array.{IsLinked, entry_at, index_of, index_positions, slots};
+ghost use Rattle.cyc_types.specs.Series.{never};
+ghost use Rattle.cyc_heap.specs.Tournament.{entry_at, slots, IsListed};
 ghost use Rattle.cyc_heap.specs.Heap.{HeapView, new_heap, size_of, len_of, expiration_at, with_moment, pair_of, IsEmpty, IsLeast};
 
-use crate::entry::{Entry, position_of};
-use crate::sift::fill;
+use crate::entry::Entry;
+use crate::games::{enter, play_all};
 use cyc_types::{CyclicId, Index, Moment, Refusal};
 use std::alloc::Global;
 use std::marker::Model;
 
 /// The expirations of one CPU's cyclics by their indexes, with the least at hand (`cyp_heap` of sys/cyclic_impl.h).
 /// The size is the number of indexes; of equal moments the smaller id expires first (our own rule).
+///
+/// It is a tournament in position of the kernel's heap (our own): a change of any expiration plays the games above its index again, at
+/// most eight.
 #[derive(Drop)]
 pub struct ExpiryHeap {
-    /// The heap, and after it an entry for each free index.
+    /// A leaf for each index, and after them the winner of each game.
     entries: Vec<Entry>,
-    /// The indexes in use.
-    len: usize,
+    /// The free indexes; the last is given first.
+    free: Vec<Index>,
+    /// The number of indexes.
+    size: usize,
     /// The size for which memory was taken.
     room: usize,
 }
 
 impl Model for ExpiryHeap {
-    ghost use Rattle.std.specs.Prelude.{◌≤◌, length, vec_capacity};
+    ghost use Rattle.std.specs.Prelude.{suc, ◌*◌, ◌≤◌, vec_capacity};
     ghost use Rattle.cyc_heap.specs.Heap.{HeapView};
-    ghost use Rattle.cyc_heap.specs.Array.{IsHeap, index_positions, slots, root_of};
+    ghost use Rattle.cyc_heap.specs.Tournament.{IsTournament, slots, root_of};
 
     ghost Value = { HeapView };
 
     ghost view = { λ h. record {
-      slots = slots h.len h.entries.items (index_positions h.entries.items);
+      slots = slots h.size h.entries.items;
       root =
-          root_of h.len h.entries.items;
+          root_of h.size h.entries.items;
       room = h.room;
     } };
 
-    ghost invariant = { λ h. IsHeap h.len h.entries.items (index_positions h.entries.items) × (h.room ≤ vec_capacity h.entries)
-        × (length h.entries.items ≤ h.room) };
+    ghost invariant = { λ h. IsTournament h.size h.entries.items h.free.items × (h.size ≤ h.room)
+        × (2 * h.room ≤ suc (vec_capacity h.entries)) × (h.room ≤ vec_capacity h.free) };
 }
 
 impl ExpiryHeap {
@@ -51,10 +57,13 @@ impl ExpiryHeap {
         ensures err { IfErr result (λ refusal. refusal ≡ Memory) }
     {
         let mut entries = Vec::with_capacity(alloc, 1)?;
-        add_free(&mut entries, 1);
+        let mut free = Vec::with_capacity(alloc, 1)?;
+        add_free(&mut entries, &mut free, 1);
+        play_all(&mut entries);
         Ok(ExpiryHeap {
             entries,
-            len: 0,
+            free,
+            size: 1,
             room: 1,
         })
     }
@@ -68,8 +77,10 @@ impl ExpiryHeap {
         ensures refused { OnErr result (self.old.room < size) }
     {
         if size > self.room {
-            let more = size - self.entries.len();
-            self.entries.reserve(more)?;
+            // no allocation can give as much as overflows here
+            let all = size.checked_mul(2).ok_or(Refusal::Memory)?;
+            self.entries.reserve(all - self.entries.len())?;
+            self.free.reserve(size - self.free.len())?;
             self.room = size;
         }
         Ok(())
@@ -83,7 +94,12 @@ impl ExpiryHeap {
         ensures root { self.new.root ≡ self.old.root }
         ensures room { self.new.room ≡ self.old.room }
     {
-        add_free(&mut self.entries, size);
+        if size > self.size {
+            self.entries.truncate(self.size);
+            add_free(&mut self.entries, &mut self.free, size);
+            play_all(&mut self.entries);
+            self.size = size;
+        }
     }
 
     /// Puts in an expiration, and gives the index that it has from now on: one that was free. Takes no memory.
@@ -94,12 +110,12 @@ impl ExpiryHeap {
         ensures slots { self.new.slots ≡ slice_set self.old.slots result (Some (record { moment = moment; id = id })) }
         ensures room { self.new.room ≡ self.old.room }
     {
-        let hole = self.len;
-        let index = self.entries[hole].index();
-        let len = hole + 1;
-        self.len = len;
+        let Some(index) = self.free.pop() else {
+            unreachable!()
+        };
+        let position = usize::from(index.number());
         let entry = Entry::new(moment, id, index);
-        fill(&mut self.entries, len, hole, entry);
+        enter(&mut self.entries, self.size, position, entry);
         index
     }
 
@@ -110,11 +126,9 @@ impl ExpiryHeap {
         ensures root { self.now.root ≡ option_map (λ found. found.0) result }
         ensures least { IfSome result (λ found. IsLeast self.now found.0 (record { moment = found.1; id = found.2 })) }
     {
-        if self.len == 0 {
-            return None;
-        }
-        let entry = self.entries[0];
-        Some((entry.index(), entry.moment, entry.id()))
+        let first = self.entries[2 * (self.size - 1)];
+        let moment = first.moment()?;
+        Some((first.index(), moment, first.id()))
     }
 
     /// Gives the least expiration another moment (`cyclic_downheap` in `cyclic_fire`).
@@ -123,8 +137,8 @@ impl ExpiryHeap {
         ensures slots { IfSome self.old.root (λ index. self.new.slots ≡ with_moment self.old.slots index moment) }
         ensures room { self.new.room ≡ self.old.room }
     {
-        let word = self.entries[0].word;
-        fill(&mut self.entries, self.len, 0, Entry { moment, word });
+        let root = self.entries[2 * (self.size - 1)].index();
+        self.set_moment(root, moment);
     }
 
     /// Gives the expiration of this index another moment, earlier or later (`cyclic_reprogram_cyclic`).
@@ -133,9 +147,21 @@ impl ExpiryHeap {
         ensures slots { self.new.slots ≡ with_moment self.old.slots index moment }
         ensures room { self.new.room ≡ self.old.room }
     {
-        let hole = position_of(&self.entries, index).unwrap();
-        let word = self.entries[hole].word;
-        fill(&mut self.entries, self.len, hole, Entry { moment, word });
+        self.set_moment(index, moment);
+    }
+
+    /// The expiration of this index has this moment from now on.
+    fn set_moment(&mut self, index: Index, moment: Moment)
+        requires { IsSome (expiration_at self.old index) }
+        ensures slots { self.new.slots ≡ with_moment self.old.slots index moment }
+        ensures room { self.new.room ≡ self.old.room }
+    {
+        let position = usize::from(index.number());
+        let entry = Entry {
+            moment: moment.nanoseconds(),
+            word: self.entries[position].word,
+        };
+        enter(&mut self.entries, self.size, position, entry);
     }
 
     /// Takes out the expiration of this index, which is free from now on (`cyclic_remove_here`).
@@ -144,29 +170,22 @@ impl ExpiryHeap {
         ensures slots { self.new.slots ≡ slice_set self.old.slots index None }
         ensures room { self.new.room ≡ self.old.room }
     {
-        let hole = position_of(&self.entries, index).unwrap();
-        let last = self.len - 1;
-        let removed = self.entries[hole];
-        let moved = self.entries[last];
-        self.len = last;
-        self.entries[last] = removed;
-        self.entries[hole] = moved;
-        if hole < last {
-            let entry = self.entries[hole];
-            fill(&mut self.entries, last, hole, entry);
-        }
+        let position = usize::from(index.number());
+        enter(&mut self.entries, self.size, position, Entry::free(index));
+        self.free.push_reserved(index);
     }
 
     /// The expiration of this index. None where the index is free or not below the size.
     pub fn at(&self, index: Index) -> Option<(Moment, CyclicId)>
         ensures { result ≡ option_map pair_of (expiration_at self.now index) }
     {
-        let position = position_of(&self.entries, index)?;
-        if position >= self.len {
+        let position = usize::from(index.number());
+        if position >= self.size {
             return None;
         }
         let entry = &self.entries[position];
-        Some((entry.moment, entry.id()))
+        let moment = entry.moment()?;
+        Some((moment, entry.id()))
     }
 
     /// How many indexes are in use.
@@ -174,7 +193,7 @@ impl ExpiryHeap {
         ensures value { result ≡ len_of self.now }
         ensures few { result ≤ size_of self.now }
     {
-        self.len
+        self.size - self.free.len()
     }
 
     /// The number of indexes, those in use and those that are free.
@@ -183,32 +202,37 @@ impl ExpiryHeap {
         ensures few { result ≤ cyclics }
         ensures reserved { result ≤ self.now.room }
     {
-        self.entries.len()
+        self.size
     }
 }
 
-/// Adds an entry for each free index up to this size, the smallest first.
-fn add_free(entries: &mut Vec<Entry>, size: usize)
+/// Adds a leaf for each free index up to this size. The smallest of them is given first, once those that were free before are used.
+fn add_free(entries: &mut Vec<Entry>, free: &mut Vec<Index>, size: usize)
     requires few { size ≤ cyclics }
-    requires entries { size ≤ vec_capacity entries.old }
-    requires linked { IsLinked entries.old.items (index_positions entries.old.items) }
-    ensures linked { IsLinked entries.new.items (index_positions entries.new.items) }
-    ensures length { length entries.new.items ≡ max (length entries.old.items) size }
-    ensures slots { (len : ℕ) → len ≤ length entries.old.items → slots len entries.new.items (index_positions entries.new.items)
-        ≡ slots len entries.old.items (index_positions entries.old.items) ++ replicate (size - length entries.old.items) None }
-    ensures kept { (p : ℕ) → p < length entries.old.items → entry_at entries.new.items p ≡ entry_at entries.old.items p }
-    ensures entries { vec_capacity entries.old ≤ vec_capacity entries.new }
+    requires more { length entries.old.items ≤ size }
+    requires room { size ≤ vec_capacity entries.old }
+    requires free { size ≤ vec_capacity free.old }
+    requires listed { IsListed (length entries.old.items) entries.old.items free.old.items }
+    ensures listed { IsListed size entries.new.items free.new.items }
+    ensures long { length entries.new.items ≡ size }
+    ensures kept { (i : ℕ) → i < length entries.old.items → entry_at entries.new.items i ≡ entry_at entries.old.items i }
+    ensures unused { (i : ℕ) → length entries.old.items ≤ i → i < size → never < (entry_at entries.new.items i).moment }
+    ensures slots { slots size entries.new.items
+        ≡ slots (length entries.old.items) entries.old.items ++ replicate (size - length entries.old.items) None }
+    ensures room { vec_capacity entries.old ≤ vec_capacity entries.new }
+    ensures free { vec_capacity free.old ≤ vec_capacity free.new }
 {
     for number in entries.len()..size {
-        entries.push(free_entry(number)).unwrap();
+        let index = index_of(number);
+        entries.push_reserved(Entry::free(index));
+        free.insert(0, index).unwrap();
     }
 }
 
-/// The entry of a free index.
-fn free_entry(number: usize) -> Entry
+/// The index of this number.
+fn index_of(number: usize) -> Index
     requires { number < cyclics }
-    ensures { index_of result ≡ number }
+    ensures { result ≡ number }
 {
-    let index = Index::new(number as u16).unwrap();
-    Entry::new(Moment::NEVER, CyclicId::LAST, index)
+    Index::new(number as u16).unwrap()
 }

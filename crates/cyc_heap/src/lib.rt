@@ -1,9 +1,9 @@
-//! The expirations of one CPU's cyclics in an array heap: the least expiration is at hand, and each is found by its
+//! The expirations of one CPU's cyclics in a tournament: the least expiration is at hand, and each is found by its
 //! cyclic's index.
 #![tactic(auto)]
 
 mod entry;
+mod games;
 mod heap;
-mod sift;
 
 pub use heap::ExpiryHeap;

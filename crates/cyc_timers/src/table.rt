@@ -33,8 +33,7 @@ pub struct Record {
 /// The cyclics of a CPU: the expirations in a heap, the records by index, and the indexes by rising id (`cyp_heap` and
 /// `cyp_cyclics` of sys/cyclic_impl.h; the order by id is our own).
 ///
-/// A look-up by id takes O(log n), and so does an expiration. Putting in and taking out move the ids above, and the heap looks an
-/// index up by a walk.
+/// A look-up by id takes O(log n), and so does an expiration. Putting in and taking out move the ids above.
 #[derive(Drop)]
 pub struct Table {
     heap: ExpiryHeap,
@@ -165,7 +164,7 @@ impl Table {
         self.entries[position].id
     }
 
-    /// The next expiration of the cyclic at this position of `find` (`cy_expire`). O(n).
+    /// The next expiration of the cyclic at this position of `find` (`cy_expire`). O(1).
     pub fn moment_at(&self, position: usize) -> Moment
         requires { position < length self.now.rows }
         ensures { (r : Row) → IsRow self.now.rows position r → result ≡ r.timer.moment }
@@ -186,7 +185,7 @@ impl Table {
     }
 
     /// Gives the cyclic at this position of `find` another next expiration, earlier or later (`cyclic_reprogram_cyclic`).
-    /// O(n), and takes no memory.
+    /// O(log n), and takes no memory.
     pub fn reprogram(&mut self, position: usize, moment: Moment)
         requires here { position < length self.old.rows }
         requires moment { moment ≤ never }

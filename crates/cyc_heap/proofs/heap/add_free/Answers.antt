@@ -1,40 +1,47 @@
-use Rattle.std.proofs.Common.{◌≡◌, ◌+◌, List, [], ◌∷◌, ◌++◌, length, Option, None, is_ok, sym, ap, ◌∙◌, subst, arith}
-use Rattle.std.proofs.lemmas.Bool.{cond-true}
-use Rattle.std.proofs.lemmas.List.{length_push, get_or_append_left}
+use Rattle.std.proofs.Common.{◌+◌, inl, inr, List, [], ◌∷◌, ◌++◌, length, None, Option, is_ok, sym, ap, ◌∙◌, subst₂, arith}
+use Rattle.std.proofs.lemmas.Bool.{cases_lt, cond-true}
+use Rattle.std.proofs.lemmas.List.{length_push, get_or_push, get_or_append_left}
 use Rattle.cyc_types.specs.Expirations.{Expiration}
 use Rattle.cyc_heap.specs.declared.entry.Entry.{Entry}
-use Rattle.cyc_heap.specs.Array.{nowhere, IsLinked, entry_at, index_of, index_positions, slots}
-use Rattle.cyc_heap.proofs.Places.{places_are, placed}
-use Rattle.cyc_heap.proofs.Widening.{pushed_linked, pushed_slots, free_more}
+use Rattle.cyc_heap.specs.Tournament.{nowhere, entry_at, slots, IsListed}
+use Rattle.cyc_heap.proofs.Growing.{grown, grown_slots, free_more}
 use Rattle.cyc_heap.proofs.heap.add_free.Goals as goal
 
 pub loop-number-preserved : goal.loop-number-preserved
 loop-number-preserved c =
     let h = c.loop-number.invariant in
     let n = c.loop-number.number in
-    let es = c.loop-number.entries.items in
-    let ps = index_positions es in
-    let x = c.free_entry.result in
+    let xs = c.loop-number.entries.items in
+    let fs = c.loop-number.free.items in
+    let e = c.free.result in
     let test = c.loop-number-test.true in
     let least = h.least in
-    let index : index_of x ≡ n = c.free_entry.ensures in
-    let new_es = c.push.ensures.items ∙ cond-true _ (es ++ x ∷ []) es (ap is_ok c.unwrap.ensures) in
-    let linked = pushed_linked es ps n x h.long index h.linked in
-    let more = c.push.ensures.capacity in
-    let was = h.entries in
+    let push = c.push_reserved.ensures in
+    let i = c.index_of-index.ensures in
+    let new_fs = c.insert.ensures.items ∙ cond-true _ (c.index_of-index.result ∷ fs) fs (ap is_ok c.unwrap.ensures)
+    ∙ ap (λ k. k ∷ fs) i in
+    let room = h.room in
+    let more = push.capacity in
+    let free = h.free in
+    let freed = c.insert.ensures.capacity in
     record {
-      long = ap length new_es ∙ length_push es x ∙ ap (λ k. k + 1) h.long;
+      long = ap length push.items ∙ length_push xs e ∙ ap (λ k. k + 1) h.long;
       least = omega (arith, least);
       most = omega (arith, test);
-      linked = subst (λ (es : List Entry). IsLinked es (index_positions es)) (sym new_es)
-          (placed (es ++ x ∷ []) (ps ++ n ∷ []) linked);
-      slots = λ len low. ap (λ (es : List Entry). slots len es (index_positions es)) new_es
-          ∙ ap (slots len (es ++ x ∷ [])) (places_are (es ++ x ∷ []) (ps ++ n ∷ []) linked)
-          ∙ pushed_slots es ps n x h.long index h.linked len (omega (arith, low, least))
-          ∙ ap (λ (os : List (Option Expiration)). os ++ None ∷ []) (h.slots len low)
-          ∙ free_more (slots len c.args.entries.now.items (index_positions c.args.entries.now.items))
-          (length c.args.entries.now.items) n least;
-      kept = λ p low. ap (λ (es : List Entry). entry_at es p) new_es
-          ∙ get_or_append_left es (x ∷ []) nowhere p (let long = h.long in omega (arith, low, least, long)) ∙ h.kept p low;
-      entries = omega (arith, more, was);
+      listed = subst₂ (λ es fs. IsListed (n + 1) es fs) (sym push.items) (sym new_fs) (grown n xs fs e h.long c.free.ensures h.listed);
+      kept = λ i low. ap (λ es. entry_at es i) push.items
+          ∙ get_or_append_left xs (e ∷ []) nowhere i (let long = h.long in omega (arith, low, least, long)) ∙ h.kept i low;
+      unused = λ i after low. elim (cases_lt i n) [
+        | inl before ↦ (let m = ap (λ (e : Entry). e.moment) (ap (λ es. entry_at es i) push.items
+            ∙ get_or_append_left xs (e ∷ []) nowhere i (let long = h.long in omega (arith, before, long))) in
+            let was = h.unused i after before in omega (arith, m, was))
+        | inr new ↦ (let m = ap (λ (e : Entry). e.moment) (ap (λ es. entry_at es i) push.items
+            ∙ get_or_push xs e nowhere i (let long = h.long in omega (arith, new, low, long))) in
+            let unused = c.free.ensures in omega (arith, m, unused))
+      ];
+      slots = ap (slots (n + 1)) push.items ∙ grown_slots n xs fs e h.long c.free.ensures
+          ∙ ap (λ (os : List (Option Expiration)). os ++ None ∷ []) h.slots
+          ∙ free_more (slots (length c.args.entries.now.items) c.args.entries.now.items) (length c.args.entries.now.items) n least;
+      room = omega (arith, room, more);
+      free = omega (arith, free, freed);
     }

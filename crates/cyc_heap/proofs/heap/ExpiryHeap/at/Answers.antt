@@ -1,42 +1,51 @@
-use Rattle.std.proofs.Common.{◌≡◌, ◌≢◌, ℕ, ◌<◌, List, None, Some, sym, ap, ◌∙◌, subst, length, arith}
-use Rattle.std.specs.Option.{option_map}
+use Rattle.std.proofs.Common.{sym, ap, ◌∙◌, option_map, Some, arith}
 use Rattle.std.proofs.lemmas.List.{get_or_default}
-use Rattle.cyc_types.specs.Expirations.{Expiration}
 use Rattle.cyc_heap.specs.declared.entry.Entry.{Entry}
-use Rattle.cyc_heap.specs.Array.{nowhere, key, key_at, id_of, index_at, index_positions}
-use Rattle.cyc_heap.specs.Heap.{HeapView, expiration_at, pair_of}
-use Rattle.cyc_heap.proofs.Views.{walk_none, walk_free, walk_used}
+use Rattle.cyc_heap.specs.Tournament.{nowhere, id_of}
+use Rattle.cyc_heap.specs.Heap.{pair_of, expiration_at}
+use Rattle.cyc_heap.proofs.Views.{within, at_past, at_used, at_free}
 use Rattle.cyc_heap.proofs.heap.ExpiryHeap.at.Goals as goal
-
-pub returns-in_err-position : goal.returns-in_err-position
-returns-in_err-position c =
-    let i = c.self.inside in
-    let none = subst (λ (es : List Entry). (p : ℕ) → p < length es → index_at es p ≢ c.args.index) c.deref.ensures.value
-    c.in_err-position.ensures.none in
-    c.from_residual.ensures ∙ ap (option_map pair_of)
-    (sym (subst (λ (v : HeapView). expiration_at v c.args.index ≡ None) c.self.view_is
-    (walk_none i.len i.entries.items (index_positions i.entries.items) i.room c.args.index c.self.invariant.0 none)))
 
 pub returns-then-position-self : goal.returns-then-position-self
 returns-then-position-self c =
     let i = c.self.inside in
-    let p = c.in_ok-position.position in
-    let (within, here) = subst (λ (es : List Entry). (p < length es) × (index_at es p ≡ c.args.index)) c.deref.ensures.value
-    c.in_ok-position.ensures.some in
-    ap (option_map pair_of) (sym (subst (λ (v : HeapView). expiration_at v c.args.index ≡ None) c.self.view_is
-    (walk_free i.len i.entries.items (index_positions i.entries.items) i.room c.args.index p c.self.invariant.0 within here
-    c.if-position-self.true)))
+    let past = c.if-position-self.true in
+    let n = c.number.ensures.value in
+    let m = c.from-position.ensures in
+    sym (ap (option_map pair_of) (at_past i.size i.entries.items i.free.items i.room c.args.self.now c.self.invariant.0
+    c.self.view_is c.args.index (omega (arith, past, n, m))))
+
+pub returns-in_err-moment : goal.returns-in_err-moment
+returns-in_err-moment c =
+    let i = c.self.inside in
+    let h = c.self.invariant.0 in
+    let n = c.number.ensures.value in
+    let m = c.from-position.ensures in
+    let low = c.if-position-self.false in
+    let inside = within i.size i.entries.items i.free.items i.room c.args.self.now h c.self.view_is in
+    let x = c.index-entry.result.now in
+    let is = get_or_default i.entries.items c.from-position.result nowhere x (omega (arith, low, inside)) ∙ sym c.index-entry.ensures in
+    let moment = ap (λ (e : Entry). e.moment) is in
+    let unused = c.in_err-moment.ensures.none in
+    let gone = at_free i.size i.entries.items i.free.items i.room c.args.self.now h c.self.view_is c.from-position.result
+    (omega (arith, low)) (omega (arith, moment, unused)) in
+    c.from_residual.ensures ∙ sym (ap (λ n. option_map pair_of (expiration_at c.args.self.now n)) (sym (m ∙ n))
+    ∙ ap (option_map pair_of) gone)
 
 pub returns : goal.returns
 returns c =
     let i = c.self.inside in
-    let p = c.in_ok-position.position in
-    let (within, here) = subst (λ (es : List Entry). (p < length es) × (index_at es p ≡ c.args.index)) c.deref.ensures.value
-    c.in_ok-position.ensures.some in
+    let h = c.self.invariant.0 in
+    let n = c.number.ensures.value in
+    let m = c.from-position.ensures in
+    let low = c.if-position-self.false in
+    let inside = within i.size i.entries.items i.free.items i.room c.args.self.now h c.self.view_is in
     let x = c.index-entry.result.now in
-    let is = get_or_default i.entries.items p nowhere x within ∙ sym c.index-entry.ensures in
-    let has = walk_used i.len i.entries.items
-    (index_positions i.entries.items) i.room c.args.index p c.self.invariant.0 within here
-    c.if-position-self.false ∙ ap (λ (x : Entry). Some (key x)) is in
-    ap (λ n. Some (x.moment, n)) c.id.ensures
-    ∙ ap (option_map pair_of) (sym (subst (λ (v : HeapView). expiration_at v c.args.index ≡ Some (key x)) c.self.view_is has))
+    let is = get_or_default i.entries.items c.from-position.result nowhere x (omega (arith, low, inside)) ∙ sym c.index-entry.ensures in
+    let moment = ap (λ (e : Entry). e.moment) is in
+    let (same, used) = c.in_ok-moment.ensures.some in
+    let has = at_used i.size i.entries.items i.free.items i.room c.args.self.now h c.self.view_is c.from-position.result
+    (omega (arith, low)) (omega (arith, moment, same, used)) in
+    ap (λ k. Some (k, c.id.result)) same ∙ ap (λ k. Some (x.moment, k)) c.id.ensures
+    ∙ sym (ap (λ n. option_map pair_of (expiration_at c.args.self.now n)) (sym (m ∙ n))
+    ∙ ap (option_map pair_of) has ∙ ap (λ (e : Entry). Some (e.moment, id_of e)) is)

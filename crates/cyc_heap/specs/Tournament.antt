@@ -1,0 +1,80 @@
+-- A tournament among the expirations of all indexes (Knuth, The Art of Computer Programming, volume 3, 5.4.1): first a leaf for each
+-- index, then the winner of each game. The entries 2g and 2g + 1 play the game g, and its winner is the entry g after the leaves.
+use Rattle.std.specs.Prelude.{◌≡◌, ◌≢◌, ℕ, suc, ◌+◌, ◌-◌, ◌*◌, ◌/◌, ◌%◌, ◌<◌, ◌≤◌, ◌⊎◌, ◌==◌, ◌&&◌, ◌||◌, Bool, true, nat_lt, nat_le, List, length, take}
+use Rattle.std.specs.Prelude.{map, count_by, slice_index_or, Option, Some, None, is_some, if◌then◌else◌}
+use Rattle.cyc_types.specs.Limits.{cyclics}
+use Rattle.cyc_types.specs.Series.{never}
+use Rattle.cyc_types.specs.Expirations.{Expiration}
+use Rattle.cyc_heap.specs.declared.entry.Entry.{Entry}
+
+-- what is read past the end
+abbrev pub nowhere : Entry
+nowhere = record { moment = 0; word = 0 }
+
+-- the id and the index of an entry's cyclic, which stand in one word, the id in the high bits
+abbrev pub id_of : Entry → ℕ
+id_of e = e.word / cyclics
+
+abbrev pub index_of : Entry → ℕ
+index_of e = e.word % cyclics
+
+abbrev pub key : Entry → Expiration
+key e = record { moment = e.moment; id = id_of e }
+
+abbrev pub entry_at : List Entry → ℕ → Entry
+entry_at entries p = slice_index_or entries p nowhere
+
+-- what a leaf has: an expiration where it has a moment, and else its index is free
+abbrev pub slot : Entry → Option Expiration
+slot e = (if nat_lt never e.moment then None else Some (key e))
+
+-- what each index has
+unfoldable pub slots : ℕ → List Entry → List (Option Expiration)
+slots size entries = map slot (take size entries)
+
+-- the position of the winner of all games
+abbrev pub last_position : ℕ → ℕ
+last_position size = 2 * (size - 1)
+
+-- its index, none where all indexes are free
+abbrev pub root_of : ℕ → List Entry → Option ℕ
+root_of size entries = (if nat_lt never (entry_at entries (last_position size)).moment then None
+    else Some (index_of (entry_at entries (last_position size))))
+
+-- a comes no later than b: it has the earlier moment, or the same one and no greater id; of one id the smaller index comes first
+abbrev pub comes : Entry → Entry → Bool
+comes a b = nat_lt a.moment b.moment || ((a.moment == b.moment) && nat_le a.word b.word)
+
+-- one of two entries, which comes no later than either
+pub record IsWinner (won a b : Entry) : Type 0 where
+  pub one : (won ≡ a) ⊎ (won ≡ b)
+  pub left : comes won a ≡ true
+  pub right : comes won b ≡ true
+
+-- the winner of this game stands where it should
+abbrev pub IsPlayedAt : ℕ → ℕ → List Entry → Type 0
+IsPlayedAt g size entries =
+    IsWinner (entry_at entries (size + g)) (entry_at entries (2 * g)) (entry_at entries (2 * g + 1))
+
+-- all games are played
+abbrev pub IsPlayed : ℕ → List Entry → Type 0
+IsPlayed size entries = (g : ℕ) → suc g < size → IsPlayedAt g size entries
+
+-- the same, but for this game
+abbrev pub IsPlayedBut : ℕ → ℕ → List Entry → Type 0
+IsPlayedBut left_out size entries = (g : ℕ) → suc g < size → g ≢ left_out → IsPlayedAt g size entries
+
+-- a leaf that is not free has its own index, and the free indexes are these, each once
+pub record IsListed (size : ℕ) (entries : List Entry) (free : List ℕ) : Type 0 where
+  pub own : (i : ℕ) → i < size → (entry_at entries i).moment ≤ never → index_of (entry_at entries i) ≡ i
+  pub low : (p : ℕ) → p < length free → slice_index_or free p 0 < size
+  pub none : (p : ℕ) → p < length free → never < (entry_at entries (slice_index_or free p 0)).moment
+  pub apart : (p q : ℕ) → p < q → q < length free → slice_index_or free p 0 ≢ slice_index_or free q 0
+  pub count : count_by is_some (slots size entries) + length free ≡ size
+
+pub record IsTournament (size : ℕ) (entries : List Entry) (free : List ℕ) : Type 0 where
+  pub some : 0 < size
+  pub few : size ≤ cyclics
+  pub long : suc (length entries) ≡ 2 * size
+  pub played : IsPlayed size entries
+  pub listed : IsListed size entries free

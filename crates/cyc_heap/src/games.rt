@@ -1,0 +1,133 @@
+//! The games of the tournament: which entry wins one, and how they are played.
+
+ghost use Rattle.std.specs.Prelude.{◌≡◌, ◌≢◌, ℕ, ◌+◌, ◌*◌, ◌/◌, ◌<◌, ◌≤◌, length, vec_capacity};
+ghost use Rattle.cyc_types.specs.Limits.{cyclics};
+ghost use Rattle.cyc_heap.specs.Tournament.{entry_at, IsWinner, IsPlayed, IsPlayedBut};
+
+use crate::entry::Entry;
+
+/// The one of two entries that expires first.
+#[inline(always)]
+fn winner(first: Entry, second: Entry) -> Entry
+    ensures { IsWinner result first second }
+{
+    if second.expires_before(&first) {
+        second
+    } else {
+        first
+    }
+}
+
+/// Plays the game of the entry at this position again, which is not the last winner. The answer is where its winner stands.
+#[inline(always)]
+fn play(entries: &mut [Entry], size: usize, position: usize) -> usize
+    requires few { size ≤ cyclics }
+    requires long { length entries.old + 1 ≡ 2 * size }
+    requires position { position + 2 < 2 * size }
+    requires played { IsPlayedBut (position / 2) size entries.old }
+    ensures position { result ≡ size + position / 2 }
+    ensures long { length entries.new ≡ length entries.old }
+    ensures leaves { (i : ℕ) → i < size → entry_at entries.new i ≡ entry_at entries.old i }
+    ensures played { IsPlayedBut (result / 2) size entries.new }
+{
+    let game = position / 2;
+    let won = size + game;
+    entries[won] = winner(entries[position], entries[4 * game + 1 - position]);
+    won
+}
+
+/// Plays the last games from this position on, at most four.
+#[inline(always)]
+fn finish(entries: &mut [Entry], size: usize, position: usize)
+    requires few { size ≤ cyclics }
+    requires long { length entries.old + 1 ≡ 2 * size }
+    requires position { position + 1 < 2 * size }
+    requires near { 2 * size ≤ position + 32 }
+    requires played { IsPlayedBut (position / 2) size entries.old }
+    ensures long { length entries.new ≡ length entries.old }
+    ensures leaves { (i : ℕ) → i < size → entry_at entries.new i ≡ entry_at entries.old i }
+    ensures played { IsPlayed size entries.new }
+{
+    let last = 2 * size - 2;
+    if position == last {
+        return;
+    }
+    let position = play(entries, size, position);
+    if position == last {
+        return;
+    }
+    let position = play(entries, size, position);
+    if position == last {
+        return;
+    }
+    let position = play(entries, size, position);
+    if position == last {
+        return;
+    }
+    play(entries, size, position);
+}
+
+/// Puts an entry into the leaf of an index, and plays the games above it again: at most eight. There is no loop, so that each winner
+/// is chosen with no branch.
+#[inline(never)]
+fn replay(entries: &mut [Entry], size: usize, index: usize, entry: Entry)
+    requires few { size ≤ cyclics }
+    requires long { length entries.old + 1 ≡ 2 * size }
+    requires index { index < size }
+    requires played { IsPlayed size entries.old }
+    ensures long { length entries.new ≡ length entries.old }
+    ensures here { entry_at entries.new index ≡ entry }
+    ensures others { (i : ℕ) → i < size → i ≢ index → entry_at entries.new i ≡ entry_at entries.old i }
+    ensures played { IsPlayed size entries.new }
+{
+    let last = 2 * size - 2;
+    entries[index] = entry;
+    if index == last {
+        return;
+    }
+    let position = play(entries, size, index);
+    if position == last {
+        return;
+    }
+    let position = play(entries, size, position);
+    if position == last {
+        return;
+    }
+    let position = play(entries, size, position);
+    if position == last {
+        return;
+    }
+    let position = play(entries, size, position);
+    finish(entries, size, position);
+}
+
+/// Puts an entry into the leaf of an index, and plays the games above it again.
+pub(crate) fn enter(entries: &mut Vec<Entry>, size: usize, index: usize, entry: Entry)
+    requires few { size ≤ cyclics }
+    requires long { length entries.old.items + 1 ≡ 2 * size }
+    requires index { index < size }
+    requires played { IsPlayed size entries.old.items }
+    ensures long { length entries.new.items ≡ length entries.old.items }
+    ensures here { entry_at entries.new.items index ≡ entry }
+    ensures others { (i : ℕ) → i < size → i ≢ index → entry_at entries.new.items i ≡ entry_at entries.old.items i }
+    ensures played { IsPlayed size entries.new.items }
+    ensures room { vec_capacity entries.new ≡ vec_capacity entries.old }
+{
+    replay(entries.as_mut_slice(), size, index, entry);
+}
+
+/// Plays all games among the leaves: their winners come after them.
+pub(crate) fn play_all(entries: &mut Vec<Entry>)
+    requires some { 0 < length entries.old.items }
+    requires few { length entries.old.items ≤ cyclics }
+    requires room { 2 * length entries.old.items ≤ vec_capacity entries.old + 1 }
+    ensures long { length entries.new.items + 1 ≡ 2 * length entries.old.items }
+    ensures leaves { (i : ℕ) → i < length entries.old.items → entry_at entries.new.items i ≡ entry_at entries.old.items i }
+    ensures played { IsPlayed (length entries.old.items) entries.new.items }
+    ensures room { vec_capacity entries.new ≡ vec_capacity entries.old }
+{
+    for game in 0..entries.len() - 1 {
+        let won = winner(entries[2 * game], entries[2 * game + 1]);
+        entries.push_reserved(won);
+    }
+}
