@@ -26,6 +26,7 @@ pub mod Removed
 pub mod Agreeing
 pub mod Where
 pub mod Telling
+pub mod Alone
 pub mod Asking
 pub mod Folds
 pub mod Others

@@ -22,6 +22,7 @@ mod refusing;
 mod removal_laws;
 mod removing;
 mod removing_at;
+mod removing_on;
 mod reserving;
 mod retiring;
 mod returning;

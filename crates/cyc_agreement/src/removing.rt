@@ -16,7 +16,8 @@ ghost use Rattle.cyc_agreement.specs.Withdrawing.{system, Owns, Withdraws};
 use crate::cpus::Cpus;
 use crate::finding::{is_leaving, is_leaving_at};
 use crate::removing_at::{begin_at, poll_at};
-use cyc_places::Records;
+use crate::removing_on::{begin_on, poll_on};
+use cyc_places::{Placement, Records};
 use cyc_types::{CyclicId, Raise, Receipt, Refusal};
 
 /// What the beginning of a removal found on all CPUs.
@@ -86,7 +87,7 @@ fn poll_each<R: Raise>(cpus: &mut Cpus<R>, records: &mut Records, place: usize, 
 }
 
 /// The receipt of a cyclic that no CPU has any more. Its record goes.
-fn close(records: &mut Records, place: usize) -> Receipt
+pub(crate) fn close(records: &mut Records, place: usize) -> Receipt
     requires { place < length records.old.list }
     ensures receipt { (r : Record) → IsRecord records.old.list place r → IsReceiptOf result r }
     ensures records { records.new.list ≡ remove records.old.list place }
@@ -94,6 +95,57 @@ fn close(records: &mut Records, place: usize) -> Receipt
     let receipt = records.receipt(place);
     records.remove(place);
     receipt
+}
+
+/// The removal of an omnipresent cyclic begins.
+fn begin_omni<R: Raise>(
+    cpus: &mut Cpus<R>,
+    records: &mut Records,
+    place: usize,
+    id: CyclicId,
+) -> Result<SystemRemoval, Refusal>
+    requires holds { (last : ℕ) × Holds (system cpus.old records.old.list last) }
+    requires own { (r : Record) × IsRecord records.old.list place r × (r.id ≡ id) }
+    ensures did { (last : ℕ) → BeginsRemoval R.Raise id result (system cpus.old records.old.list last)
+        (system cpus.new records.new.list last) }
+    ensures holds { (last : ℕ) → Holds (system cpus.old records.old.list last) → Holds (system cpus.new records.new.list last) }
+{
+    records.law();
+    if let Some(removed) = open_removal(cpus, id) {
+        return Err(Refusal::Busy(removed));
+    }
+    let kept = begin_each(cpus, records, place, id);
+    cpus.law();
+    if is_leaving(cpus, id) {
+        return Ok(SystemRemoval::Kept(kept));
+    }
+    Ok(SystemRemoval::Done(close(records, place)))
+}
+
+/// The open removal of an omnipresent cyclic is polled.
+fn poll_omni<R: Raise>(
+    cpus: &mut Cpus<R>,
+    records: &mut Records,
+    place: usize,
+    id: CyclicId,
+) -> Result<Option<Receipt>, Refusal>
+    requires holds { (last : ℕ) × Holds (system cpus.old records.old.list last) }
+    requires own { (r : Record) × IsRecord records.old.list place r × (r.id ≡ id) }
+    ensures did { (last : ℕ) → PollsRemoval R.Raise id result (system cpus.old records.old.list last)
+        (system cpus.new records.new.list last) }
+    ensures holds { (last : ℕ) → Holds (system cpus.old records.old.list last) → Holds (system cpus.new records.new.list last) }
+{
+    records.law();
+    cpus.law();
+    if !is_leaving(cpus, id) {
+        return Err(Refusal::NoCyclic);
+    }
+    poll_each(cpus, records, place, id);
+    cpus.law();
+    if is_leaving(cpus, id) {
+        return Ok(None);
+    }
+    Ok(Some(close(records, place)))
 }
 
 /// Begins the removal of a cyclic on every CPU that has it (`cyclic_remove`): from now on it never expires. It is done at once
@@ -112,19 +164,13 @@ pub fn begin_remove<R: Raise>(
         (system cpus.new records.new.list last) }
     ensures holds { (last : ℕ) → Holds (system cpus.old records.old.list last) → Holds (system cpus.new records.new.list last) }
 {
-    records.law();
     let Some(place) = records.find(id) else {
         return Err(Refusal::NoCyclic);
     };
-    if let Some(removed) = open_removal(cpus, id) {
-        return Err(Refusal::Busy(removed));
+    match records.at(place).place {
+        Placement::On { cpu, bound: _ } => begin_on(cpus, records, place, id, cpu),
+        Placement::Everywhere { when: _, skew: _ } => begin_omni(cpus, records, place, id),
     }
-    let kept = begin_each(cpus, records, place, id);
-    cpus.law();
-    if is_leaving(cpus, id) {
-        return Ok(SystemRemoval::Kept(kept));
-    }
-    Ok(SystemRemoval::Done(close(records, place)))
 }
 
 /// Asks every CPU on which the removal of the cyclic is open whether the calls that it kept are made. Where they are, the
@@ -142,18 +188,12 @@ pub fn poll_remove<R: Raise>(
         (system cpus.new records.new.list last) }
     ensures holds { (last : ℕ) → Holds (system cpus.old records.old.list last) → Holds (system cpus.new records.new.list last) }
 {
-    records.law();
     cpus.law();
-    if !is_leaving(cpus, id) {
-        return Err(Refusal::NoCyclic);
-    }
     let Some(place) = records.find(id) else {
-        unreachable!()
+        return Err(Refusal::NoCyclic);
     };
-    poll_each(cpus, records, place, id);
-    cpus.law();
-    if is_leaving(cpus, id) {
-        return Ok(None);
+    match records.at(place).place {
+        Placement::On { cpu, bound: _ } => poll_on(cpus, records, place, id, cpu),
+        Placement::Everywhere { when: _, skew: _ } => poll_omni(cpus, records, place, id),
     }
-    Ok(Some(close(records, place)))
 }

@@ -1,72 +1,14 @@
-use Rattle.std.proofs.Common.{Some, Ok, sym, ◌∙◌, subst}
 use Rattle.std.proofs.lemmas.Option.{slice_get_within}
-use Rattle.cyc_agreement.specs.Holding.{Holds}
 use Rattle.cyc_agreement.specs.Withdrawing.{system}
-use Rattle.cyc_agreement.specs.Polling.{PollsRemoval}
-use Rattle.cyc_agreement.proofs.Withdrawing.{now_here}
-use Rattle.cyc_agreement.proofs.Agreeing.{owned, has_record, holds_leaving, holds_left}
-use Rattle.cyc_agreement.proofs.Where.{leaving_somewhere, left_all}
-use Rattle.cyc_agreement.proofs.Telling.{poll_answered, poll_waits}
+use Rattle.cyc_agreement.proofs.Alone.{unknown_shut}
+use Rattle.cyc_agreement.proofs.Telling.{is_not_open}
 use Rattle.cyc_agreement.proofs.removing.poll_remove.Goals as goal
 
-pub unreachable-requires : goal.unreachable-requires
-unreachable-requires g c =
-    let v = c.args.cpus.now in let rs = c.args.records.now.list in
-    let (m, here, is) = leaving_somewhere c.args.id v g.R.Raise.view c.law-2.ensures (sym c.is_leaving.ensures
-    ∙ c.if-not-is_leaving.false) in
-    has_record v rs c.requires.0 c.args.id m c.requires.1.agrees here c.in_default.ensures.none
+pub returns-in_default-clause-did : goal.returns-in_default-clause-did
+returns-in_default-clause-did g c last =
+    let v = c.args.cpus.now in let rs = c.args.records.now.list in let (first, h) = c.requires in
+    is_not_open g.R.Raise c.args.id (system v rs last)
+    (unknown_shut g.R.Raise.view v rs first c.args.id h.agrees c.law.ensures c.in_default.ensures.none)
 
-pub poll_each-requires-clause-whole : goal.poll_each-requires-clause-whole
-poll_each-requires-clause-whole g c n h =
-    let (m, here, is) = leaving_somewhere c.args.id c.args.cpus.now g.R.Raise.view c.law-2.ensures (sym c.is_leaving.ensures
-    ∙ c.if-not-is_leaving.false) in
-    c.requires.1.whole m n c.args.id is h
-
-pub returns-then-is_leaving-clause-did : goal.returns-then-is_leaving-clause-did
-returns-then-is_leaving-clause-did g c last =
-    let v = c.args.cpus.now in let w = c.poll_each.new.cpus in let rs = c.args.records.now.list in let ss =
-    c.poll_each.new.records.list in
-    let o = owned v rs c.requires.0 c.args.id c.in-Some.place c.requires.1.agrees c.in-Some.ensures.some in
-    let (m, here, is) = leaving_somewhere c.args.id w g.R.Raise.view c.law-3.ensures (sym c.is_leaving-2.ensures
-    ∙ c.if-is_leaving.true) in
-    poll_waits g.R.Raise c.args.id c.in-Some.place v w rs ss last o c.poll_each.ensures.withdraws
-    (sym c.is_leaving.ensures ∙ c.if-not-is_leaving.false) (c.poll_each.ensures.did last) m here
-
-pub close-requires : goal.close-requires
-close-requires g c =
-    let v = c.args.cpus.now in let w = c.poll_each.new.cpus in let rs = c.args.records.now.list in let ss =
-    c.poll_each.new.records.list in
-    let d = c.poll_each.ensures.withdraws in
-    slice_get_within ss c.in-Some.place d.after (now_here c.args.id c.in-Some.place v w rs ss d)
-
-pub returns-clause-did : goal.returns-clause-did
-returns-clause-did g c last =
-    let v = c.args.cpus.now in let w = c.poll_each.new.cpus in let rs = c.args.records.now.list in let ss =
-    c.poll_each.new.records.list in
-    let o = owned v rs c.requires.0 c.args.id c.in-Some.place c.requires.1.agrees c.in-Some.ensures.some in
-    let none = left_all c.args.id w (sym c.is_leaving-2.ensures ∙ c.if-is_leaving.false) c.poll_each.ensures.leaving in
-    subst (λ l. PollsRemoval g.R.Raise c.args.id (Ok (Some c.close.result)) (system v rs last)
-    (system w l last)) (sym c.close.ensures.records)
-    (poll_answered g.R.Raise c.args.id c.in-Some.place v w rs ss last o c.poll_each.ensures.withdraws
-    (sym c.is_leaving.ensures ∙ c.if-not-is_leaving.false)
-    (c.poll_each.ensures.did last) c.close.result none c.close.ensures.receipt)
-
-pub returns-then-is_leaving-clause-holds : goal.returns-then-is_leaving-clause-holds
-returns-then-is_leaving-clause-holds g c last h =
-    let v = c.args.cpus.now in let w = c.poll_each.new.cpus in let rs = c.args.records.now.list in let ss =
-    c.poll_each.new.records.list in
-    let o = owned v rs last c.args.id c.in-Some.place h.agrees c.in-Some.ensures.some in
-    let (m, here, is) = leaving_somewhere c.args.id w g.R.Raise.view c.law-3.ensures (sym c.is_leaving-2.ensures
-    ∙ c.if-is_leaving.true) in
-    holds_leaving v w rs ss last c.args.id c.in-Some.place h c.law.ensures.rising o c.poll_each.ensures.withdraws
-    c.poll_each.ensures.leaving m here is
-
-pub returns-clause-holds : goal.returns-clause-holds
-returns-clause-holds g c last h =
-    let v = c.args.cpus.now in let w = c.poll_each.new.cpus in let rs = c.args.records.now.list in let ss =
-    c.poll_each.new.records.list in
-    let o = owned v rs last c.args.id c.in-Some.place h.agrees c.in-Some.ensures.some in
-    let none = left_all c.args.id w (sym c.is_leaving-2.ensures ∙ c.if-is_leaving.false) c.poll_each.ensures.leaving in
-    subst (λ l. Holds (system w l last)) (sym c.close.ensures.records)
-    (holds_left v w rs ss last c.args.id c.in-Some.place h c.law.ensures.rising o c.poll_each.ensures.withdraws
-    c.poll_each.ensures.leaving none)
+pub at-requires : goal.at-requires
+at-requires g c = let (r, is, named) = c.in-Some.ensures.some in slice_get_within c.args.records.now.list c.in-Some.place r is
