@@ -28,6 +28,7 @@ mod retiring;
 mod returning;
 mod shifting;
 mod totals;
+mod totals_on;
 mod turning;
 
 pub use adding::{add_omni, enter};
@@ -41,4 +42,5 @@ pub use removal_laws::{forgotten_law, others_law, receipt_law, totals_law};
 pub use removing::{SystemRemoval, begin_remove, poll_remove};
 pub use returning::online;
 pub use totals::{SystemTotals, system_totals};
+pub use totals_on::agreed_totals;
 pub use turning::Turn;

@@ -24,7 +24,7 @@ pub struct SystemTotals {
 }
 
 /// The counts of the stays that go on. Every CPU that has the cyclic is asked for them.
-fn ask_each<R: Raise>(cpus: &mut Cpus<R>, id: CyclicId) -> SystemTotals
+pub(crate) fn ask_each<R: Raise>(cpus: &mut Cpus<R>, id: CyclicId) -> SystemTotals
     ensures did { (way : List Counted) × (map (λ a. a.cpu) way ≡ cpus_with id cpus.old)
         × Works R.Raise (map (asked id) way) cpus.old cpus.new × GoingOn way result }
     ensures holds { (records : List Record) (last : ℕ) → Holds (system cpus.old records last)
