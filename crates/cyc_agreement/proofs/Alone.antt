@@ -95,9 +95,6 @@ module _ {R : Type 0} (view : R → FiringView) (v : CpusView R) (rs : List Reco
   spot : (x : CpuView R) × IsCpu n x v
   spot = get_some v.cpus n (home_low v rs last id place n a rising own)
 
-  pub home_open : b ≡ true → removal_on n v ≡ Some id
-  home_open is = let (x, at) = spot in removal_there v n x at ∙ is_leaving_open id x (sym (tested x at) ∙ is)
-
   pub home_leaving : b ≡ true → (list_any (is_leaving_here id) v.cpus ≡ true) × (leaving_cpus id v ≡ n ∷ [])
   home_leaving is = let (x, at) = spot in let e = sym (tested x at) ∙ is in (
     any_at (is_leaving_here id) v.cpus n x (slice_get_within v.cpus n x at)
@@ -118,7 +115,7 @@ module _ {R : Type 0} (firing : Raise R) (v w : CpusView R) (rs ss : List Record
   owns : Owns id place v rs
   owns = home_owned v rs first id place n h.agrees rising own
 
-  pub low_still : n < length w.cpus
+  low_still : n < length w.cpus
   low_still = subst (λ k. n < k) (sym d.withdraws.long) (home_low v rs first id place n h.agrees rising own)
 
   module _ (law : (m : ℕ) (x : CpuView R) → IsCpu m x w → IsLawful firing.view x) (b : Bool)

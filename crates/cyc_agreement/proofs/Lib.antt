@@ -32,6 +32,7 @@ pub mod Folds
 pub mod Others
 pub mod Forgetting
 pub mod Sums
+pub mod EndsAlone
 pub mod Receipts
 pub mod Answering
 pub mod OtherOnline

@@ -40,7 +40,7 @@ use Rattle.cyc_agreement.proofs.Forgetting.{rising_set}
 
 -- ---- lists
 
-sum_set : {A : Type 0} (f : A → ℕ) (xs : List A) (n : ℕ) (x y : A) → slice_get xs n ≡ Some x
+pub sum_set : {A : Type 0} (f : A → ℕ) (xs : List A) (n : ℕ) (x y : A) → slice_get xs n ≡ Some x
     → sum_by f (slice_set xs n y) + f x ≡ sum_by f xs + f y
 sum_set f [] n x y is = absurd (none_some is)
 sum_set f (z ∷ xs) zero x y is = let a = sum_by-cons f y xs in let b = sum_by-cons f z xs in let c = ap f (same_some is) in

@@ -87,7 +87,7 @@ fn poll_each<R: Raise>(cpus: &mut Cpus<R>, records: &mut Records, place: usize, 
 }
 
 /// The receipt of a cyclic that no CPU has any more. Its record goes.
-pub(crate) fn close(records: &mut Records, place: usize) -> Receipt
+fn close(records: &mut Records, place: usize) -> Receipt
     requires { place < length records.old.list }
     ensures receipt { (r : Record) → IsRecord records.old.list place r → IsReceiptOf result r }
     ensures records { records.new.list ≡ remove records.old.list place }

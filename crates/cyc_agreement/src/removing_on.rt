@@ -1,4 +1,4 @@
-//! A removal of a cyclic that is on one CPU alone.
+//! A removal of a cyclic that is on one CPU alone. No stay of it has ended elsewhere, so its receipt is the CPU's own.
 
 ghost use Rattle.std.specs.Prelude.{◌≡◌, ℕ, Bool};
 ghost use Rattle.cyc_places.specs.declared.record.Placement.TheVariants.{On};
@@ -11,8 +11,8 @@ ghost use Rattle.cyc_agreement.specs.Withdrawing.{system};
 
 use crate::cpus::Cpus;
 use crate::finding::is_leaving_at;
-use crate::removing::{SystemRemoval, close};
-use crate::removing_at::{begin_at, poll_at};
+use crate::removing::SystemRemoval;
+use cyc_cpu::Removal;
 use cyc_places::Records;
 use cyc_types::{CyclicId, Raise, Receipt, Refusal};
 
@@ -34,12 +34,18 @@ pub(crate) fn begin_on<R: Raise>(
     if let Some(removed) = cpus.cpu(number).removal() {
         return Err(Refusal::Busy(removed));
     }
-    let kept = begin_at(cpus, records, place, id, number);
     cpus.law();
-    if is_leaving_at(cpus, number, id) {
-        return Ok(SystemRemoval::Kept(kept));
+    let Ok(found) = cpus.cpu_mut(number).begin_remove(id) else {
+        unreachable!()
+    };
+    cpus.law();
+    match found {
+        Removal::Done(receipt) => {
+            records.remove(place);
+            Ok(SystemRemoval::Done(receipt))
+        }
+        Removal::Kept(kept) => Ok(SystemRemoval::Kept(u64::from(kept))),
     }
-    Ok(SystemRemoval::Done(close(records, place)))
 }
 
 /// The removal of a cyclic that is on this CPU is polled there.
@@ -61,10 +67,11 @@ pub(crate) fn poll_on<R: Raise>(
     if !is_leaving_at(cpus, number, id) {
         return Err(Refusal::NoCyclic);
     }
-    poll_at(cpus, records, place, id, number);
+    let answer = cpus.cpu_mut(number).poll_remove();
     cpus.law();
-    if is_leaving_at(cpus, number, id) {
+    let Some(receipt) = answer else {
         return Ok(None);
-    }
-    Ok(Some(close(records, place)))
+    };
+    records.remove(place);
+    Ok(Some(receipt))
 }

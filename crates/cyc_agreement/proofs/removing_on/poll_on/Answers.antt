@@ -1,11 +1,14 @@
-use Rattle.std.proofs.Common.{Some, Ok, sym, subst}
+use Rattle.std.proofs.Common.{◌≡◌, true, Some, Ok, sym, ◌∙◌, subst}
 use Rattle.std.proofs.lemmas.Option.{slice_get_within}
+use Rattle.cyc_cpu.specs.Calls.{Changes, PollRemove}
+use Rattle.cyc_agreement.specs.Cpus.{OfCpu, with_cpu}
+use Rattle.cyc_agreement.specs.System.{is_leaving_here}
 use Rattle.cyc_agreement.specs.Holding.{Holds}
 use Rattle.cyc_agreement.specs.Withdrawing.{system}
 use Rattle.cyc_agreement.specs.Polling.{PollsRemoval}
-use Rattle.cyc_agreement.proofs.Withdrawing.{now_here}
-use Rattle.cyc_agreement.proofs.Alone.{home_low, home_few, home_owned, home_open, home_leaving, home_shut, low_still}
-use Rattle.cyc_agreement.proofs.Alone.{holds_open, holds_gone, polled_waits, polled_done}
+use Rattle.cyc_agreement.proofs.One.{is_leaving_open}
+use Rattle.cyc_agreement.proofs.Alone.{home_low, home_shut}
+use Rattle.cyc_agreement.proofs.EndsAlone.{ends_at_last, holds_at_last, still_waits, holds_waiting}
 use Rattle.cyc_agreement.proofs.Telling.{is_not_open}
 use Rattle.cyc_agreement.proofs.removing_on.poll_on.Goals as goal
 
@@ -21,72 +24,60 @@ returns-then-not-is_leaving_at-clause-did g c last =
     (home_shut g.R.Raise.view v rs first c.args.id c.args.place c.args.number h.agrees c.law.ensures.rising c.requires.own
     c.law-2.ensures c.is_leaving_at.result c.is_leaving_at.ensures c.if-not-is_leaving_at.true)
 
-pub poll_at-requires-clause-number : goal.poll_at-requires-clause-number
-poll_at-requires-clause-number g c = let (last, h) = c.requires.holds in
+pub cpu_mut-requires : goal.cpu_mut-requires
+cpu_mut-requires g c = let (last, h) = c.requires.holds in
     home_low c.args.cpus.now c.args.records.now.list last c.args.id c.args.place c.args.number h.agrees c.law.ensures.rising
     c.requires.own
 
-pub poll_at-requires-clause-few : goal.poll_at-requires-clause-few
-poll_at-requires-clause-few g c = let (last, h) = c.requires.holds in
-    home_few c.args.cpus.now c.args.records.now.list last c.args.id c.args.place c.args.number h.agrees c.law.ensures.rising
-    c.requires.own
+pub remove-requires : goal.remove-requires
+remove-requires g c = let (r, bound, is, named, home) = c.requires.own in
+    slice_get_within c.args.records.now.list c.args.place r is
 
-pub poll_at-requires-clause-owns : goal.poll_at-requires-clause-owns
-poll_at-requires-clause-owns g c = let (last, h) = c.requires.holds in
-    home_owned c.args.cpus.now c.args.records.now.list last c.args.id c.args.place c.args.number h.agrees c.law.ensures.rising
-    c.requires.own
-
-pub poll_at-requires-clause-open_here : goal.poll_at-requires-clause-open_here
-poll_at-requires-clause-open_here g c = let (last, h) = c.requires.holds in
-    home_open g.R.Raise.view c.args.cpus.now c.args.records.now.list last c.args.id c.args.place c.args.number h.agrees
-    c.law.ensures.rising c.requires.own c.law-2.ensures c.is_leaving_at.result c.is_leaving_at.ensures
-    c.if-not-is_leaving_at.false
-
-pub is_leaving_at-requires-2 : goal.is_leaving_at-requires-2
-is_leaving_at-requires-2 g c = let (last, h) = c.requires.holds in
-    low_still g.R.Raise c.args.cpus.now c.poll_at.new.cpus c.args.records.now.list c.poll_at.new.records.list last
-    c.args.id c.args.place c.args.number h c.law.ensures.rising c.requires.own c.poll_at.ensures.withdraws
-
-pub returns-then-is_leaving_at-clause-did : goal.returns-then-is_leaving_at-clause-did
-returns-then-is_leaving_at-clause-did g c last =
+pub returns-in_default-clause-did : goal.returns-in_default-clause-did
+returns-in_default-clause-did g c last =
     let v = c.args.cpus.now in let rs = c.args.records.now.list in let n = c.args.number in
-    let (first, h) = c.requires.holds in
-    polled_waits g.R.Raise v c.poll_at.new.cpus rs c.poll_at.new.records.list first c.args.id c.args.place n h
-    c.law.ensures.rising c.requires.own c.poll_at.ensures.withdraws c.law-3.ensures c.is_leaving_at-2.result
-    c.is_leaving_at-2.ensures last
-    (home_leaving g.R.Raise.view v rs first c.args.id c.args.place n h.agrees c.law.ensures.rising c.requires.own
-    c.law-2.ensures c.is_leaving_at.result c.is_leaving_at.ensures c.if-not-is_leaving_at.false)
-    (c.poll_at.ensures.did last) c.if-is_leaving_at.true
+    let (first, h) = c.requires.holds in let x = c.cpu_mut.result.now in
+    let y = c.poll_remove-answer.new.self in let at = c.cpu_mut.ensures.cpu in
+    let d = subst (λ r. Changes g.R.Raise x (PollRemove r) y) c.in_default.is c.poll_remove-answer.ensures in
+    let was_open : OfCpu n (λ cpu. true ≡ is_leaving_here c.args.id cpu) v = λ cpu there.
+    (sym c.if-not-is_leaving_at.false ∙ c.is_leaving_at.ensures cpu there) in
+    still_waits g.R.Raise v rs first c.args.id c.args.place n h c.law.ensures.rising c.law.ensures.all c.requires.own
+    x y at (c.law-2.ensures n x at) c.law-3.ensures
+    (is_leaving_open c.args.id x (sym (was_open x at))) c.law-2.ensures was_open d last
 
-pub returns-then-is_leaving_at-clause-holds : goal.returns-then-is_leaving_at-clause-holds
-returns-then-is_leaving_at-clause-holds g c last h =
-    holds_open g.R.Raise c.args.cpus.now c.poll_at.new.cpus c.args.records.now.list c.poll_at.new.records.list last
-    c.args.id c.args.place c.args.number h c.law.ensures.rising c.requires.own c.poll_at.ensures.withdraws
-    c.law-3.ensures c.is_leaving_at-2.result c.is_leaving_at-2.ensures c.if-is_leaving_at.true
-
-pub close-requires : goal.close-requires
-close-requires g c =
-    let v = c.args.cpus.now in let w = c.poll_at.new.cpus in let rs = c.args.records.now.list in
-    let ss = c.poll_at.new.records.list in let d = c.poll_at.ensures.withdraws.withdraws in
-    slice_get_within ss c.args.place d.after (now_here c.args.id c.args.place v w rs ss d)
+pub returns-in_default-clause-holds : goal.returns-in_default-clause-holds
+returns-in_default-clause-holds g c last h =
+    let v = c.args.cpus.now in let rs = c.args.records.now.list in let n = c.args.number in
+    let x = c.cpu_mut.result.now in let y = c.poll_remove-answer.new.self in let at = c.cpu_mut.ensures.cpu in
+    let d = subst (λ r. Changes g.R.Raise x (PollRemove r) y) c.in_default.is c.poll_remove-answer.ensures in
+    let was_open : OfCpu n (λ cpu. true ≡ is_leaving_here c.args.id cpu) v = λ cpu there.
+    (sym c.if-not-is_leaving_at.false ∙ c.is_leaving_at.ensures cpu there) in
+    holds_waiting g.R.Raise v rs last c.args.id c.args.place n h c.law.ensures.rising c.law.ensures.all c.requires.own
+    x y at (c.law-2.ensures n x at) c.law-3.ensures
+    (is_leaving_open c.args.id x (sym (was_open x at))) c.law-2.ensures was_open d
 
 pub returns-clause-did : goal.returns-clause-did
 returns-clause-did g c last =
-    let v = c.args.cpus.now in let w = c.poll_at.new.cpus in let rs = c.args.records.now.list in let n = c.args.number in
-    let (first, h) = c.requires.holds in
-    subst (λ l. PollsRemoval g.R.Raise c.args.id (Ok (Some c.close.result)) (system v rs last)
-    (system w l last)) (sym c.close.ensures.records)
-    (polled_done g.R.Raise v w rs c.poll_at.new.records.list first c.args.id c.args.place n h
-    c.law.ensures.rising c.requires.own c.poll_at.ensures.withdraws c.law-3.ensures c.is_leaving_at-2.result
-    c.is_leaving_at-2.ensures last
-    (home_leaving g.R.Raise.view v rs first c.args.id c.args.place n h.agrees c.law.ensures.rising c.requires.own
-    c.law-2.ensures c.is_leaving_at.result c.is_leaving_at.ensures c.if-not-is_leaving_at.false)
-    (c.poll_at.ensures.did last) c.if-is_leaving_at.false c.close.result c.close.ensures.receipt)
+    let v = c.args.cpus.now in let rs = c.args.records.now.list in let n = c.args.number in
+    let (first, h) = c.requires.holds in let x = c.cpu_mut.result.now in
+    let y = c.poll_remove-answer.new.self in let at = c.cpu_mut.ensures.cpu in
+    let d = subst (λ r. Changes g.R.Raise x (PollRemove r) y) c.in-Some.is c.poll_remove-answer.ensures in
+    let was_open : OfCpu n (λ cpu. true ≡ is_leaving_here c.args.id cpu) v = λ cpu there.
+    (sym c.if-not-is_leaving_at.false ∙ c.is_leaving_at.ensures cpu there) in
+    subst (λ l. PollsRemoval g.R.Raise c.args.id (Ok (Some c.in-Some.receipt)) (system v rs last)
+    (system (with_cpu v n y) l last)) (sym c.remove.ensures)
+    (ends_at_last g.R.Raise v rs first c.args.id c.args.place n h c.law.ensures.rising c.law.ensures.all c.requires.own
+    x y at (c.law-2.ensures n x at) c.law-3.ensures
+    (is_leaving_open c.args.id x (sym (was_open x at))) c.law-2.ensures was_open c.in-Some.receipt d last)
 
 pub returns-clause-holds : goal.returns-clause-holds
 returns-clause-holds g c last h =
-    let w = c.poll_at.new.cpus in
-    subst (λ l. Holds (system w l last)) (sym c.close.ensures.records)
-    (holds_gone g.R.Raise c.args.cpus.now w c.args.records.now.list c.poll_at.new.records.list last
-    c.args.id c.args.place c.args.number h c.law.ensures.rising c.requires.own c.poll_at.ensures.withdraws
-    c.law-3.ensures c.is_leaving_at-2.result c.is_leaving_at-2.ensures c.if-is_leaving_at.false)
+    let v = c.args.cpus.now in let rs = c.args.records.now.list in let n = c.args.number in
+    let x = c.cpu_mut.result.now in let y = c.poll_remove-answer.new.self in let at = c.cpu_mut.ensures.cpu in
+    let d = subst (λ r. Changes g.R.Raise x (PollRemove r) y) c.in-Some.is c.poll_remove-answer.ensures in
+    let was_open : OfCpu n (λ cpu. true ≡ is_leaving_here c.args.id cpu) v = λ cpu there.
+    (sym c.if-not-is_leaving_at.false ∙ c.is_leaving_at.ensures cpu there) in
+    subst (λ l. Holds (system (with_cpu v n y) l last)) (sym c.remove.ensures)
+    (holds_at_last g.R.Raise v rs last c.args.id c.args.place n h c.law.ensures.rising c.law.ensures.all c.requires.own
+    x y at (c.law-2.ensures n x at) c.law-3.ensures
+    (is_leaving_open c.args.id x (sym (was_open x at))) c.law-2.ensures was_open c.in-Some.receipt d)
