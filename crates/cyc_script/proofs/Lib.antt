@@ -1,6 +1,10 @@
 pub mod Fits
+pub mod Grammar
+pub mod Heads
 pub mod Lists
 pub mod Naming
 pub mod Numbers
+pub mod Parts
 pub mod Steps
+pub mod Taken
 pub mod WellFormed

@@ -30,7 +30,7 @@ pub step_refused : (steps : List Step) (b : Context) (d : Data) (ds : List Data)
 step_refused steps b d ds n e at (inl is) = inl (ap (refusal_at n) is)
 step_refused steps b d ds n e at (inr is) = inr (rw at (step_faulty steps b d ds e is))
 
-steps_end : (steps : List Step) (b : Context) → steps_of steps b [] ≡ Ok (steps, b.names)
+pub steps_end : (steps : List Step) (b : Context) → steps_of steps b [] ≡ Ok (steps, b.names)
 unfolding steps_of
 steps_end steps b = refl
 

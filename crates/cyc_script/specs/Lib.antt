@@ -3,6 +3,8 @@ pub mod Limits
 pub mod Names
 pub mod WellFormed
 pub mod Parameters
+pub mod Parts
 pub mod Script
 pub mod Steps
+pub mod Tokens
 pub mod Words

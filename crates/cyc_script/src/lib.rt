@@ -6,9 +6,12 @@ mod context;
 mod name;
 mod names;
 mod parameters;
+mod part;
 mod reader;
 mod script;
 mod step;
+mod tokens;
+mod whole;
 mod words;
 
 pub use name::Name;

@@ -1,24 +1,24 @@
-//! The parameters of a step, each from its JSON value.
+//! The parameters of a step, each from its part.
 
 ghost use Rattle.std.specs.Prelude.{◌≡◌, map, option_map, ℕ, ◌≤◌, ◌<◌, ◌^◌};
 ghost use Rattle.std.specs.List.{list_all};
-ghost use Rattle.serde_json.specs.View.{view};
 ghost use Rattle.cyc_script.specs.Answers.{Gives};
 ghost use Rattle.cyc_script.specs.Parameters.{number_in, whole_of, moment_of, skew_of, unsigned_of, is_name_byte, is_name};
 ghost use Rattle.cyc_script.specs.Parameters.{name_of, level_in_value, soft_of};
+ghost use Rattle.cyc_script.specs.Parts.{data_of};
 
 use crate::cause::Cause;
+use crate::part::Part;
 use cyc_types::{Level, Moment, Soft};
-use serde_json::Value;
 
 /// The most bytes of a name.
 const LONGEST_NAME: usize = 32;
 
 /// A whole number from 0 to the greatest.
-pub(crate) fn number(value: &Value, most: u64) -> Option<u64>
-    ensures { result ≡ number_in most (view value.now) }
+pub(crate) fn number(part: &Part<'_>, most: u64) -> Option<u64>
+    ensures { result ≡ number_in most (data_of part.now) }
 {
-    let number = value.as_i64()?;
+    let number = part.whole()?;
     match u64::try_from(number) {
         Ok(n) if n <= most => Some(n),
         _ => None,
@@ -27,26 +27,26 @@ pub(crate) fn number(value: &Value, most: u64) -> Option<u64>
 
 /// Any whole number.
 #[tactic(auto, unfolding(crate::specs::Parameters::whole_of))]
-pub(crate) fn whole(value: &Value) -> Result<i64, Cause>
-    ensures { result ≡ whole_of (view value.now) }
+pub(crate) fn whole(part: &Part<'_>) -> Result<i64, Cause>
+    ensures { result ≡ whole_of (data_of part.now) }
 {
-    value.as_i64().ok_or(Cause::Shape)
+    part.whole().ok_or(Cause::Shape)
 }
 
 /// A moment below never, in nanoseconds.
 #[tactic(auto, unfolding(crate::specs::Parameters::moment_of))]
-pub(crate) fn moment(value: &Value) -> Result<u64, Cause>
-    ensures { result ≡ moment_of (view value.now) }
+pub(crate) fn moment(part: &Part<'_>) -> Result<u64, Cause>
+    ensures { result ≡ moment_of (data_of part.now) }
 {
-    number(value, i64::MAX as u64 - 1).ok_or(Cause::Shape)
+    number(part, i64::MAX as u64 - 1).ok_or(Cause::Shape)
 }
 
 /// A skew, at most never.
 #[tactic(auto, unfolding(crate::specs::Parameters::skew_of))]
-pub(crate) fn skew(value: &Value) -> Result<Moment, Cause>
-    ensures { result ≡ skew_of (view value.now) }
+pub(crate) fn skew(part: &Part<'_>) -> Result<Moment, Cause>
+    ensures { result ≡ skew_of (data_of part.now) }
 {
-    match number(value, i64::MAX as u64) {
+    match number(part, i64::MAX as u64) {
         Some(nanoseconds) => Moment::new(nanoseconds as i64).map_err(|_| Cause::Shape),
         None => Err(Cause::Shape),
     }
@@ -54,10 +54,10 @@ pub(crate) fn skew(value: &Value) -> Result<Moment, Cause>
 
 /// The number of a CPU, or a budget.
 #[tactic(auto, unfolding(crate::specs::Parameters::unsigned_of))]
-pub(crate) fn unsigned(value: &Value) -> Result<u32, Cause>
-    ensures { result ≡ unsigned_of (view value.now) }
+pub(crate) fn unsigned(part: &Part<'_>) -> Result<u32, Cause>
+    ensures { result ≡ unsigned_of (data_of part.now) }
 {
-    match number(value, u64::from(u32::MAX)) {
+    match number(part, u64::from(u32::MAX)) {
         Some(number) => u32::try_from(number).map_err(|_| Cause::Shape),
         None => Err(Cause::Shape),
     }
@@ -88,10 +88,10 @@ fn is_name(text: &str) -> bool
 
 /// The text of a name.
 #[tactic(auto, unfolding(crate::specs::Parameters::name_of))]
-pub(crate) fn name(value: &Value) -> Result<&str, Cause>
-    ensures { Gives (λ text. text.now) result (name_of (view value.now)) }
+pub(crate) fn name<'a>(part: &Part<'a>) -> Result<&'a str, Cause>
+    ensures { Gives (λ text. text.now) result (name_of (data_of part.now)) }
 {
-    let Some(text) = value.as_str() else {
+    let Some(text) = part.text() else {
         return Err(Cause::Shape);
     };
     if !is_name(text) {
@@ -102,10 +102,10 @@ pub(crate) fn name(value: &Value) -> Result<&str, Cause>
 
 /// The level of a cyclic.
 #[tactic(auto, unfolding(crate::specs::Parameters::level_in_value))]
-pub(crate) fn level(value: &Value) -> Result<Level, Cause>
-    ensures { result ≡ level_in_value (view value.now) }
+pub(crate) fn level(part: &Part<'_>) -> Result<Level, Cause>
+    ensures { result ≡ level_in_value (data_of part.now) }
 {
-    let Some(word) = value.as_str() else {
+    let Some(word) = part.text() else {
         return Err(Cause::Shape);
     };
     if word == "low" {
@@ -122,10 +122,10 @@ pub(crate) fn level(value: &Value) -> Result<Level, Cause>
 
 /// The level of a soft interrupt.
 #[tactic(auto, unfolding(crate::specs::Parameters::soft_of))]
-pub(crate) fn soft(value: &Value) -> Result<Soft, Cause>
-    ensures { result ≡ soft_of (view value.now) }
+pub(crate) fn soft(part: &Part<'_>) -> Result<Soft, Cause>
+    ensures { result ≡ soft_of (data_of part.now) }
 {
-    let Some(word) = value.as_str() else {
+    let Some(word) = part.text() else {
         return Err(Cause::Shape);
     };
     if word == "low" {

@@ -1,21 +1,25 @@
 //! A script, from its bytes.
 
-ghost use Rattle.std.specs.Prelude.{◌≡◌, ◌≤◌, ◌<◌, ◌^◌, [], length, map, option_map, string_bytes, IfOk, IfSome, true};
+ghost use Rattle.std.specs.Prelude.{◌≡◌, ◌≤◌, ◌<◌, ◌^◌, [], length, map, option_map, string_bytes, Ok, IfOk, IfSome, true};
 ghost use Rattle.std.specs.List.{list_all};
 ghost use Rattle.std.specs.BTreeMap.{keys};
+ghost use Rattle.serde_json.specs.Data.{Data};
 ghost use Rattle.serde_json.specs.View.{view};
 ghost use Rattle.cyc_script.specs.Answers.{Answers};
 ghost use Rattle.cyc_script.specs.WellFormed.{IsWellFormed};
 ghost use Rattle.cyc_script.specs.Limits.{most_cpus, most_steps};
+ghost use Rattle.cyc_script.specs.Parts.{data_of};
 ghost use Rattle.cyc_script.specs.Script.{content, number_between, cpus_in, cpus_of, ceiling_of, within_limit, values_of, is_key};
 ghost use Rattle.cyc_script.specs.Script.{has_keys, content_of, json_of, script_of};
 ghost use Rattle.cyc_script.specs.Steps.{first_context, steps_of};
 
+use crate::cause::Cause;
 use crate::context::Context;
 use crate::names::Names;
+use crate::part::Part;
 use crate::script::Script;
 use crate::step::Step;
-use crate::{parameters, words};
+use crate::{parameters, tokens, words};
 use cyc_types::{Ceiling, Refusal};
 use serde_json::{Map, Value};
 use std::alloc::Global;
@@ -24,10 +28,10 @@ use std::alloc::Global;
 const MOST_BYTES: usize = 16_777_216;
 
 /// The most steps that a script may have.
-const MOST_STEPS: usize = 65_536;
+pub(crate) const MOST_STEPS: usize = 65_536;
 
 /// The most CPUs that a script may have.
-const MOST_CPUS: u32 = 16;
+pub(crate) const MOST_CPUS: u32 = 16;
 
 #[tactic(auto, unfolding(crate::specs::Script::is_key))]
 fn is_key(key: &str) -> bool
@@ -54,10 +58,10 @@ fn has_keys(value: &Value) -> bool
 }
 
 /// A whole number from the least to the greatest.
-fn number_between(value: &Value, least: u32, most: u32) -> Option<u32>
-    ensures { result ≡ number_between least most (view value.now) }
+pub(crate) fn number_between(part: &Part<'_>, least: u32, most: u32) -> Option<u32>
+    ensures { result ≡ number_between least most (data_of part.now) }
 {
-    match parameters::number(value, u64::from(most)) {
+    match parameters::number(part, u64::from(most)) {
         Some(n) if n >= u64::from(least) && n <= u64::from(most) => Some(n as u32),
         _ => None,
     }
@@ -66,7 +70,7 @@ fn number_between(value: &Value, least: u32, most: u32) -> Option<u32>
 fn cpus_in(value: &Value) -> Option<u32>
     ensures { result ≡ cpus_in (view value.now) }
 {
-    number_between(value, 1, MOST_CPUS)
+    number_between(&Part::Value(value), 1, MOST_CPUS)
 }
 
 #[tactic(auto, unfolding(crate::specs::Script::cpus_of))]
@@ -82,7 +86,7 @@ fn ceiling(value: &Value) -> Option<Ceiling>
     ensures { result ≡ ceiling_of (view value.now) }
 {
     let calls = match value.get("ceiling") {
-        Some(found) => number_between(found, 1, u32::MAX)?,
+        Some(found) => number_between(&Part::Value(found), 1, u32::MAX)?,
         None => u32::MAX,
     };
     Ceiling::new(calls)
@@ -121,7 +125,7 @@ fn steps(alloc: Global, values: &[Value]) -> Result<(Vec<Step>, Vec<String>), Re
     let mut number: u32 = 0;
     for value in values {
         number += 1;
-        match words::read_step(alloc, &mut context, value) {
+        match words::read_value(alloc, &mut context, value) {
             Ok(step) => steps.push(step)?,
             Err(cause) => return Err(cause.at(number)),
         }
@@ -164,6 +168,18 @@ fn json(alloc: Global, bytes: &[u8]) -> Result<Value, Refusal>
     })
 }
 
+/// The script of bytes whose tokens are read straight.
+#[tactic(auto, using(crate::proofs::Lists::is_utf8_text), unfolding(crate::specs::Script::json_of))]
+fn script_of_tokens(alloc: Global, bytes: &[u8]) -> Result<Script, Cause>
+    ensures { IfOk result (λ script. (d : Data) × (json_of bytes.now ≡ Ok d)
+        × (content_of d ≡ Ok (content script))) }
+{
+    match str::from_utf8(bytes) {
+        Ok(text) => tokens::script(alloc, text),
+        Err(_) => Err(Cause::Shape),
+    }
+}
+
 /// Reads a script from its JSON text. The refusals, in this order: `ScriptShape(0)` for more than 16,777,216 bytes;
 /// `ScriptSyntax` for bytes that are no JSON; `ScriptShape(0)` for an object that is no script; then the first
 /// faulty step decides, counted from 1, by `ScriptShape` for its form, `NameTwice` for a name that was introduced
@@ -176,6 +192,9 @@ pub fn read_script(alloc: Global, bytes: &[u8]) -> Result<Script, Refusal>
     if bytes.len() > MOST_BYTES {
         return Err(Refusal::ScriptShape(0));
     }
-    let value = json(alloc, bytes)?;
-    script_in(alloc, &value)
+    match script_of_tokens(alloc, bytes) {
+        Ok(script) => Ok(script),
+        Err(Cause::Memory) => Err(Refusal::Memory),
+        Err(_) => script_in(alloc, &json(alloc, bytes)?),
+    }
 }

@@ -1,8 +1,10 @@
 //! The eleven words of a step.
 
 ghost use Rattle.std.specs.Prelude.{◌≡◌, ℕ, ◌<◌, ◌^◌, length, map, IfOk};
-ghost use Rattle.serde_json.specs.View.{view};
+ghost use Rattle.serde_json.specs.Data.{array};
+ghost use Rattle.serde_json.specs.View.{items_of, view};
 ghost use Rattle.cyc_script.specs.Answers.{Gives};
+ghost use Rattle.cyc_script.specs.Parts.{data_of};
 ghost use Rattle.cyc_script.specs.Steps.{Fits, Reads, step_of};
 ghost use Rattle.cyc_script.specs.Words.{add_of, omni_of, bind_of, unbind_of, reprogram_of, remove_of, advance_of, softint_of};
 ghost use Rattle.cyc_script.specs.Words.{only_cpu, form_of, form_of_items};
@@ -10,14 +12,15 @@ ghost use Rattle.cyc_script.specs.Words.{only_cpu, form_of, form_of_items};
 use crate::cause::Cause;
 use crate::context::Context;
 use crate::parameters;
+use crate::part::{self, Part};
 use crate::step::{Add, Bind, Omni, Reprogram, Softint, Step};
 use serde_json::Value;
 use std::alloc::Global;
 
 #[tactic(auto, unfolding(crate::specs::Words::add_of))]
-fn add<'a>(alloc: Global, context: &mut Context<'a>, parts: &'a [Value]) -> Result<Step, Cause>
+fn add<'a>(alloc: Global, context: &mut Context<'a>, parts: &[Part<'a>]) -> Result<Step, Cause>
     requires { length context.old.names < 2 ^ 32 }
-    ensures { Reads result context.old context.new (add_of (map view parts.now)) }
+    ensures { Reads result context.old context.new (add_of (map data_of parts.now)) }
 {
     let [name, level, start, interval] = parts else {
         return Err(Cause::Shape);
@@ -36,9 +39,9 @@ fn add<'a>(alloc: Global, context: &mut Context<'a>, parts: &'a [Value]) -> Resu
 }
 
 #[tactic(auto, unfolding(crate::specs::Words::omni_of))]
-fn omni<'a>(alloc: Global, context: &mut Context<'a>, parts: &'a [Value]) -> Result<Step, Cause>
+fn omni<'a>(alloc: Global, context: &mut Context<'a>, parts: &[Part<'a>]) -> Result<Step, Cause>
     requires { length context.old.names < 2 ^ 32 }
-    ensures { Reads result context.old context.new (omni_of (map view parts.now)) }
+    ensures { Reads result context.old context.new (omni_of (map data_of parts.now)) }
 {
     let [name, level, start, interval, skew] = parts else {
         return Err(Cause::Shape);
@@ -59,8 +62,8 @@ fn omni<'a>(alloc: Global, context: &mut Context<'a>, parts: &'a [Value]) -> Res
 }
 
 #[tactic(auto, unfolding(crate::specs::Words::bind_of))]
-fn bind(context: &Context<'_>, parts: &[Value]) -> Result<Step, Cause>
-    ensures { Reads result context.now context.now (bind_of (map view parts.now)) }
+fn bind(context: &Context<'_>, parts: &[Part<'_>]) -> Result<Step, Cause>
+    ensures { Reads result context.now context.now (bind_of (map data_of parts.now)) }
 {
     let [name, cpu] = parts else {
         return Err(Cause::Shape);
@@ -72,8 +75,8 @@ fn bind(context: &Context<'_>, parts: &[Value]) -> Result<Step, Cause>
 }
 
 #[tactic(auto, unfolding(crate::specs::Words::unbind_of))]
-fn unbind(context: &Context<'_>, parts: &[Value]) -> Result<Step, Cause>
-    ensures { Reads result context.now context.now (unbind_of (map view parts.now)) }
+fn unbind(context: &Context<'_>, parts: &[Part<'_>]) -> Result<Step, Cause>
+    ensures { Reads result context.now context.now (unbind_of (map data_of parts.now)) }
 {
     let [name] = parts else {
         return Err(Cause::Shape);
@@ -83,8 +86,8 @@ fn unbind(context: &Context<'_>, parts: &[Value]) -> Result<Step, Cause>
 }
 
 #[tactic(auto, unfolding(crate::specs::Words::reprogram_of))]
-fn reprogram(context: &Context<'_>, parts: &[Value]) -> Result<Step, Cause>
-    ensures { Reads result context.now context.now (reprogram_of (map view parts.now)) }
+fn reprogram(context: &Context<'_>, parts: &[Part<'_>]) -> Result<Step, Cause>
+    ensures { Reads result context.now context.now (reprogram_of (map data_of parts.now)) }
 {
     let (name, moment, cpu) = match parts {
         [name, moment] => (name, moment, None),
@@ -102,8 +105,8 @@ fn reprogram(context: &Context<'_>, parts: &[Value]) -> Result<Step, Cause>
 }
 
 #[tactic(auto, unfolding(crate::specs::Words::remove_of))]
-fn remove(context: &Context<'_>, parts: &[Value]) -> Result<Step, Cause>
-    ensures { Reads result context.now context.now (remove_of (map view parts.now)) }
+fn remove(context: &Context<'_>, parts: &[Part<'_>]) -> Result<Step, Cause>
+    ensures { Reads result context.now context.now (remove_of (map data_of parts.now)) }
 {
     let [name] = parts else {
         return Err(Cause::Shape);
@@ -113,8 +116,8 @@ fn remove(context: &Context<'_>, parts: &[Value]) -> Result<Step, Cause>
 }
 
 #[tactic(auto, unfolding(crate::specs::Words::advance_of))]
-fn advance(context: &mut Context<'_>, parts: &[Value]) -> Result<Step, Cause>
-    ensures { Reads result context.old context.new (advance_of (map view parts.now)) }
+fn advance(context: &mut Context<'_>, parts: &[Part<'_>]) -> Result<Step, Cause>
+    ensures { Reads result context.old context.new (advance_of (map data_of parts.now)) }
 {
     let [moment] = parts else {
         return Err(Cause::Shape);
@@ -128,8 +131,8 @@ fn advance(context: &mut Context<'_>, parts: &[Value]) -> Result<Step, Cause>
 }
 
 #[tactic(auto, unfolding(crate::specs::Words::softint_of))]
-fn softint(context: &Context<'_>, parts: &[Value]) -> Result<Step, Cause>
-    ensures { Reads result context.now context.now (softint_of (map view parts.now)) }
+fn softint(context: &Context<'_>, parts: &[Part<'_>]) -> Result<Step, Cause>
+    ensures { Reads result context.now context.now (softint_of (map data_of parts.now)) }
 {
     let [cpu, level, budget] = parts else {
         return Err(Cause::Shape);
@@ -142,8 +145,8 @@ fn softint(context: &Context<'_>, parts: &[Value]) -> Result<Step, Cause>
 
 /// The CPU that is the only parameter.
 #[tactic(auto, unfolding(crate::specs::Words::only_cpu))]
-fn only_cpu(parts: &[Value]) -> Result<u32, Cause>
-    ensures { result ≡ only_cpu (map view parts.now) }
+fn only_cpu(parts: &[Part<'_>]) -> Result<u32, Cause>
+    ensures { result ≡ only_cpu (map data_of parts.now) }
 {
     match parts {
         [cpu] => parameters::unsigned(cpu),
@@ -156,10 +159,10 @@ fn step_of_word<'a>(
     alloc: Global,
     context: &mut Context<'a>,
     word: &str,
-    parts: &'a [Value],
+    parts: &[Part<'a>],
 ) -> Result<Step, Cause>
     requires { length context.old.names < 2 ^ 32 }
-    ensures { Reads result context.old context.new (form_of word.now (map view parts.now)) }
+    ensures { Reads result context.old context.new (form_of word.now (map data_of parts.now)) }
 {
     match word {
         "add" => add(alloc, context, parts),
@@ -181,24 +184,39 @@ fn step_of_word<'a>(
 fn step_of_items<'a>(
     alloc: Global,
     context: &mut Context<'a>,
-    parts: &'a [Value],
+    parts: &[Part<'a>],
 ) -> Result<Step, Cause>
     requires { length context.old.names < 2 ^ 32 }
-    ensures { Reads result context.old context.new (form_of_items (map view parts.now)) }
+    ensures { Reads result context.old context.new (form_of_items (map data_of parts.now)) }
 {
     let [first, rest @ ..] = parts else {
         return Err(Cause::Shape);
     };
-    let Some(word) = first.as_str() else {
+    let Some(word) = first.text() else {
         return Err(Cause::Shape);
     };
     step_of_word(alloc, context, word, rest)
 }
 
-/// Reads the step of a value after those before it, and takes note of the name that it introduces or the moment that it
+/// Reads the step of these parts after those before it, and takes note of the name that it introduces or the moment that it
 /// advances to. First its form is judged, then its name or its moment. Takes memory where it introduces a name.
 #[tactic(auto, using(crate::proofs::Lists::list_of_items_of), unfolding(crate::specs::Steps::step_of, crate::specs::Words::form_of_value))]
 pub(crate) fn read_step<'a>(
+    alloc: Global,
+    context: &mut Context<'a>,
+    parts: &[Part<'a>],
+) -> Result<Step, Cause>
+    requires { length context.old.names < 2 ^ 32 }
+    ensures reads { Gives (λ step. (step, context.new)) result
+        (step_of context.old (array (items_of (map data_of parts.now)))) }
+    ensures fits { IfOk result (λ step. Fits context.old step context.new) }
+{
+    step_of_items(alloc, context, parts)
+}
+
+/// Reads the step of a value, as `read_step` does. Takes memory for the value's parts too.
+#[tactic(auto, unfolding(crate::specs::Steps::step_of, crate::specs::Words::form_of_value))]
+pub(crate) fn read_value<'a>(
     alloc: Global,
     context: &mut Context<'a>,
     value: &'a Value,
@@ -210,5 +228,6 @@ pub(crate) fn read_step<'a>(
     let Some(items) = value.as_array() else {
         return Err(Cause::Shape);
     };
-    step_of_items(alloc, context, items.as_slice())
+    let parts = part::parts_of(alloc, items.as_slice())?;
+    read_step(alloc, context, parts.as_slice())
 }

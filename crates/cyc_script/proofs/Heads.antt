@@ -1,0 +1,91 @@
+-- What a script has beside its steps, from its tokens.
+use Rattle.std.proofs.Common.{◌≡◌, ℕ, ◌-◌, ◌≤◌, List, [], ◌∷◌, length, true, Option, Some, None, Result, Ok, Err}
+use Rattle.std.proofs.Common.{codes, refl, ap, sym, ◌∙◌, arith}
+use Rattle.std.specs.Prelude.{IfSome, OnOk, nat_le}
+use Rattle.std.proofs.lemmas.Bool.Decides.{nat_tests}
+use Rattle.json.specs.Token.{Token, key, begin_array, begin_object, end_object}
+use Rattle.json.specs.Json.{parse_map, members, value}
+use Rattle.json.proofs.Grammar.{value-begin_object}
+use Rattle.serde_json.specs.Data.{Data, array, object, Items, Members, no_members, put}
+use Rattle.serde_json.specs.Read.{of_json, of_members, converted}
+use Rattle.cyc_script.specs.declared.step.Step.{Step}
+use Rattle.cyc_script.specs.Limits.{most_cpus, most_steps}
+use Rattle.cyc_script.specs.Script.{number_between, is_key, has_keys, cpus_of, ceiling_of, values_of, within_limit, content_of}
+use Rattle.cyc_script.specs.Steps.{first_context, steps_of}
+use Rattle.cyc_script.specs.Tokens.{Begins, BeginsItems, Heads}
+use Rattle.cyc_script.proofs.Grammar.{array_read, converted_object, member_read, members_over, shorter}
+
+pub always : {A E : Type 0} (r : Result A E) (P : Type 0) → P → OnOk r P
+always (Ok x) P p = p
+always (Err e) P p = tt
+
+-- ---- a number
+
+pub number_here : (old new rest : List Token) (name : List ℕ) (most : ℕ) (d : Data) (r : Option ℕ) → old ≡ key name ∷ rest
+    → ((depth : ℕ) → Begins depth rest d new) → r ≡ number_between 1 most d
+    → IfSome r (λ number. (d : Data) × (rest : List Token) × (old ≡ key name ∷ rest)
+    × ((depth : ℕ) → Begins depth rest d new) × (number_between 1 most d ≡ Some number))
+number_here old new rest name most d None is begins e = tt
+number_here old new rest name most d (Some n) is begins e = (d, rest, is, begins, sym e)
+
+-- ---- an object
+
+module _ (inside : List Token) (ds : Items) (rest : List Token) (e : BeginsItems 125 inside ds (end_object ∷ rest)) where
+  items_here : Begins 126 (begin_array ∷ inside) (array ds) (end_object ∷ rest)
+  items_here = array_read 126 inside (end_object ∷ rest) ds (omega arith) e
+
+  -- the last member is the steps
+  last_member : (old : Members) (n : ℕ) → length (key (codes "steps") ∷ begin_array ∷ inside) ≤ n
+      → converted (λ ms. of_members ms old) (members (value 126) n (key (codes "steps") ∷ begin_array ∷ inside))
+      ≡ Some (put (codes "steps") (array ds) old, rest)
+  last_member old n enough =
+      let less = shorter 126 (begin_array ∷ inside) (end_object ∷ rest) (array ds) items_here in
+      member_read (value 126) old n (codes "steps") (key (codes "steps") ∷ begin_array ∷ inside) (begin_array ∷ inside)
+      (end_object ∷ rest) (array ds) (omega arith) refl items_here
+      ∙ members_over (value 126) (put (codes "steps") (array ds) old) (n - 1) (end_object ∷ rest) rest (omega (arith, less)) refl
+
+  whole_object : (ts : List Token) (ms : Members)
+      → converted (λ ms. of_members ms no_members) (members (value 126) (length ts) ts) ≡ Some (ms, rest)
+      → Begins 127 (begin_object ∷ ts) (object ms) rest
+  whole_object ts ms read = ap (converted of_json) (value-begin_object 127 ts (omega arith))
+      ∙ converted_object (members (value 126) (length ts) ts) ∙ ap (parse_map object) read
+
+pub without_ceiling : (ts inside : List Token) (cpus : ℕ) (d : Data)
+    → Begins 126 ts d (key (codes "steps") ∷ begin_array ∷ inside) → number_between 1 most_cpus d ≡ Some cpus
+    → Heads (begin_object ∷ key (codes "cpus") ∷ ts) inside cpus 4294967295
+unfolding has_keys is_key cpus_of ceiling_of values_of
+without_ceiling ts inside cpus d begins between = λ ds rest e.
+    let all = key (codes "cpus") ∷ ts in
+    let less = shorter 126 ts (key (codes "steps") ∷ begin_array ∷ inside) d begins in
+    let first = put (codes "cpus") d no_members in
+    let read = member_read (value 126) no_members (length all) (codes "cpus") all ts _ d (omega arith) refl begins
+    ∙ last_member inside ds rest e first (length all - 1) (omega (arith, less)) in
+    (object (put (codes "steps") (array ds) first), whole_object inside ds rest e all _ read, refl, between, refl, refl)
+
+pub with_ceiling : (ts more inside : List Token) (cpus ceiling : ℕ) (d c : Data)
+    → Begins 126 ts d (key (codes "ceiling") ∷ more) → number_between 1 most_cpus d ≡ Some cpus
+    → Begins 126 more c (key (codes "steps") ∷ begin_array ∷ inside) → number_between 1 4294967295 c ≡ Some ceiling
+    → Heads (begin_object ∷ key (codes "cpus") ∷ ts) inside cpus ceiling
+unfolding has_keys is_key cpus_of ceiling_of values_of
+with_ceiling ts more inside cpus ceiling d c begins between next calls = λ ds rest e.
+    let all = key (codes "cpus") ∷ ts in
+    let less = shorter 126 ts (key (codes "ceiling") ∷ more) d begins in
+    let lesser = shorter 126 more (key (codes "steps") ∷ begin_array ∷ inside) c next in
+    let first = put (codes "cpus") d no_members in
+    let second = put (codes "ceiling") c first in
+    let read = member_read (value 126) no_members (length all) (codes "cpus") all ts _ d (omega arith) refl begins
+    ∙ member_read (value 126) first (length all - 1) (codes "ceiling") (key (codes "ceiling") ∷ more) more _ c
+    (omega (arith, less)) refl next
+    ∙ last_member inside ds rest e second (length all - 1 - 1) (omega (arith, less, lesser)) in
+    (object (put (codes "steps") (array ds) second), whole_object inside ds rest e all _ read, refl, between, calls, refl)
+
+-- ---- the script
+
+pub content_made : (d : Data) (cpus ceiling : ℕ) (values : List Data) (steps : List Step) (names : List (List ℕ))
+    → has_keys d ≡ true → cpus_of d ≡ Some cpus → ceiling_of d ≡ Some ceiling → values_of d ≡ within_limit values → length values ≤ most_steps
+    → steps_of [] first_context values ≡ Ok (steps, names)
+    → content_of d ≡ Ok (record { cpus = cpus; ceiling = ceiling; names = names; steps = steps })
+unfolding content_of
+content_made d cpus ceiling values steps names keys c g v few read =
+    let fits : nat_le (length values) most_steps ≡ true = grind (arith, nat_tests) in
+    rw (keys, c, g, v, fits, read) refl

@@ -1,0 +1,86 @@
+-- The steps of a script, taken one after another from the items that are left.
+use Rattle.std.proofs.Common.{◌≡◌, ℕ, ◌+◌, ◌≤◌, List, [], ◌∷◌, ◌++◌, length, Option, Some, None, Result, Ok, true}
+use Rattle.std.proofs.Common.{refl, ap, ap₂, sym, arith}
+use Rattle.std.specs.Prelude.{option_map}
+use Rattle.std.proofs.Math.ListN.{length-append}
+use Rattle.json.specs.Token.{Token}
+use Rattle.json.specs.Json.{parse_map}
+use Rattle.serde_json.specs.Data.{Data, Items, no_items, item}
+use Rattle.cyc_types.specs.declared.refusal.Refusal.{Refusal}
+use Rattle.cyc_script.specs.declared.context.Context.{Context}
+use Rattle.cyc_script.specs.declared.step.Step.{Step}
+use Rattle.cyc_script.specs.Steps.{Fits, first_context, step_of, steps_of}
+use Rattle.cyc_script.specs.WellFormed.{names_fit, names_after_all, moments_fit, moment_after_all, name_fits, moment_fits}
+use Rattle.cyc_script.specs.Words.{list_of}
+use Rattle.cyc_script.proofs.Steps.{step_accepted, steps_end}
+use Rattle.cyc_script.proofs.WellFormed.{names_after_all_push, names_fit_push, moment_after_all_push, moments_fit_push}
+use Rattle.cyc_script.proofs.WellFormed.{names_after_at_most}
+
+-- how many steps there are, and what they read as, where these were taken and the items are left
+abbrev pub Taken : Type 0
+Taken = Option ((ℕ × Result (List Step × List (List ℕ)) Refusal) × List Token)
+
+abbrev pub taken : List Step → Context → Option (Items × List Token) → Taken
+taken steps before read = option_map (λ p. ((length steps + length (list_of p.0), steps_of steps before (list_of p.0)), p.1)) read
+
+pub one_taken : (steps : List Step) (before after : Context) (d : Data) (step : Step) → step_of before d ≡ Ok (step, after)
+    → (read : Option (Items × List Token)) → taken steps before (parse_map (item d) read) ≡ taken (steps ++ step ∷ []) after read
+one_taken steps before after d step e None = refl
+one_taken steps before after d step e (Some p) =
+    let rest = list_of p.0 in
+    let count : length steps + length (d ∷ rest) ≡ length (steps ++ step ∷ []) + length rest =
+    omega (arith, length-append steps (step ∷ [])) in
+    ap₂ (λ k read. Some ((k, read), p.1)) count (step_accepted steps before after d rest step e)
+
+pub none_left : (steps : List Step) (before : Context) (r : List Token)
+    → taken steps before (Some (no_items, r)) ≡ Some ((length steps, Ok (steps, before.names)), r)
+none_left steps before r =
+    let count : length steps + 0 ≡ length steps = omega arith in
+    ap₂ (λ k read. Some ((k, read), r)) count (steps_end steps before)
+
+abbrev counted : Taken → ℕ
+counted None = 0
+counted (Some p) = p.0.0
+
+abbrev kept : Result (List Step × List (List ℕ)) Refusal → Taken → Result (List Step × List (List ℕ)) Refusal
+kept other None = other
+kept other (Some p) = p.0.1
+
+abbrev left_over : Taken → List Token
+left_over None = []
+left_over (Some p) = p.1
+
+pub all_taken : (read : Option (Items × List Token)) (k : ℕ) (result : Result (List Step × List (List ℕ)) Refusal)
+    (r : List Token) → taken [] first_context read ≡ Some ((k, result), r)
+    → (ds : Items) × (read ≡ Some (ds, r)) × (length (list_of ds) ≡ k) × (steps_of [] first_context (list_of ds) ≡ result)
+all_taken None k result r e = absurd (cc)
+all_taken (Some p) k result r e =
+    (p.0, ap (λ rest. Some (p.0, rest)) (ap left_over e), omega (arith, ap counted e), ap (kept result) e)
+
+-- ---- what holds after each step
+
+pub record Keeps (steps : List Step) (context : Context) : Type 0 where
+  pub few_names : length context.names ≤ length steps
+  pub introduced : names_after_all 0 steps ≡ length context.names
+  pub names : names_fit 0 steps ≡ true
+  pub clock : moment_after_all 0 steps ≡ context.moment
+  pub moments : moments_fit 0 steps ≡ true
+
+pub keeps_more : (steps : List Step) (before after : Context) (step : Step) → Fits before step after → Keeps steps before
+    → Keeps (steps ++ step ∷ []) after
+keeps_more steps before after step fits kept =
+    let name : name_fits (names_after_all 0 steps) step ≡ true = rw kept.introduced fits.name in
+    let moment : moment_fits (moment_after_all 0 steps) step ≡ true = rw kept.clock fits.moment in
+    record {
+      few_names = omega (
+        arith,
+        length-append steps (step ∷ []),
+        fits.names,
+        kept.few_names,
+        names_after_at_most (length before.names) step,
+      );
+      introduced = rw (names_after_all_push 0 steps step, kept.introduced) (sym fits.names);
+      names = names_fit_push 0 steps step kept.names name;
+      clock = rw (moment_after_all_push 0 steps step, kept.clock) (sym fits.clock);
+      moments = moments_fit_push 0 steps step kept.moments moment;
+    }

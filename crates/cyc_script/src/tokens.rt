@@ -1,0 +1,199 @@
+//! A script, read straight from the tokens of its text.
+
+ghost use Rattle.std.specs.Prelude.{◌≡◌, ℕ, ◌<◌, ◌≤◌, ◌^◌, List, ◌∷◌, [], length, map, string_bytes};
+ghost use Rattle.std.specs.Prelude.{Some, Ok, IfOk, IfSome, OnOk, OnSome, IsTrue, codes};
+ghost use Rattle.json.specs.Token as token;
+ghost use Rattle.serde_json.specs.Data.{Data, Items};
+ghost use Rattle.serde_json.specs.Read.{read};
+ghost use Rattle.cyc_script.specs.Answers.{Gives};
+ghost use Rattle.cyc_script.specs.Limits.{most_steps, most_cpus};
+ghost use Rattle.cyc_script.specs.Parts.{data_of};
+ghost use Rattle.cyc_script.specs.Script.{content, content_of, number_between};
+ghost use Rattle.cyc_script.specs.Steps.{Fits, first_context, step_of, steps_of};
+ghost use Rattle.cyc_script.specs.Tokens.{Begins, BeginsItems, Heads, items_of_parts, step_data};
+ghost use Rattle.cyc_script.specs.WellFormed.{IsWellFormed};
+ghost use Rattle.cyc_script.specs.Words.{list_of};
+
+use crate::cause::Cause;
+use crate::context::Context;
+use crate::names::Names;
+use crate::part::Part;
+use crate::reader::{MOST_CPUS, MOST_STEPS, number_between};
+use crate::script::Script;
+use crate::step::Step;
+use crate::whole::whole;
+use crate::words;
+use cyc_types::Ceiling;
+use json::{Reader, Scratch, Token};
+use std::alloc::Global;
+
+/// The next part of a step, where it is a text or a whole number.
+fn next_part<'a>(reader: &mut Reader<'a>) -> Option<Part<'a>>
+    ensures value { IfSome result
+        (λ part. (depth : ℕ) → Begins depth reader.old (data_of part) reader.new) }
+    ensures shorter { OnSome result (length reader.new < length reader.old) }
+{
+    match reader.next()? {
+        Token::String(text) => Some(Part::Text(text)),
+        Token::Number(text) => Some(Part::Whole(whole(text)?)),
+        _ => None,
+    }
+}
+
+/// The parts of a step up to the bracket that closes it.
+fn read_parts<'a>(reader: &mut Reader<'a>, parts: &mut Vec<Part<'a>>) -> Result<(), Cause>
+    ensures value { OnOk result
+        (BeginsItems 124 reader.old (items_of_parts parts.new.items) reader.new) }
+    ensures shorter { OnOk result (length reader.new < length reader.old) }
+{
+    parts.clear();
+    while !reader.take_end_array() {
+        let Some(part) = next_part(reader) else {
+            return Err(Cause::Shape);
+        };
+        parts.push(part)?;
+    }
+    Ok(())
+}
+
+/// The next step.
+fn step<'a>(
+    alloc: Global,
+    reader: &mut Reader<'a>,
+    parts: &mut Vec<Part<'a>>,
+    context: &mut Context<'a>,
+) -> Result<Step, Cause>
+    requires { length context.old.names < 2 ^ 32 }
+    ensures value { OnOk result
+        (Begins 125 reader.old (step_data parts.new.items) reader.new) }
+    ensures reads { IfOk result
+        (λ step. step_of context.old (step_data parts.new.items) ≡ Ok (step, context.new)) }
+    ensures fits { IfOk result (λ step. Fits context.old step context.new) }
+    ensures shorter { OnOk result (length reader.new < length reader.old) }
+{
+    let Some(Token::BeginArray) = reader.next() else {
+        return Err(Cause::Shape);
+    };
+    read_parts(reader, parts)?;
+    words::read_step(alloc, context, parts.as_slice())
+}
+
+/// The steps up to the bracket that closes them, with the names that they introduce.
+fn steps(alloc: Global, reader: &mut Reader<'_>) -> Result<(Vec<Step>, Vec<String>), Cause>
+    ensures value { IfOk result (λ read. (ds : Items) × BeginsItems 125 reader.old ds reader.new
+        × (length (list_of ds) ≤ most_steps)
+        × (steps_of [] first_context (list_of ds)
+        ≡ Ok (read.0.items, map string_bytes read.1.items))) }
+    ensures well_formed { IfOk result (λ read. IsWellFormed read.0.items (length read.1.items)) }
+{
+    let mut steps = Vec::new(alloc);
+    let mut parts = Vec::new(alloc);
+    let mut context = Context {
+        names: Names::new(alloc),
+        moment: 0,
+    };
+    while !reader.take_end_array() {
+        if steps.len() == MOST_STEPS {
+            return Err(Cause::Shape);
+        }
+        let next = step(alloc, reader, &mut parts, &mut context)?;
+        steps.push(next)?;
+    }
+    Ok((steps, context.names.into_texts()))
+}
+
+/// The whole number at the next key, if it is this one.
+fn number_at(reader: &mut Reader<'_>, name: &str, most: u32) -> Option<u32>
+    ensures value { IfSome result (λ number. (d : Data) × (rest : List token.Token)
+        × (reader.old ≡ token.key name.now ∷ rest)
+        × ((depth : ℕ) → Begins depth rest d reader.new)
+        × (number_between 1 most d ≡ Some number)) }
+{
+    let Some(Token::Key(key)) = reader.next() else {
+        return None;
+    };
+    if key != name {
+        return None;
+    }
+    number_between(&next_part(reader)?, 1, most)
+}
+
+/// Takes the key of the steps and the bracket that opens them, if they are next.
+fn opens_steps(reader: &mut Reader<'_>) -> bool
+    ensures { IsTrue result
+        → reader.old ≡ token.key (codes "steps") ∷ token.begin_array ∷ reader.new }
+{
+    let Some(Token::Key(key)) = reader.next() else {
+        return false;
+    };
+    if key != "steps" {
+        return false;
+    }
+    matches!(reader.next(), Some(Token::BeginArray))
+}
+
+/// The CPUs and the ceiling of a script, up to the bracket that opens its steps.
+fn head(reader: &mut Reader<'_>) -> Option<(u32, Ceiling)>
+    ensures heads { IfSome result (λ head. Heads reader.old reader.new head.0 head.1) }
+    ensures range { IfSome result (λ head. (1 ≤ head.0) × (head.0 ≤ most_cpus)) }
+{
+    let Some(Token::BeginObject) = reader.next() else {
+        return None;
+    };
+    let cpus = number_at(reader, "cpus", MOST_CPUS)?;
+    let Some(Token::Key(key)) = reader.next() else {
+        return None;
+    };
+    if key == "ceiling" {
+        let calls = number_between(&next_part(reader)?, 1, u32::MAX)?;
+        let ceiling = Ceiling::new(calls)?;
+        if !opens_steps(reader) {
+            return None;
+        }
+        return Some((cpus, ceiling));
+    }
+    if key != "steps" {
+        return None;
+    }
+    let Some(Token::BeginArray) = reader.next() else {
+        return None;
+    };
+    Some((cpus, Ceiling::new(u32::MAX)?))
+}
+
+/// Whether the brace that closes the script is all that is left.
+fn is_over(reader: &mut Reader<'_>) -> bool
+    ensures { IsTrue result → reader.old ≡ token.end_object ∷ [] }
+{
+    matches!(reader.next(), Some(Token::EndObject)) && reader.next().is_none()
+}
+
+fn script_in(alloc: Global, reader: &mut Reader<'_>) -> Result<Script, Cause>
+    ensures { IfOk result (λ script. (d : Data) × Begins 127 reader.old d []
+        × (content_of d ≡ Ok (content script))) }
+{
+    let Some((cpus, ceiling)) = head(reader) else {
+        return Err(Cause::Shape);
+    };
+    let (steps, names) = steps(alloc, reader)?;
+    if !is_over(reader) {
+        return Err(Cause::Shape);
+    }
+    Ok(Script {
+        cpus,
+        ceiling,
+        names,
+        steps,
+    })
+}
+
+/// The script of a text that is written as most are: the CPUs, the ceiling if it has one, and the steps, with no other
+/// value than the texts and whole numbers of steps. Else an error, of memory alone where memory is refused.
+pub(crate) fn script(alloc: Global, text: &str) -> Result<Script, Cause>
+    ensures { IfOk result (λ script. (d : Data) × (read text.now ≡ Some d)
+        × (content_of d ≡ Ok (content script))) }
+{
+    let mut scratch = Scratch::new(alloc);
+    let mut reader = Reader::new(text, &mut scratch)?;
+    script_in(alloc, &mut reader)
+}
