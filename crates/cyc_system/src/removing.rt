@@ -34,6 +34,6 @@ impl<R: Raise> System<R> {
     pub fn totals(&mut self, id: CyclicId) -> Option<SystemTotals>
         ensures { Changes R.Raise self.old (AskTotals id result) self.new }
     {
-        cyc_agreement::system_totals(&mut self.cpus, &self.records, id)
+        cyc_agreement::agreed_totals(&mut self.cpus, &self.records, id)
     }
 }
