@@ -82,7 +82,8 @@ with_ceiling ts more inside cpus ceiling d c begins between next calls = λ ds r
 -- ---- the script
 
 pub content_made : (d : Data) (cpus ceiling : ℕ) (values : List Data) (steps : List Step) (names : List (List ℕ))
-    → has_keys d ≡ true → cpus_of d ≡ Some cpus → ceiling_of d ≡ Some ceiling → values_of d ≡ within_limit values → length values ≤ most_steps
+    → has_keys d ≡ true → cpus_of d ≡ Some cpus
+    → ceiling_of d ≡ Some ceiling → values_of d ≡ within_limit values → length values ≤ most_steps
     → steps_of [] first_context values ≡ Ok (steps, names)
     → content_of d ≡ Ok (record { cpus = cpus; ceiling = ceiling; names = names; steps = steps })
 unfolding content_of

@@ -1,5 +1,6 @@
 -- The numbers of names after one more was introduced.
-use Rattle.std.proofs.Common.{◌≡◌, ℕ, ◌+◌, ◌≤◌, ◌++◌, ◌∷◌, [], List, Bool, true, false, cond, ltb, eqb, length, Some, None, refl}
+use Rattle.std.proofs.Common.{◌≡◌, ℕ, ◌+◌, ◌<◌, ◌≤◌, ◌++◌, ◌∷◌, [], List, Bool, true, false, cond, ltb, eqb}
+use Rattle.std.proofs.Common.{length, get_or, Some, None, refl}
 use Rattle.std.proofs.Common.{sym, ◌∙◌, subst, arith}
 use Rattle.std.specs.Prelude.{bytes_eq, is_some}
 use Rattle.std.specs.List.{position_or_len}
@@ -8,8 +9,9 @@ use Rattle.std.proofs.lemmas.Bool.Decides.{nat_tests}
 use Rattle.std.proofs.lemmas.List.Folds.{position_or_len_push}
 use Rattle.std.proofs.lemmas.List.Sums.{prefix_len-le-length}
 use Rattle.std.proofs.lemmas.Slice.Eq.{bytes_eq-Decides}
-use Rattle.std.proofs.Math.ListN.{length-append}
-use Rattle.cyc_script.specs.Names.{number_of}
+use Rattle.std.proofs.Math.ListN.{length-append, get_or-append}
+use Rattle.std.proofs.Math.Seq.{get_or-append_seam}
+use Rattle.cyc_script.specs.Names.{IsNumbered, number_of}
 
 -- where the first passing element of a list stands, once one more is at its end
 at_end : (b : Bool) (a n m : ℕ) → a ≤ n → m ≡ n + 1
@@ -49,3 +51,42 @@ number_of_introduced q t names none = by_test (bytes_eq t q) refl where
       let other : bytes_eq q t ≡ false = false_from_ne_true _
       (λ y. absurd (grind (arith, (bytes_eq-Decides q t).0 y, (bytes_eq-Decides t q).1))) in
       number_of_push q t names ∙ rw other refl
+
+-- ---- each name has its own place as its number
+
+pub none_numbered : IsNumbered []
+none_numbered i below = absurd (omega (arith, below))
+
+known_is_old : (t q : List ℕ) (names : List (List ℕ)) (n : ℕ) → is_some (number_of t names) ≡ false
+    → number_of q names ≡ Some n → bytes_eq t q ≡ false
+known_is_old t q names n none known = by_test (bytes_eq t q) refl where
+  by_test : (b : Bool) → bytes_eq t q ≡ b → b ≡ false
+  by_test true e =
+      let same : t ≡ q = (bytes_eq-Decides t q).0 e in
+      let unknown : is_some (number_of q names) ≡ false = subst
+      (λ (x : List ℕ). is_some (number_of x names) ≡ false) same none in
+      absurd (grind (arith, unknown, known))
+  by_test false e = refl
+
+pub numbered_introduced : (t : List ℕ) (names : List (List ℕ)) → is_some (number_of t names) ≡ false → IsNumbered names
+    → IsNumbered (names ++ t ∷ [])
+numbered_introduced t names none are = λ i below. by_test i below (ltb i (length names)) refl where
+  before : (i : ℕ) → i < length names → number_of (get_or (names ++ t ∷ []) i []) (names ++ t ∷ []) ≡ Some i
+  before i h =
+      let known = are i h in
+      let other = known_is_old t (get_or names i []) names i none known in
+      rw (get_or-append names (t ∷ []) [] i h) (number_of_introduced (get_or names i []) t names none ∙ rw other known)
+
+  last : number_of (get_or (names ++ t ∷ []) (length names) []) (names ++ t ∷ []) ≡ Some (length names)
+  last =
+      let itself : bytes_eq t t ≡ true = (bytes_eq-Decides t t).1 refl in
+      rw (get_or-append_seam names t [] []) (number_of_introduced t t names none ∙ rw itself refl)
+
+  by_test : (i : ℕ) → i < length (names ++ t ∷ []) → (b : Bool) → ltb i (length names) ≡ b
+      → number_of (get_or (names ++ t ∷ []) i []) (names ++ t ∷ []) ≡ Some i
+  by_test i below true e = before i (grind (arith, nat_tests))
+  by_test i below false e =
+      let longer = length-append names (t ∷ []) in
+      let far : length names ≤ i = grind (arith, nat_tests) in
+      let is : length names ≡ i = omega (arith, below, longer, far) in
+      subst (λ k. number_of (get_or (names ++ t ∷ []) k []) (names ++ t ∷ []) ≡ Some k) is last

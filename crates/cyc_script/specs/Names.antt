@@ -1,5 +1,5 @@
 -- The names that a script's steps introduce, and their numbers (our own format).
-use Rattle.std.specs.Prelude.{◌≡◌, ℕ, List, [], ◌∷◌, ◌++◌, length, All, true, Option, is_some, ok_or, position}
+use Rattle.std.specs.Prelude.{◌≡◌, ℕ, ◌<◌, List, [], ◌∷◌, ◌++◌, length, get_or, All, true, Option, Some, is_some, ok_or, position}
 use Rattle.std.specs.Prelude.{Result, Ok, Err, bytes_eq, if◌then◌else◌}
 use Rattle.std.specs.List.{AllPairs}
 use Rattle.cyc_script.specs.declared.cause.Cause.{Cause}
@@ -17,6 +17,10 @@ introduced text names = if is_some (number_of text names) then Err NameTwice els
 -- the number of a name that was introduced before
 abbrev pub referred : List ℕ → List (List ℕ) → Result ℕ Cause
 referred text names = ok_or (number_of text names) NoName
+
+-- each name has its own place as its number, so no two are equal
+abbrev pub IsNumbered : List (List ℕ) → Type 0
+IsNumbered names = (i : ℕ) → i < length names → number_of (get_or names i []) names ≡ Some i
 
 -- the names of a script: each has 1 to 32 bytes of those that a name may have, and no two are equal
 pub record AreNames (names : List (List ℕ)) : Type 0 where

@@ -1,6 +1,6 @@
 //! The names that a script's steps introduced.
 
-ghost use Rattle.std.specs.Prelude.{◌≡◌, ℕ, ◌<◌, ◌^◌, [], length, map, string_bytes};
+ghost use Rattle.std.specs.Prelude.{◌≡◌, ℕ, ◌<◌, ◌^◌, [], length, map, string_bytes, Some, IfSome};
 
 use crate::cause::Cause;
 use crate::name::Name;
@@ -8,11 +8,27 @@ use std::alloc::Global;
 use std::collections::BTreeMap;
 use std::marker::Model;
 
-/// The names introduced so far, in order, and the number of each.
+/// How many places there are for the numbers of recent names.
+const PLACES: usize = 1024;
+
+/// The names introduced so far, in order, and the number of each. A name that was introduced of late is most often found
+/// by one comparison, at the place of its text in `recent`; what stands there may be any number.
 #[derive(Drop)]
 pub(crate) struct Names<'a> {
     texts: Vec<String>,
     numbers: BTreeMap<&'a str, u32>,
+    recent: [u32; PLACES],
+}
+
+/// The place of a text among the recent names.
+fn place_of(text: &str) -> usize
+    ensures { result < 1024 }
+{
+    let mut sum: u32 = 0;
+    for byte in text.as_bytes() {
+        sum = sum.wrapping_mul(31).wrapping_add(u32::from(*byte));
+    }
+    sum as usize % PLACES
 }
 
 impl<'a> Model for Names<'a> {
@@ -20,19 +36,19 @@ impl<'a> Model for Names<'a> {
     ghost use Rattle.std.specs.Ordering.{nat_cmp};
     ghost use Rattle.std.specs.Cmp.Lexicographic.{slice_cmp};
     ghost use Rattle.std.specs.BTreeMap.{get_by};
-    ghost use Rattle.cyc_script.specs.Names.{number_of};
+    ghost use Rattle.cyc_script.specs.Names.{IsNumbered, number_of};
 
     ghost Value = { List (List ℕ) };
 
     ghost view = { λ a. map string_bytes a.texts.items };
 
-    ghost invariant = { λ a. (q : List ℕ) → get_by (λ k. slice_cmp nat_cmp q k.now) a.numbers
-        ≡ number_of q (map string_bytes a.texts.items) };
+    ghost invariant = { λ a. ((q : List ℕ) → get_by (λ k. slice_cmp nat_cmp q k.now) a.numbers
+        ≡ number_of q (map string_bytes a.texts.items)) × IsNumbered (map string_bytes a.texts.items) };
 }
 
 impl<'a> Names<'a> {
     ghost use Rattle.cyc_script.specs.Answers.{Gives};
-    ghost use Rattle.cyc_script.specs.Names.{introduced, referred};
+    ghost use Rattle.cyc_script.specs.Names.{introduced, number_of, referred};
 
     /// No names.
     pub(crate) fn new(alloc: Global) -> Names<'a>
@@ -41,13 +57,29 @@ impl<'a> Names<'a> {
         Names {
             texts: Vec::new(alloc),
             numbers: BTreeMap::new(alloc),
+            recent: [0; PLACES],
         }
+    }
+
+    /// The number of a name, where it stands at the place of its text.
+    fn recent_number(&self, text: &str) -> Option<u32>
+        ensures { IfSome result (λ number. number_of text.now self.now ≡ Some number) }
+    {
+        let number = self.recent[place_of(text)];
+        let at = number as usize;
+        if at < self.texts.len() && self.texts[at].as_str() == text {
+            return Some(number);
+        }
+        None
     }
 
     /// The number of a name that was introduced.
     pub(crate) fn number(&self, text: &str) -> Result<Name, Cause>
         ensures { result ≡ referred text.now self.now }
     {
+        if let Some(number) = self.recent_number(text) {
+            return Ok(Name::new(number));
+        }
         match self.numbers.get(text) {
             Some(number) => Ok(Name::new(*number)),
             None => Err(Cause::NoName),
@@ -65,7 +97,10 @@ impl<'a> Names<'a> {
         let number = self.texts.len() as u32;
         self.texts.push(String::from_str(alloc, text)?)?;
         match self.numbers.insert(text, number) {
-            Ok(_) => Ok(Name::new(number)),
+            Ok(_) => {
+                self.recent[place_of(text)] = number;
+                Ok(Name::new(number))
+            }
             Err(_) => {
                 self.texts.pop();
                 Err(Cause::Memory)
