@@ -28,7 +28,7 @@ fn place_of(text: &str) -> usize
     for byte in text.as_bytes() {
         sum = sum.wrapping_mul(31).wrapping_add(u32::from(*byte));
     }
-    sum as usize % PLACES
+    (sum.wrapping_mul(2_654_435_761) >> 16) as usize % PLACES
 }
 
 impl<'a> Model for Names<'a> {
