@@ -1,19 +1,23 @@
 -- What an edit of the boxes does to the list of records in them, and that it keeps what is true of the records.
-use Rattle.std.proofs.Common.{Box, Global, ◌≡◌, ℕ, zero, suc, ◌<◌, ◌≤◌, ◌⊎◌, inl, inr, List, [], ◌∷◌}
+use Rattle.std.proofs.Common.{Box, Global, ◌≡◌, ◌≢◌, ℕ, zero, suc, ◌<◌, ◌≤◌, ◌⊎◌, inl, inr, List, [], ◌∷◌}
 use Rattle.std.proofs.Common.{◌++◌, map, length, take, drop, get_or, set, Some, None, refl, sym, ap, ◌∙◌, subst, arith}
-use Rattle.std.specs.List.{slice_get, remove}
+use Rattle.std.specs.List.{All, slice_get, remove}
 use Rattle.std.specs.Option.{option_map}
-use Rattle.std.proofs.lemmas.List.{length-map, map-set, map-append, take-map, drop-map, get_or-map}
-use Rattle.std.proofs.lemmas.Option.{slice_get-map, slice_get-get_or, slice_get_cases, slice_get_read, same_Some, none-some}
+use Rattle.std.proofs.lemmas.List.{length-map, map-set, map-append, take-map, drop-map, get_or-map, set-get_or}
+use Rattle.std.proofs.lemmas.Option.{slice_get-map, slice_get_cases, slice_get_read, slice_get_within, same_Some, none-some}
+use Rattle.std.proofs.lemmas.Option.{get_or_from_slice_get}
 use Rattle.cyc_types.specs.declared.firing.Sent.{Sent}
 use Rattle.cyc_places.specs.declared.record.Record.{Record}
-use Rattle.cyc_finder.specs.Sorted.{Rises, IsAt, IsGap}
-use Rattle.cyc_finder.proofs.RisingIds.{stands}
+use Rattle.cyc_finder.specs.Sorted.{Rises, IsAt}
 use Rattle.cyc_places.specs.Places.{IsRecord, HasNoRecord, HasRisingIds, HaveCounts, HaveAllCounts, AreCounts}
 
 -- the record in a box
 abbrev pub value : Box Record Global → Record
 value kept = kept.value
+
+-- its id
+abbrev pub id_in : Box Record Global → ℕ
+id_in kept = kept.value.id
 
 module _ (kept : List (Box Record Global)) (place : ℕ) where
   -- it is that at the box's place
@@ -23,10 +27,28 @@ module _ (kept : List (Box Record Global)) (place : ℕ) where
       let l = length-map kept value in let low : place < length kept = omega (arith, l, here) in
       slice_get-map value kept place ∙ ap (option_map value) (slice_get_read kept (length kept) place x refl low at)
 
-  pub map_removed : map value (remove kept place) ≡ remove (map value kept) place
-  map_removed = map-append value (take place kept) (drop (suc place) kept)
-      ∙ ap (λ xs. xs ++ map value (drop (suc place) kept)) (sym (take-map value place kept))
-      ∙ ap (λ xs. take place (map value kept) ++ xs) (sym (drop-map value (suc place) kept))
+-- what is read of the boxes after one was taken out
+pub map_removed : {A : Type 0} (f : Box Record Global → A) (kept : List (Box Record Global)) (place : ℕ)
+    → map f (remove kept place) ≡ remove (map f kept) place
+map_removed f kept place = map-append f (take place kept) (drop (suc place) kept)
+    ∙ ap (λ xs. xs ++ map f (drop (suc place) kept)) (sym (take-map f place kept))
+    ∙ ap (λ xs. take place (map f kept) ++ xs) (sym (drop-map f (suc place) kept))
+
+-- an id that is read is that of the record at its place
+module _ (kept : List (Box Record Global)) where
+  read : (k d : ℕ) → k < length (map id_in kept)
+      → (r : Record) × IsRecord (map value kept) k r × (r.id ≡ get_or (map id_in kept) k d)
+  read k d low = by (slice_get_cases kept k).1
+    where
+      by : ((x : Box Record Global) × (k < length kept) × (slice_get kept k ≡ Some x) × (get_or kept k x ≡ x))
+          ⊎ ((length kept ≤ k) × (slice_get kept k ≡ None))
+          → (r : Record) × IsRecord (map value kept) k r × (r.id ≡ get_or (map id_in kept) k d)
+      by (inl (x, within, is, at)) = (
+        x.value,
+        slice_get-map value kept k ∙ ap (option_map value) is,
+        sym (get_or-map id_in kept k x d within ∙ ap id_in at),
+      )
+      by (inr (past, none)) = let l = length-map kept id_in in absurd (omega (arith, l, past, low))
 
 -- where a record comes from after another was written
 set_either : (rs : List Record) (k : ℕ) (x : Record) (i : ℕ) (r : Record) → slice_get (set rs k x) i ≡ Some r
@@ -133,30 +155,34 @@ module _ (kept : List (Box Record Global)) (place : ℕ) (x y : Box Record Globa
   box_all long h =
       subst HaveAllCounts (sym (map-set value kept place y)) (all_written (map value kept) place x.value y.value at same long h)
 
--- a look-up among the boxes by halves
-abbrev pub id_in : Box Record Global → ℕ
-id_in b = b.value.id
+  -- the ids stay
+  pub box_ids : (ids : List ℕ) → ids ≡ map id_in kept → ids ≡ map id_in (set kept place y)
+  box_ids ids e =
+      let l = length-map kept value in let m = length-map kept id_in in
+      let n = slice_get_within (map value kept) place x.value at in
+      let (r, is, g) = read kept place 0 (omega (arith, l, m, n)) in
+      let it : y.value.id ≡ get_or (map id_in kept) place 0
+      = same ∙ ap (λ (q : Record). q.id) (same_Some x.value r (sym at ∙ is)) ∙ g in
+      e ∙ sym (set-get_or (map id_in kept) place 0) ∙ ap (set (map id_in kept) place) (sym it) ∙ sym (map-set id_in kept place y)
+
+-- a look-up among the ids by halves
+abbrev pub number : ℕ → ℕ
+number n = n
 
 module _ (kept : List (Box Record Global)) where
-  pub boxes_rise : HasRisingIds (map value kept) → Rises id_in kept
-  boxes_rise h i j d less low =
-      let read : (k : ℕ) → k < length kept → IsRecord (map value kept) k (get_or kept k d).value
-      = λ k within. slice_get-map value kept k ∙ ap (option_map value) (slice_get-get_or kept k d within) in
-      h i j (get_or kept i d).value (get_or kept j d).value less (read i (omega (arith, less, low))) (read j low)
+  pub ids_rise : HasRisingIds (map value kept) → Rises number (map id_in kept)
+  ids_rise h i j d less low =
+      let (r, a, e) = read kept i d (omega (arith, less, low)) in let (s, b, f) = read kept j d low in
+      let l = h i j r s less a b in omega (arith, l, e, f)
 
-  pub found_record : (id place : ℕ) → IsAt id_in kept id place → (r : Record) × IsRecord (map value kept) place r × (r.id ≡ id)
-  found_record id place at = by (stands id_in kept id place at)
-    where
-      by : (x : Box Record Global) × (slice_get kept place ≡ Some x) × (x.value.id ≡ id)
-          → (r : Record) × IsRecord (map value kept) place r × (r.id ≡ id)
-      by (x, is, same) = (x.value, slice_get-map value kept place ∙ ap (option_map value) is, same)
+  pub found_record : (id place : ℕ) → IsAt number (map id_in kept) id place
+      → (r : Record) × IsRecord (map value kept) place r × (r.id ≡ id)
+  found_record id place at = let (r, is, e) = read kept place id at.in_range in (r, is, e ∙ at.has_id id)
 
-  pub no_record : (id place : ℕ) → IsGap id_in kept id place → HasNoRecord id (map value kept)
-  no_record id place gap k d low same = by (slice_get_cases kept k).1
-    where
-      by : ((x : Box Record Global) × (k < length kept) × (slice_get kept k ≡ Some x) × (get_or kept k x ≡ x))
-          ⊎ ((length kept ≤ k) × (slice_get kept k ≡ None)) → ⊥
-      by (inl (x, within, is, at)) =
-          let e : (get_or kept k x).value.id ≡ id = sym (ap (λ (r : Record). r.id) (get_or-map value kept k x d within)) ∙ same in
-          let before = gap.smaller_before k x in let behind = gap.greater_after k x in grind (arith, before, behind, e, within)
-      by (inr (past, none)) = let l = length-map kept value in omega (arith, l, past, low)
+  pub no_record : (id : ℕ) → All (λ n. n ≢ id) (map id_in kept) → HasNoRecord id (map value kept)
+  no_record id none k d low same =
+      let l = length-map kept value in let m = length-map kept id_in in
+      let within : k < length (map id_in kept) = omega (arith, l, m, low) in
+      let (r, is, e) = read kept k id within in
+      let at = ap (λ (q : Record). q.id) (get_or_from_slice_get (map value kept) k r d is) in
+      none k id within (sym e ∙ sym at ∙ same)

@@ -1,8 +1,9 @@
 //! The records by rising id.
 
-ghost use Rattle.std.specs.Prelude.{◌≡◌, ℕ, ◌+◌, ◌<◌, ◌≤◌, ◌^◌, ◌++◌, ◌∷◌, [], All, length, slice_set, remove, Some, None, OnOk};
-ghost use Rattle.std.specs.Prelude.{OnErr, IfErr, IfNone, IfSome};
+ghost use Rattle.std.specs.Prelude.{◌≡◌, ◌≢◌, ℕ, ◌+◌, ◌<◌, ◌≤◌, ◌^◌, ◌++◌, ◌∷◌, [], All, length, slice_set, remove};
+ghost use Rattle.std.specs.Prelude.{Some, None, OnOk, OnErr, IfErr, IfNone, IfSome};
 ghost use Rattle.std.specs.List.{slice_get};
+ghost use Rattle.cyc_finder.specs.Sorted.{Rises, IsAt};
 ghost use Rattle.cyc_types.specs.declared.refusal.Refusal.TheVariants.{Memory};
 ghost use Rattle.cyc_types.specs.Counting.{no_counts};
 ghost use Rattle.cyc_places.specs.Places.{RecordsView, IsRecord, HasNoRecord, new_record, with_place, with_ended, ended_on};
@@ -17,17 +18,20 @@ use std::marker::Model;
 /// The records by rising id. A look-up takes O(log n), and nothing but `reserve` takes memory.
 ///
 /// Each record stands in a box of its own, so that a removal moves the boxes between it and the nearer end and no record. The
+/// ids stand in a list of their own too, in at most two runs, one of which a look-up halves over, so that it follows no box. The
 /// box of a record that goes is kept for the next one.
 #[derive(Drop)]
 pub struct Records {
     list: VecDeque<Box<Record>>,
-    // Where there is one, the list has room for it.
+    // The numbers of their ids, in the same order.
+    ids: VecDeque<u64>,
+    // Where there is one, both lists have room for it.
     spare: Option<Box<Record>>,
     alloc: Global,
 }
 
 impl Model for Records {
-    ghost use Rattle.std.specs.Prelude.{◌<◌, ◌+◌, length, map, cond, is_some, IsSome};
+    ghost use Rattle.std.specs.Prelude.{◌<◌, ◌+◌, ◌≡◌, length, map, cond, is_some, IsSome};
     ghost use Rattle.std.specs.VecDeque.{deque_len, deque_capacity};
     ghost use Rattle.cyc_places.specs.Places.{RecordsView, HasRisingIds, HaveCounts, HaveAllCounts};
 
@@ -40,7 +44,26 @@ impl Model for Records {
 
     ghost invariant = { λ r. HasRisingIds (map (λ kept. kept.value) r.list.items)
         × HaveCounts (map (λ kept. kept.value) r.list.items)
-        × HaveAllCounts (map (λ kept. kept.value) r.list.items) × (IsSome r.spare → deque_len r.list < deque_capacity r.list) };
+        × HaveAllCounts (map (λ kept. kept.value) r.list.items) × (IsSome r.spare → deque_len r.list < deque_capacity r.list)
+        × (r.ids.items ≡ map (λ kept. kept.value.id) r.list.items)
+        × (IsSome r.spare → deque_len r.ids < deque_capacity r.ids) };
+}
+
+// The place of a number among those of the front and then those of the back, which rise. None where it is in neither.
+fn find_in(front: &[u64], back: &[u64], number: u64) -> Option<usize>
+    requires rises { Rises (λ n. n) (front.now ++ back.now) }
+    requires countable { length front.now + length back.now < 2 ^ 64 }
+    ensures none { IfNone result (All (λ n. n ≢ number) (front.now ++ back.now)) }
+    ensures some { IfSome result (IsAt (λ n. n) (front.now ++ back.now) number) }
+{
+    let (part, before) = match back.first() {
+        Some(first) if *first <= number => (back, front.len()),
+        _ => (front, 0),
+    };
+    match part.binary_search(&number) {
+        Ok(place) => Some(before + place),
+        Err(_) => None,
+    }
 }
 
 impl Records {
@@ -50,6 +73,7 @@ impl Records {
     {
         Records {
             list: VecDeque::new(alloc),
+            ids: VecDeque::new(alloc),
             spare: None,
             alloc,
         }
@@ -62,6 +86,7 @@ impl Records {
         ensures err { IfErr result (λ refusal. refusal ≡ Memory) }
     {
         self.list.reserve(1)?;
+        self.ids.reserve(1)?;
         if self.spare.is_none() {
             self.spare = Some(Box::new(self.alloc, Record::VACANT)?);
         }
@@ -84,6 +109,7 @@ impl Records {
             ended: [Sent { sent: 0, lost: 0 }; CPUS],
         };
         self.list.push_back_reserved(kept);
+        self.ids.push_back_reserved(id.number());
     }
 
     /// How many records there are.
@@ -98,10 +124,8 @@ impl Records {
         ensures none { IfNone result (HasNoRecord id self.now.list) }
         ensures some { IfSome result (λ k. (r : Record) × IsRecord self.now.list k r × (r.id ≡ id)) }
     {
-        let number = id.number();
-        self.list
-            .binary_search_by_key(&number, |kept| kept.id.number())
-            .ok()
+        let (front, back) = self.ids.as_slices();
+        find_in(front, back, id.number())
     }
 
     /// The record at a place.
@@ -154,12 +178,14 @@ impl Records {
         counts
     }
 
-    /// The removal of the cyclic has answered: its record goes. It moves 8 bytes for each record between it and the nearer end.
+    /// The removal of the cyclic has answered: its record goes. It moves 16 bytes for each record between it and the nearer
+    /// end: 8 of its box and 8 of its id.
     pub fn remove(&mut self, place: usize)
         requires { place < length self.old.list }
         ensures { self.new.list ≡ remove self.old.list place }
     {
         self.spare = self.list.remove(place);
+        self.ids.remove(place);
     }
 
     /// The receipt of a cyclic all of whose stays have ended: the counts of all of them.

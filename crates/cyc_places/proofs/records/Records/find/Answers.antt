@@ -1,41 +1,38 @@
-use Rattle.std.proofs.Common.{◌≡◌, ℕ, map, Result, Ok, Err, IfOk, IfErr, IfSome, IfNone, subst, rules}
-use Rattle.std.specs.Result.{result_ok}
-use Rattle.std.specs.List.Sorted.{IsSearchInRange}
-use Rattle.std.proofs.lemmas.List.Sorted.{answers_always}
-use Rattle.cyc_finder.specs.Sorted.{IsAt, IsGap}
-use Rattle.cyc_finder.proofs.RisingIds.{searched}
+use Rattle.std.proofs.Common.{◌≡◌, ◌≢◌, ◌∙◌, ℕ, map, Option, Some, None, IfSome, IfNone, sym, subst}
+use Rattle.std.specs.List.{All}
+use Rattle.cyc_finder.specs.Sorted.{Rises, IsAt}
 use Rattle.cyc_places.specs.declared.record.Record.{Record}
 use Rattle.cyc_places.specs.Places.{RecordsView, IsRecord, HasNoRecord}
-use Rattle.cyc_places.proofs.Edits.{value, id_in, boxes_rise, found_record, no_record}
+use Rattle.cyc_places.proofs.Edits.{value, number, ids_rise, found_record, no_record}
 use Rattle.cyc_places.proofs.records.Records.find.Goals as goal
 
-when_found : (r : Result ℕ ℕ) (P Q : ℕ → Type 0) → IfOk r P → ((k : ℕ) → P k → Q k) → IfSome (result_ok r) Q
-when_found (Ok k) P Q is to = to k is
-when_found (Err k) P Q is to = tt
+when_found : (r : Option ℕ) (P Q : ℕ → Type 0) → IfSome r P → ((k : ℕ) → P k → Q k) → IfSome r Q
+when_found (Some k) P Q is to = to k is
+when_found None P Q is to = tt
 
-when_absent : (r : Result ℕ ℕ) (P : ℕ → Type 0) (Q : Type 0) → IfErr r P → ((k : ℕ) → P k → Q) → IfNone (result_ok r) Q
-when_absent (Ok k) P Q is to = tt
-when_absent (Err k) P Q is to = to k is
+when_absent : (r : Option ℕ) (P Q : Type 0) → IfNone r P → (P → Q) → IfNone r Q
+when_absent (Some k) P Q is to = tt
+when_absent None P Q is to = to is
+
+pub find_in-requires-clause-rises : goal.find_in-requires-clause-rises
+find_in-requires-clause-rises c =
+    subst (Rises number) (sym (c.as_slices.ensures.items ∙ c.self.invariant.4))
+    (ids_rise c.self.inside.list.items c.self.invariant.0)
 
 pub returns-clause-none : goal.returns-clause-none
 returns-clause-none c =
-    let kept = c.self.inside.list.items in let facts = c.binary_search_by_key.ensures in
-    let by_key = facts.position id_in (answers_always _ _ _ (λ f a r g called. search rules)) in
-    let bound = subst (λ n. IsSearchInRange c.binary_search_by_key.result n) c.self.inside.list.ok.0 facts.bound in
-    let told = (searched id_in kept (boxes_rise kept c.self.invariant.0) c.number-number.result c.binary_search_by_key.result
-    bound by_key).absent in
-    rw c.ok.ensures.value (when_absent c.binary_search_by_key.result (IsGap id_in kept c.number-number.result) _ told
-    (λ k gap. subst (λ (v : RecordsView). HasNoRecord c.args.id v.list) c.self.view_is
-    (subst (λ id. HasNoRecord id (map value kept)) c.number-number.ensures.value (no_record kept c.number-number.result k gap))))
+    let kept = c.self.inside.list.items in let id = c.number.result in
+    let are = c.as_slices.ensures.items ∙ c.self.invariant.4 in
+    when_absent c.find_in.result _ _ c.find_in.ensures.none
+    (λ none. subst (λ (v : RecordsView). HasNoRecord c.args.id v.list) c.self.view_is
+    (subst (λ id. HasNoRecord id (map value kept)) c.number.ensures.value
+    (no_record kept id (subst (All (λ n. n ≢ id)) are none))))
 
 pub returns-clause-some : goal.returns-clause-some
 returns-clause-some c =
-    let kept = c.self.inside.list.items in let facts = c.binary_search_by_key.ensures in
-    let by_key = facts.position id_in (answers_always _ _ _ (λ f a r g called. search rules)) in
-    let bound = subst (λ n. IsSearchInRange c.binary_search_by_key.result n) c.self.inside.list.ok.0 facts.bound in
-    let told = (searched id_in kept (boxes_rise kept c.self.invariant.0) c.number-number.result c.binary_search_by_key.result
-    bound by_key).found in
-    rw c.ok.ensures.value (when_found c.binary_search_by_key.result (IsAt id_in kept c.number-number.result) _ told
+    let kept = c.self.inside.list.items in let id = c.number.result in
+    let are = c.as_slices.ensures.items ∙ c.self.invariant.4 in
+    when_found c.find_in.result _ _ c.find_in.ensures.some
     (λ k at. subst (λ (v : RecordsView). (r : Record) × IsRecord v.list k r × (r.id ≡ c.args.id)) c.self.view_is
-    (subst (λ (id : ℕ). (r : Record) × IsRecord (map value kept) k r × (r.id ≡ id)) c.number-number.ensures.value
-    (found_record kept c.number-number.result k at))))
+    (subst (λ (id : ℕ). (r : Record) × IsRecord (map value kept) k r × (r.id ≡ id)) c.number.ensures.value
+    (found_record kept id k (subst (λ xs. IsAt number xs id k) are at))))

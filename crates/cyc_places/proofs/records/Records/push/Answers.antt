@@ -4,7 +4,7 @@ use Rattle.std.proofs.lemmas.List.{map_push}
 use Rattle.cyc_places.specs.declared.record.Record.{Record}
 use Rattle.cyc_places.specs.Places.{RecordsView, HasRisingIds, HaveCounts, HaveAllCounts, new_record}
 use Rattle.cyc_places.proofs.Counts.{rises_pushed, counts_pushed, all_pushed}
-use Rattle.cyc_places.proofs.Edits.{value}
+use Rattle.cyc_places.proofs.Edits.{value, id_in}
 use Rattle.cyc_places.proofs.records.Records.push.Goals as goal
 
 pub invariant_of-self : goal.invariant_of-self
@@ -19,5 +19,10 @@ invariant_of-self c =
       subst HasRisingIds (sym items) (rises_pushed rs c.args.id c.args.level c.args.place last c.self.invariant.0),
       subst HaveCounts (sym items) (counts_pushed rs c.args.id c.args.level c.args.place last c.self.invariant.1),
       subst HaveAllCounts (sym items) (all_pushed rs c.args.id c.args.level c.args.place last c.self.invariant.2),
+      λ there. absurd (let h = subst IsSome c.take.ensures.after there in cc),
+      c.push_back_reserved-2.ensures.items ∙ ap (λ ids. ids ++ c.number.result ∷ []) c.self.invariant.4
+          ∙ ap (λ (id : ℕ). map id_in c.self.inside.list.items ++ id ∷ []) c.number.ensures.value
+          ∙ sym (ap (map id_in) c.push_back_reserved.ensures.items
+          ∙ map_push id_in c.self.inside.list.items (with_value c.in-Some.kept new)),
       λ there. absurd (let h = subst IsSome c.take.ensures.after there in cc),
     )

@@ -4,7 +4,7 @@ use Rattle.std.proofs.lemmas.List.{map-set}
 use Rattle.std.proofs.lemmas.Option.{same_Some}
 use Rattle.cyc_places.specs.declared.record.Record.{Record}
 use Rattle.cyc_places.specs.Places.{RecordsView, IsRecord, AreCounts, with_place}
-use Rattle.cyc_places.proofs.Edits.{value, at_place, box_rises, box_counts, box_all}
+use Rattle.cyc_places.proofs.Edits.{value, at_place, box_rises, box_counts, box_all, box_ids}
 use Rattle.cyc_places.proofs.records.Records.set_place.Goals as goal
 
 pub invariant_of-self : goal.invariant_of-self
@@ -21,6 +21,8 @@ invariant_of-self c =
       box_counts kept c.args.place x y at same fit c.self.invariant.1,
       box_all kept c.args.place x y at same long c.self.invariant.2,
       c.self.invariant.3,
+      box_ids kept c.args.place x y at same c.self.inside.ids.items c.self.invariant.4,
+      c.self.invariant.5,
     )
 
 pub returns : goal.returns

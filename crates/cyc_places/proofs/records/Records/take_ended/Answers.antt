@@ -5,7 +5,7 @@ use Rattle.std.proofs.lemmas.Option.{same_Some}
 use Rattle.cyc_types.specs.Counting.{no_counts}
 use Rattle.cyc_places.specs.declared.record.Record.{Record}
 use Rattle.cyc_places.specs.Places.{RecordsView, IsRecord, AreCounts, with_ended, ended_on}
-use Rattle.cyc_places.proofs.Edits.{value, at_place, counts_set, box_rises, box_counts, box_all}
+use Rattle.cyc_places.proofs.Edits.{value, at_place, counts_set, box_rises, box_counts, box_all, box_ids}
 use Rattle.cyc_places.proofs.records.Records.take_ended.Goals as goal
 
 pub invariant_of-self : goal.invariant_of-self
@@ -22,6 +22,8 @@ invariant_of-self c =
       box_counts kept c.args.place x y at same (counts_set d.ended c.args.cpu no_counts (omega arith) fit) c.self.invariant.1,
       box_all kept c.args.place x y at same (length-set d.ended c.args.cpu no_counts ∙ long) c.self.invariant.2,
       c.self.invariant.3,
+      box_ids kept c.args.place x y at same c.self.inside.ids.items c.self.invariant.4,
+      c.self.invariant.5,
     )
 
 pub returns-clause-counts : goal.returns-clause-counts
