@@ -1,12 +1,18 @@
 use Rattle.std.proofs.Common.{arith, inl}
 use Rattle.cyc_workers.proofs.Joining.{at_err}
 use Rattle.cyc_threads.specs.Steps.{WhyHalted}
-use Rattle.cyc_threads.proofs.Taking.{reached_first, reached_next, reached_runs, reached_halts}
+use Rattle.cyc_threads.proofs.Taking.{reached_first, reached_before, reached_next, reached_runs, reached_halts}
 use Rattle.cyc_threads.proofs.stepping.take_steps.Goals as goal
 
 pub loop-place-init : goal.loop-place-init
 loop-place-init g c = reached_first g.C.Calls g.R.Raise c.args.script.now.steps.items
     c.args.progress c.args.script.now.well_formed.moments_in_order c.requires
+
+pub take_step-requires-clause-before : goal.take_step-requires-clause-before
+take_step-requires-clause-before g c κs within = let test = c.loop-place-test.true in let long = c.len-place-end.ensures in
+    reached_before g.C.Calls g.R.Raise c.args.script.now.steps.items
+    c.loop-place.place c.index.result.now c.args.progress c.loop-place.progress
+    (omega (arith, test, long)) c.index.ensures c.loop-place.invariant
 
 pub loop-place-preserved : goal.loop-place-preserved
 loop-place-preserved g c = let test = c.loop-place-test.true in let long = c.len-place-end.ensures in
