@@ -1,3 +1,4 @@
 pub mod RisingIds
+pub mod Runs
 pub mod Few
 pub mod Entries

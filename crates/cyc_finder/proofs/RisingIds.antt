@@ -1,10 +1,7 @@
 -- What a look-up finds among things by rising id, and what an edit of the list does to it.
 use Rattle.std.proofs.Common.{◌≡◌, ℕ, zero, suc, ◌+◌, ◌-◌, ◌<◌, ◌≤◌, ◌≢◌, eqb, cond, List, [], ◌∷◌, length, get_or, set, Some}
-use Rattle.std.proofs.Common.{inl, inr, None, Result, Ok, Err, IfOk, IfErr, refl, sym, ap, ◌∙◌, subst, arith}
+use Rattle.std.proofs.Common.{inl, inr, None, refl, sym, ap, ◌∙◌, subst, arith}
 use Rattle.std.specs.List.{insert, remove, slice_get}
-use Rattle.std.specs.List.Sorted.{IsSearchInRange, IsBinarySearchResult, IsNonDecreasingBy}
-use Rattle.std.specs.Ordering.{nat_cmp, ordering_index}
-use Rattle.std.proofs.lemmas.Cmp.{ranked}
 use Rattle.std.proofs.lemmas.List.{get_or_default}
 use Rattle.std.proofs.lemmas.Option.{slice_get_cases}
 use Rattle.std.proofs.lemmas.List.Edits.{length-insert, get_or-insert_below, get_or-insert_at, get_or-insert_above}
@@ -78,28 +75,6 @@ module _ {T : Type 0} (id_of : T → ℕ) where
       omega (arith, up, here)) in
       let rest = look_up-remove xs (rises_tail x xs rises) id i (is_at_tail x xs id i at) q in
       grind (arith, nat_tests, first, rest)
-
-  module _ (xs : List T) (rises : Rises id_of xs) (id : ℕ) where
-    -- the comparisons with an id rise along the list, as a binary search asks
-    comparisons_rise : IsNonDecreasingBy (λ (x : T). ordering_index (nat_cmp (id_of x) id)) xs
-    comparisons_rise i j d le in_range =
-        let ids_rise : id_of (get_or xs i d) ≤ id_of (get_or xs j d) =
-        grind (arith, rises i j d, λ (same : i ≡ j). ap (λ (k : ℕ). id_of (get_or xs k d)) same) in
-        grind (arith, nat_tests)
-
-    -- a binary search ends at the thing of the id, or where it would stand
-    pub searched : (r : Result ℕ ℕ) → IsSearchInRange r (length xs) → IsBinarySearchResult (λ (x : T). nat_cmp (id_of x) id) xs r
-        → record { found : IfOk r (IsAt id_of xs id); absent : IfErr r (IsGap id_of xs id) }
-    searched (Ok at) in_range equal =
-        record { found = record { in_range = in_range; has_id = λ d. ranked _ id _ (sym (equal d)) }; absent = tt }
-    searched (Err at) in_range parted = record {
-      found = tt;
-      absent = record {
-        in_range = in_range;
-        smaller_before = λ j d less. ranked _ id _ (sym ((parted comparisons_rise).0 j d (omega arith) less));
-        greater_after = λ j d le less. ranked _ id _ (sym ((parted comparisons_rise).1 j d le less));
-      };
-    }
 
   -- the thing at a position is that of its id
   pub is_at_place : (xs : List T) (position : ℕ) (d : T) → position < length xs

@@ -1,3 +1,4 @@
 pub mod Sorted
+pub mod Halving
 pub mod Indexes
 pub mod Shown

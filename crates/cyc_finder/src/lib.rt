@@ -5,6 +5,7 @@
 #![tactic(auto)]
 
 pub mod finder;
+mod halving;
 pub mod sorted;
 
 pub use finder::{Entry, Finder, hint_of};

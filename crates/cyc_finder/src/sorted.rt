@@ -3,6 +3,7 @@
 ghost use Rattle.std.specs.Prelude.{◌≡◌, ℕ, IfOk, IfErr};
 ghost use Rattle.cyc_finder.specs.Sorted.{Rises, IsAt, IsGap};
 
+use crate::halving::{Run, halve_four_times};
 use cyc_types::CyclicId;
 
 /// A thing that has the id of a cyclic.
@@ -14,6 +15,14 @@ pub trait HasId {
         ensures { result ≡ id_of self.now };
 }
 
+impl HasId for CyclicId {
+    ghost id_of = { λ id. id };
+
+    fn id(&self) -> CyclicId {
+        *self
+    }
+}
+
 /// Where the thing of this id stands, or where it would stand, by halving. O(log n), and takes no memory (our own; the kernel
 /// names a cyclic by its address).
 pub fn search<T: HasId>(things: &[T], id: CyclicId) -> Result<usize, usize>
@@ -21,8 +30,24 @@ pub fn search<T: HasId>(things: &[T], id: CyclicId) -> Result<usize, usize>
     ensures found { IfOk result (IsAt T.id_of things.now id) }
     ensures absent { IfErr result (IsGap T.id_of things.now id) }
 {
-    let number = id.number();
-    things.binary_search_by_key(&number, |thing| thing.id().number())
+    if things.is_empty() {
+        return Err(0);
+    }
+    let mut run = Run {
+        base: 0,
+        size: things.len(),
+    };
+    while run.size > 1 {
+        run = halve_four_times(things, id, run);
+    }
+    let there = things[run.base].id().number();
+    if there == id.number() {
+        Ok(run.base)
+    } else if there < id.number() {
+        Err(run.base + 1)
+    } else {
+        Err(run.base)
+    }
 }
 
 /// As `search`, with a look at the hinted position first: right whatever the hint is, and O(1) where the thing stands there.

@@ -10,6 +10,7 @@ ghost use Rattle.cyc_places.specs.Places.{RecordsView, IsRecord, HasNoRecord, ne
 ghost use Rattle.cyc_places.specs.Places.{summed, HasRisingIds, HaveCounts, HaveAllCounts, IsReceiptOf};
 
 use crate::record::{CPUS, Placement, Record};
+use cyc_finder::search;
 use cyc_types::{CyclicId, Level, Receipt, Refusal, Sent};
 use std::alloc::Global;
 use std::collections::VecDeque;
@@ -23,8 +24,8 @@ use std::marker::Model;
 #[derive(Drop)]
 pub struct Records {
     list: VecDeque<Box<Record>>,
-    // The numbers of their ids, in the same order.
-    ids: VecDeque<u64>,
+    // Their ids, in the same order.
+    ids: VecDeque<CyclicId>,
     // Where there is one, both lists have room for it.
     spare: Option<Box<Record>>,
     alloc: Global,
@@ -49,20 +50,19 @@ impl Model for Records {
         × (IsSome r.spare → deque_len r.ids < deque_capacity r.ids) };
 }
 
-// The place of a number among those of the front and then those of the back, which rise. None where it is in neither.
-fn find_in(front: &[u64], back: &[u64], number: u64) -> Option<usize>
+// The place of an id among those of the front and then those of the back, which rise. None where it is in neither.
+fn find_in(front: &[CyclicId], back: &[CyclicId], id: CyclicId) -> Option<usize>
     requires rises { Rises (λ n. n) (front.now ++ back.now) }
     requires countable { length front.now + length back.now < 2 ^ 64 }
-    ensures none { IfNone result (All (λ n. n ≢ number) (front.now ++ back.now)) }
-    ensures some { IfSome result (IsAt (λ n. n) (front.now ++ back.now) number) }
+    ensures none { IfNone result (All (λ n. n ≢ id) (front.now ++ back.now)) }
+    ensures some { IfSome result (IsAt (λ n. n) (front.now ++ back.now) id) }
 {
-    let (part, before) = match back.first() {
-        Some(first) if *first <= number => (back, front.len()),
-        _ => (front, 0),
-    };
-    match part.binary_search(&number) {
-        Ok(place) => Some(before + place),
-        Err(_) => None,
+    match back.first() {
+        Some(first) if first.number() <= id.number() => match search(back, id) {
+            Ok(place) => Some(front.len() + place),
+            Err(_) => None,
+        },
+        _ => search(front, id).ok(),
     }
 }
 
@@ -109,7 +109,7 @@ impl Records {
             ended: [Sent { sent: 0, lost: 0 }; CPUS],
         };
         self.list.push_back_reserved(kept);
-        self.ids.push_back_reserved(id.number());
+        self.ids.push_back_reserved(id);
     }
 
     /// How many records there are.
@@ -125,7 +125,7 @@ impl Records {
         ensures some { IfSome result (λ k. (r : Record) × IsRecord self.now.list k r × (r.id ≡ id)) }
     {
         let (front, back) = self.ids.as_slices();
-        find_in(front, back, id.number())
+        find_in(front, back, id)
     }
 
     /// The record at a place.

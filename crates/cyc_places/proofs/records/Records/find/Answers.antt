@@ -1,9 +1,9 @@
-use Rattle.std.proofs.Common.{◌≡◌, ◌≢◌, ◌∙◌, ℕ, map, Option, Some, None, IfSome, IfNone, sym, subst}
+use Rattle.std.proofs.Common.{◌≡◌, ◌≢◌, ◌∙◌, ℕ, Option, Some, None, IfSome, IfNone, sym, subst}
 use Rattle.std.specs.List.{All}
 use Rattle.cyc_finder.specs.Sorted.{Rises, IsAt}
 use Rattle.cyc_places.specs.declared.record.Record.{Record}
 use Rattle.cyc_places.specs.Places.{RecordsView, IsRecord, HasNoRecord}
-use Rattle.cyc_places.proofs.Edits.{value, number, ids_rise, found_record, no_record}
+use Rattle.cyc_places.proofs.Edits.{number, ids_rise, found_record, no_record}
 use Rattle.cyc_places.proofs.records.Records.find.Goals as goal
 
 when_found : (r : Option ℕ) (P Q : ℕ → Type 0) → IfSome r P → ((k : ℕ) → P k → Q k) → IfSome r Q
@@ -21,18 +21,16 @@ find_in-requires-clause-rises c =
 
 pub returns-clause-none : goal.returns-clause-none
 returns-clause-none c =
-    let kept = c.self.inside.list.items in let id = c.number.result in
+    let kept = c.self.inside.list.items in let id = c.args.id in
     let are = c.as_slices.ensures.items ∙ c.self.invariant.4 in
     when_absent c.find_in.result _ _ c.find_in.ensures.none
-    (λ none. subst (λ (v : RecordsView). HasNoRecord c.args.id v.list) c.self.view_is
-    (subst (λ id. HasNoRecord id (map value kept)) c.number.ensures.value
-    (no_record kept id (subst (All (λ n. n ≢ id)) are none))))
+    (λ none. subst (λ (v : RecordsView). HasNoRecord id v.list) c.self.view_is
+    (no_record kept id (subst (All (λ n. n ≢ id)) are none)))
 
 pub returns-clause-some : goal.returns-clause-some
 returns-clause-some c =
-    let kept = c.self.inside.list.items in let id = c.number.result in
+    let kept = c.self.inside.list.items in let id = c.args.id in
     let are = c.as_slices.ensures.items ∙ c.self.invariant.4 in
     when_found c.find_in.result _ _ c.find_in.ensures.some
-    (λ k at. subst (λ (v : RecordsView). (r : Record) × IsRecord v.list k r × (r.id ≡ c.args.id)) c.self.view_is
-    (subst (λ (id : ℕ). (r : Record) × IsRecord (map value kept) k r × (r.id ≡ id)) c.number.ensures.value
-    (found_record kept id k (subst (λ xs. IsAt number xs id k) are at))))
+    (λ k at. subst (λ (v : RecordsView). (r : Record) × IsRecord v.list k r × (r.id ≡ id)) c.self.view_is
+    (found_record kept id k (subst (λ xs. IsAt number xs id k) are at)))
