@@ -1,13 +1,15 @@
 -- The leaves and the free indexes, after another entry in one leaf.
-use Rattle.std.proofs.Common.{◌≡◌, ◌≢◌, ℕ, suc, ◌<◌, ◌≤◌, inl, inr, List, [], ◌∷◌, ◌++◌, length, get_or, None, is_some, count_by, refl, sym}
-use Rattle.std.proofs.Common.{ap, ◌∙◌, subst, arith}
+use Rattle.std.proofs.Common.{◌≡◌, ◌≢◌, ℕ, suc, ◌+◌, ◌<◌, ◌≤◌, ◌⊎◌, inl, inr, List, [], ◌∷◌, ◌++◌, length, get_or, Option, Some, None, is_some}
+use Rattle.std.proofs.Common.{count_by, cond, refl, sym, ap, ◌∙◌, subst, subst₂, arith}
 use Rattle.std.proofs.Math.ListN.{set}
 use Rattle.std.proofs.lemmas.Bool.{cases_eq, cases_lt}
 use Rattle.std.proofs.lemmas.List.{length_push, get_or_push, get_or_append_left}
+use Rattle.std.proofs.lemmas.List.Sums.{sum_by-append}
 use Rattle.cyc_types.specs.Series.{never}
+use Rattle.cyc_types.specs.Expirations.{Expiration}
 use Rattle.cyc_heap.specs.declared.entry.Entry.{Entry}
 use Rattle.cyc_heap.specs.Tournament.{key, entry_at, index_of, slot, slots, IsPlayed, IsListed, IsTournament}
-use Rattle.cyc_heap.proofs.Slots.{length-slots, slots_at, slots_set, slot_used, slot_free}
+use Rattle.cyc_heap.proofs.Slots.{length-slots, slots_at, slots_set, slots_kept, one_more, slot_used, slot_free}
 use Rattle.cyc_heap.proofs.Views.{count_same, count_more, count_less}
 
 -- the leaf of the index x has another entry
@@ -111,13 +113,95 @@ module _ (size : ℕ) (xs ys : List Entry) (x : ℕ) (e : Entry) (long_xs : size
             let count = h.count in omega (arith, one, less, count, more));
       }
 
+-- the next index was never given, and none is free again
+pub first : (given : ℕ) (xs ys : List Entry) (e : Entry) → given ≤ length xs → given < length ys → entry_at ys given ≡ e
+    → ((i : ℕ) → i < given → entry_at ys i ≡ entry_at xs i) → IsListed given xs [] → e.moment ≤ never → index_of e ≡ given
+    → IsListed (given + 1) ys []
+first given xs ys e long_xs long_ys here same h uses mine = record {
+  own = λ i low used. elim (cases_eq i given) [
+    | inl is ↦ ap index_of (ap (entry_at ys) is ∙ here) ∙ mine ∙ sym is
+    | inr off ↦ (let at = same i (omega (arith, low, off)) in
+        let moment = ap (λ (e : Entry). e.moment) at in
+        ap index_of at ∙ h.own i (omega (arith, low, off)) (omega (arith, moment, used)))
+  ];
+  low = λ p at. absurd (omega (arith, at));
+  none = λ p at. absurd (omega (arith, at));
+  apart = λ p q less at. absurd (omega (arith, at));
+  count = (let more = ap (count_by is_some) (one_more given ys long_ys
+      ∙ ap (λ o. slots given ys ++ o ∷ []) (ap slot here ∙ slot_used e uses)
+      ∙ ap (λ (os : List (Option Expiration)). os ++ Some (key e) ∷ [])
+      (slots_kept given xs ys long_xs (omega (arith, long_ys)) same)) in
+      let both = sum_by-append (λ (o : Option Expiration). cond (is_some o) 1 0) (slots given xs) (Some (key e) ∷ []) in
+      let count = h.count in omega (arith, more, both, count));
+}
+
+-- the index x is the next one
+abbrev pub IsNext : ℕ → List ℕ → ℕ → ℕ → List ℕ → Type 0
+IsNext given free x given_after free_after = ((free ≡ free_after ++ x ∷ []) × (given_after ≡ given))
+    ⊎ ((free ≡ []) × (free_after ≡ []) × (x ≡ given) × (given_after ≡ given + 1))
+
+module _ (leaves size given : ℕ) (xs : List Entry) (free : List ℕ) (x given_after : ℕ) (free_after : List ℕ)
+    (h : IsTournament leaves size given xs free) (next : IsNext given free x given_after free_after)
+    (few : given < size + length free) where
+  -- it is free
+  pub next_free : (x < given_after) × (given ≤ given_after) × (given_after ≤ size) × (never < (entry_at xs x).moment)
+  next_free = (let known = h.known in
+      let wide = h.wide in
+      elim next [
+        | inl (is, same) ↦ (let listed = subst (λ f. IsListed given xs f) is h.listed in
+            let more = length_push free_after x in
+            let last = get_or_push free_after x 0 (length free_after) refl in
+            let low = listed.low (length free_after) (omega (arith, more)) in (
+              omega (arith, low, last, same),
+              omega (arith, same),
+              omega (arith, same, known),
+              subst (λ i. never < (entry_at xs i).moment) last (listed.none (length free_after) (omega (arith, more))),
+            ))
+        | inr (none, none_after, at, more) ↦ (let zero = ap length none in (
+          omega (arith, at, more),
+          omega (arith, more),
+          omega (arith, more, few, zero),
+          subst (λ i. never < (entry_at xs i).moment) (sym at) (h.unused given (omega arith) (omega (arith, few, zero, wide))),
+        ))
+      ])
+
+  -- and it is used from now on
+  pub next_used : (ys : List Entry) (e : Entry) → length ys ≡ length xs → entry_at ys x ≡ e
+      → ((i : ℕ) → i < leaves → i ≢ x → entry_at ys i ≡ entry_at xs i) → e.moment ≤ never → index_of e ≡ x
+      → IsListed given_after ys free_after
+  next_used ys e same_length here others uses mine = (let known = h.known in
+      let wide = h.wide in
+      let long = h.long in
+      let some = h.some in
+      elim next [
+        | inl (is, same) ↦ subst (λ n. IsListed n ys free_after) (sym same)
+            (let (low, _, _, _) = next_free in
+            taken given xs ys x e (omega (arith, known, wide, long, some)) (omega (arith, known, wide, long, some, same_length))
+            (omega (arith, low, same)) here (λ i within off. others i (omega (arith, within, known, wide)) off) free_after
+            (subst (λ f. IsListed given xs f) is h.listed) uses mine)
+        | inr (none, none_after, at, more) ↦ subst₂ (λ n f. IsListed n ys f) (sym more) (sym none_after)
+            (let zero = ap length none in
+            first given xs ys e (omega (arith, known, wide, long, some))
+            (omega (arith, known, wide, long, some, same_length, few, zero)) (ap (entry_at ys) (sym at) ∙ here)
+            (λ i within. others i (omega (arith, within, known, wide)) (λ q. absurd (omega (arith, q, at, within))))
+            (subst (λ f. IsListed given xs f) none h.listed) uses (mine ∙ at))
+      ])
+
 -- the tournament after it
-pub after : (size : ℕ) (xs ys : List Entry) (free free_after : List ℕ) → IsTournament size xs free → length ys ≡ length xs
-    → IsPlayed size ys → IsListed size ys free_after → IsTournament size ys free_after
-after size xs ys free free_after h same played listed = record {
+pub after : (leaves size given given_after : ℕ) (xs ys : List Entry) (free free_after : List ℕ) (x : ℕ)
+    → IsTournament leaves size given xs free → length ys ≡ length xs → IsPlayed leaves ys
+    → ((i : ℕ) → i < leaves → i ≢ x → entry_at ys i ≡ entry_at xs i)
+    → x < given_after → given ≤ given_after → given_after ≤ size
+    → IsListed given_after ys free_after → IsTournament leaves size given_after ys free_after
+after leaves size given given_after xs ys free free_after x h same played others low more known listed = record {
   some = h.some;
   few = h.few;
   long = ap suc same ∙ h.long;
+  wide = h.wide;
+  known = known;
   played = played;
   listed = listed;
+  unused = λ i from within. (let moment = ap (λ (e : Entry). e.moment)
+      (others i within (λ q. absurd (omega (arith, q, from, low)))) in
+      let was = h.unused i (omega (arith, from, more)) within in omega (arith, moment, was));
 }

@@ -1,9 +1,11 @@
 -- What each index has, read off the leaves.
-use Rattle.std.proofs.Common.{◌≡◌, ◌≢◌, ℕ, ◌<◌, ◌≤◌, inl, inr, ltb, List, length, take, get_or, Option, Some, None, sym, ap, ◌∙◌, arith}
+use Rattle.std.proofs.Common.{◌≡◌, ◌≢◌, ℕ, zero, suc, ◌+◌, ◌<◌, ◌≤◌, inl, inr, ltb, List, [], ◌∷◌, ◌++◌, length, take, get_or, replicate}
+use Rattle.std.proofs.Common.{Option, Some, None, is_some, count_by, cond, refl, sym, ap, ◌∙◌, arith}
 use Rattle.std.proofs.Math.ListN.{set}
 use Rattle.std.proofs.lemmas.Bool.{cases_eq, lt-ltb, le-ltb, cond-true, cond-false}
 use Rattle.std.proofs.lemmas.List.{length-map, length-set, length-take-le, get_or-map, get_or-take, get_or-set_same, get_or-set_other}
-use Rattle.std.proofs.lemmas.List.{ext_get_or}
+use Rattle.std.proofs.lemmas.List.{ext_get_or, append-nil, append_assoc, map_more, replicate_more}
+use Rattle.std.proofs.lemmas.List.Sums.{sum_by-append}
 use Rattle.cyc_types.specs.Series.{never}
 use Rattle.cyc_types.specs.Expirations.{Expiration}
 use Rattle.cyc_heap.specs.declared.entry.Entry.{Entry}
@@ -56,3 +58,32 @@ slots_set size xs ys at e long_xs long_ys within here others =
           ∙ sym (get_or-set_other (slots size xs) at i (slot e) None off
           ∙ slots_at size xs long_xs i None (omega (arith, low, m)))
     ])
+
+-- one more index
+pub one_more : (n : ℕ) (xs : List Entry) → n < length xs → slots (n + 1) xs ≡ slots n xs ++ slot (entry_at xs n) ∷ []
+unfolding slots
+one_more n xs low = map_more slot xs n nowhere low
+
+-- some more, all of which are free
+pub slots_more : (n k : ℕ) (xs : List Entry) → n + k ≤ length xs
+    → ((i : ℕ) → n ≤ i → i < n + k → never < (entry_at xs i).moment) → slots (n + k) xs ≡ slots n xs ++ replicate k None
+slots_more n zero xs long unused =
+    ap (λ m. slots m xs) (let e : n + zero ≡ n = omega arith in e) ∙ sym (append-nil (slots n xs))
+slots_more n (suc k) xs long unused =
+    ap (λ m. slots m xs) (let e : n + suc k ≡ n + k + 1 = omega arith in e)
+    ∙ one_more (n + k) xs (omega (arith, long))
+    ∙ ap (λ o. slots (n + k) xs ++ o ∷ []) (slot_free (entry_at xs (n + k)) (unused (n + k) (omega arith) (omega arith)))
+    ∙ ap (λ (os : List (Option Expiration)). os ++ None ∷ [])
+    (slots_more n k xs (omega (arith, long)) (λ i from low. unused i from (omega (arith, low))))
+    ∙ append_assoc (slots n xs) (replicate k None) (None ∷ [])
+    ∙ ap (λ (os : List (Option Expiration)). slots n xs ++ os) (replicate_more k None
+    ∙ ap (λ k. replicate k None) (let e : k + 1 ≡ suc k = omega arith in e))
+
+-- free indexes don't count
+none_counted : (k : ℕ) → count_by is_some (replicate {A = Option Expiration} k None) ≡ 0
+none_counted zero = refl
+none_counted (suc k) = none_counted k
+
+pub count_with_free : (os : List (Option Expiration)) (k : ℕ) → count_by is_some (os ++ replicate k None) ≡ count_by is_some os
+count_with_free os k = (let both = sum_by-append (λ (o : Option Expiration). cond (is_some o) 1 0) os (replicate k None) in
+    let none = none_counted k in omega (arith, both, none))

@@ -1,5 +1,5 @@
 -- What callers see of a tournament, read off its entries.
-use Rattle.std.proofs.Common.{◌≡◌, ℕ, suc, ◌+◌, ◌/◌, ◌<◌, ◌≤◌, ◌==◌, leb, ◌&&◌, ◌||◌, inl, inr, true, List, [], ◌∷◌, length, get_or, Option, Some, None}
+use Rattle.std.proofs.Common.{◌≡◌, ℕ, suc, ◌+◌, ◌-◌, ◌/◌, ◌<◌, ◌≤◌, ◌==◌, leb, ◌&&◌, ◌||◌, inl, inr, true, List, [], ◌∷◌, ◌++◌, length, get_or, replicate, Option, Some, None}
 use Rattle.std.proofs.Common.{IsSome, is_some, option_map, cond, count_by, ltb, refl, sym, ap, ◌∙◌, subst, arith}
 use Rattle.std.proofs.Math.ListN.{set}
 use Rattle.std.proofs.lemmas.Bool.{cases_lt, lt-ltb, le-ltb, cond-true, cond-false}
@@ -12,11 +12,21 @@ use Rattle.cyc_types.specs.Expirations.{Expiration, is_before}
 use Rattle.cyc_heap.specs.declared.entry.Entry.{Entry}
 use Rattle.cyc_heap.specs.Tournament.{key, entry_at, index_of, slot, slots, comes, last_position, root_of, IsTournament}
 use Rattle.cyc_heap.specs.Heap.{HeapView, size_of, len_of, expiration_at, at_moment, with_moment, IsLeast}
-use Rattle.cyc_heap.proofs.Slots.{length-slots, slots_at, slot_used, slot_free}
+use Rattle.cyc_heap.proofs.Slots.{length-slots, slots_at, slot_used, slot_free, slots_more, count_with_free}
 use Rattle.cyc_heap.proofs.Playing.{least_of_all, one_of_all}
 
-abbrev pub view_of : ℕ → List Entry → ℕ → HeapView
-view_of size xs room = record { slots = slots size xs; root = root_of size xs; room = room }
+abbrev pub view_of : ℕ → ℕ → List Entry → ℕ → HeapView
+view_of leaves size xs room = record { slots = slots size xs; root = root_of leaves xs; room = room }
+
+-- the index at the root, by the last winner
+pub winner_used : (leaves : ℕ) (xs : List Entry) → (entry_at xs (last_position leaves)).moment ≤ never
+    → root_of leaves xs ≡ Some (index_of (entry_at xs (last_position leaves)))
+winner_used leaves xs used = cond-false (ltb never (entry_at xs (last_position leaves)).moment) None
+    (Some (index_of (entry_at xs (last_position leaves)))) (le-ltb never (entry_at xs (last_position leaves)).moment used)
+
+pub winner_free : (leaves : ℕ) (xs : List Entry) → never < (entry_at xs (last_position leaves)).moment → root_of leaves xs ≡ None
+winner_free leaves xs unused = cond-true (ltb never (entry_at xs (last_position leaves)).moment) None
+    (Some (index_of (entry_at xs (last_position leaves)))) (lt-ltb never (entry_at xs (last_position leaves)).moment unused)
 
 -- an index with an expiration is below the size
 pub held_low : (xs : List (Option Expiration)) (i : ℕ) (e : Expiration) → get_or xs i None ≡ Some e → i < length xs
@@ -64,16 +74,34 @@ comes_before a b h = earlier a.moment a.word b.moment b.word h
 pub comes_later : (a b : Entry) → comes a b ≡ true → a.moment ≤ b.moment
 comes_later a b h = later a.moment a.word b.moment b.word h
 
-module _ (size : ℕ) (xs : List Entry) (free : List ℕ) (room : ℕ) (v : HeapView) (h : IsTournament size xs free)
-    (is : view_of size xs room ≡ v) where
+module _ (leaves size given : ℕ) (xs : List Entry) (free : List ℕ) (room : ℕ) (v : HeapView)
+    (h : IsTournament leaves size given xs free) (is : view_of leaves size xs room ≡ v) where
+  pub leaves_within : leaves ≤ length xs
+  leaves_within = let long = h.long in let some = h.some in omega (arith, long, some)
+
   pub within : size ≤ length xs
-  within = let long = h.long in let some = h.some in omega (arith, long, some)
+  within = let all = leaves_within in let wide = h.wide in omega (arith, all, wide)
 
   pub size_is : size_of v ≡ size
   size_is = sym (ap size_of is) ∙ length-slots size xs within
 
-  pub len_is : len_of v + length free ≡ size
-  len_is = let n = ap len_of is in let count = h.listed.count in omega (arith, n, count)
+  slots_given : slots size xs ≡ slots given xs ++ replicate (size - given) None
+  slots_given = (let known = h.known in
+      let wide = h.wide in
+      let inside = within in
+      ap (λ n. slots n xs) (let e : size ≡ given + (size - given) = omega (arith, known) in e)
+      ∙ slots_more given (size - given) xs (omega (arith, known, inside))
+      (λ i from low. h.unused i from (omega (arith, low, known, wide))))
+
+  pub len_is : len_of v + length free ≡ given
+  len_is = (let n = ap len_of is in
+      let all = ap (count_by is_some) slots_given ∙ count_with_free (slots given xs) (size - given) in
+      let count = h.listed.count in omega (arith, n, all, count))
+
+  -- a leaf with a moment is that of an index that was given
+  pub leaf_given : (i : ℕ) → i < leaves → (entry_at xs i).moment ≤ never → i < given
+  leaf_given i low used = elim (cases_lt i given)
+      [ inl before ↦ before | inr past ↦ absurd (let u = h.unused i past low in omega (arith, u, used)) ]
 
   pub at_leaf : (i : ℕ) → i < size → expiration_at v i ≡ slot (entry_at xs i)
   at_leaf i low = sym (ap (λ (v : HeapView). expiration_at v i) is) ∙ slots_at size xs within i None low
@@ -98,58 +126,65 @@ module _ (size : ℕ) (xs : List Entry) (free : List ℕ) (room : ℕ) (v : Heap
     ]
   ]
 
-  pub in_use : (i : ℕ) → IsSome (expiration_at v i) → (i < size) × ((entry_at xs i).moment ≤ never)
+  -- and was given
+  pub in_use : (i : ℕ) → IsSome (expiration_at v i) → (i < given) × (i < size) × (i < leaves) × ((entry_at xs i).moment ≤ never)
   in_use i some = of (expiration_at v i) refl some
     where
-      of : (o : Option Expiration) → expiration_at v i ≡ o → IsSome o → (i < size) × ((entry_at xs i).moment ≤ never)
+      of : (o : Option Expiration) → expiration_at v i ≡ o → IsSome o
+          → (i < given) × (i < size) × (i < leaves) × ((entry_at xs i).moment ≤ never)
       of None is s = absurd (let none : ⊥ = cc in none)
-      of (Some e) is s = let (low, used, _) = held i e is in (low, used)
+      of (Some e) is s = (let (low, used, _) = held i e is in
+          let wide = h.wide in
+          (leaf_given i (omega (arith, low, wide)) used, low, omega (arith, low, wide), used))
 
   -- the last winner is what its index has
-  pub top_used : (x : Entry) → entry_at xs (last_position size) ≡ x → x.moment ≤ never
+  pub top_used : (x : Entry) → entry_at xs (last_position leaves) ≡ x → x.moment ≤ never
       → expiration_at v (index_of x) ≡ Some (key x)
   top_used x here used =
-      let (i, low, same) = one_of_all size xs h.played h.some in
+      let (i, low, same) = one_of_all leaves xs h.played h.some in
       let leaf : entry_at xs i ≡ x = sym same ∙ here in
       let moment = ap (λ (e : Entry). e.moment) leaf in
-      let own : index_of x ≡ i = sym (ap index_of leaf) ∙ h.listed.own i low (omega (arith, moment, used)) in
-      ap (expiration_at v) own ∙ at_used i low (omega (arith, moment, used)) ∙ ap (λ (e : Entry). Some (key e)) leaf
+      let mine = leaf_given i low (omega (arith, moment, used)) in
+      let known = h.known in
+      let own : index_of x ≡ i = sym (ap index_of leaf) ∙ h.listed.own i mine (omega (arith, moment, used)) in
+      ap (expiration_at v) own ∙ at_used i (omega (arith, mine, known)) (omega (arith, moment, used))
+      ∙ ap (λ (e : Entry). Some (key e)) leaf
 
-  pub top_least : (x : Entry) → entry_at xs (last_position size) ≡ x → x.moment ≤ never → IsLeast v (index_of x) (key x)
+  pub top_least : (x : Entry) → entry_at xs (last_position leaves) ≡ x → x.moment ≤ never → IsLeast v (index_of x) (key x)
   top_least x here used = record {
     holds = top_used x here used;
     least = λ k other has. (let (low, _, same) = held k other has in
+        let wide = h.wide in
         subst (λ (x : Entry). is_before (key x) other ≡ true) here
-        (subst (λ e. is_before (key (entry_at xs (last_position size))) e ≡ true) same
-        (comes_before (entry_at xs (last_position size)) (entry_at xs k) (least_of_all size xs h.played k low))));
+        (subst (λ e. is_before (key (entry_at xs (last_position leaves))) e ≡ true) same
+        (comes_before (entry_at xs (last_position leaves)) (entry_at xs k)
+        (least_of_all leaves xs h.played k (omega (arith, low, wide))))));
   }
 
   -- where it has no moment no index is in use
-  pub all_free : (x : Entry) → entry_at xs (last_position size) ≡ x → never < x.moment → (i : ℕ) → expiration_at v i ≡ None
+  pub all_free : (x : Entry) → entry_at xs (last_position leaves) ≡ x → never < x.moment → (i : ℕ) → expiration_at v i ≡ None
   all_free x here unused i = elim (cases_lt i size) [
     | inr past ↦ at_past i past
     | inl low ↦ at_free i low (let moment = ap (λ (e : Entry). e.moment) here in
-        let least = comes_later (entry_at xs (last_position size)) (entry_at xs i) (least_of_all size xs h.played i low) in
+        let wide = h.wide in
+        let least = comes_later (entry_at xs (last_position leaves)) (entry_at xs i)
+        (least_of_all leaves xs h.played i (omega (arith, low, wide))) in
         omega (arith, moment, least, unused))
   ]
 
-  pub none_used : (x : Entry) → entry_at xs (last_position size) ≡ x → never < x.moment → len_of v ≡ 0
+  pub none_used : (x : Entry) → entry_at xs (last_position leaves) ≡ x → never < x.moment → len_of v ≡ 0
   none_used x here unused = count_none v.slots (all_free x here unused)
 
-  pub some_used : (x : Entry) → entry_at xs (last_position size) ≡ x → x.moment ≤ never → 0 < len_of v
+  pub some_used : (x : Entry) → entry_at xs (last_position leaves) ≡ x → x.moment ≤ never → 0 < len_of v
   some_used x here used = let less = count_less v.slots (index_of x) (key x) (top_used x here used) in omega (arith, less)
 
-  pub root_used : (x : Entry) → entry_at xs (last_position size) ≡ x → x.moment ≤ never → v.root ≡ Some (index_of x)
+  pub root_used : (x : Entry) → entry_at xs (last_position leaves) ≡ x → x.moment ≤ never → v.root ≡ Some (index_of x)
   root_used x here used =
       let moment = ap (λ (e : Entry). e.moment) here in
-      sym (ap (λ (v : HeapView). v.root) is)
-      ∙ cond-false (ltb never (entry_at xs (last_position size)).moment) None (Some (index_of (entry_at xs (last_position size))))
-      (le-ltb never (entry_at xs (last_position size)).moment (omega (arith, moment, used)))
+      sym (ap (λ (v : HeapView). v.root) is) ∙ winner_used leaves xs (omega (arith, moment, used))
       ∙ ap (λ (e : Entry). Some (index_of e)) here
 
-  pub root_free : (x : Entry) → entry_at xs (last_position size) ≡ x → never < x.moment → v.root ≡ None
+  pub root_free : (x : Entry) → entry_at xs (last_position leaves) ≡ x → never < x.moment → v.root ≡ None
   root_free x here unused =
       let moment = ap (λ (e : Entry). e.moment) here in
-      sym (ap (λ (v : HeapView). v.root) is)
-      ∙ cond-true (ltb never (entry_at xs (last_position size)).moment) None (Some (index_of (entry_at xs (last_position size))))
-      (lt-ltb never (entry_at xs (last_position size)).moment (omega (arith, moment, unused)))
+      sym (ap (λ (v : HeapView). v.root) is) ∙ winner_free leaves xs (omega (arith, moment, unused))

@@ -1,5 +1,6 @@
 -- A tournament among the expirations of all indexes (Knuth, The Art of Computer Programming, volume 3, 5.4.1): first a leaf for each
--- index, then the winner of each game. The entries 2g and 2g + 1 play the game g, and its winner is the entry g after the leaves.
+-- index, and some that stand free, then the winner of each game. The entries 2g and 2g + 1 play the game g, and its winner is the
+-- entry g after the leaves.
 use Rattle.std.specs.Prelude.{◌≡◌, ◌≢◌, ℕ, suc, ◌+◌, ◌-◌, ◌*◌, ◌/◌, ◌%◌, ◌<◌, ◌≤◌, ◌⊎◌, ◌==◌, ◌&&◌, ◌||◌, Bool, true, nat_lt, nat_le, List, length, take}
 use Rattle.std.specs.Prelude.{map, count_by, slice_index_or, Option, Some, None, is_some, if◌then◌else◌}
 use Rattle.cyc_types.specs.Limits.{cyclics}
@@ -32,14 +33,14 @@ slot e = (if nat_lt never e.moment then None else Some (key e))
 unfoldable pub slots : ℕ → List Entry → List (Option Expiration)
 slots size entries = map slot (take size entries)
 
--- the position of the winner of all games
+-- the position of the winner of all games, with so many leaves
 abbrev pub last_position : ℕ → ℕ
-last_position size = 2 * (size - 1)
+last_position leaves = 2 * (leaves - 1)
 
 -- its index, none where all indexes are free
 abbrev pub root_of : ℕ → List Entry → Option ℕ
-root_of size entries = (if nat_lt never (entry_at entries (last_position size)).moment then None
-    else Some (index_of (entry_at entries (last_position size))))
+root_of leaves entries = (if nat_lt never (entry_at entries (last_position leaves)).moment then None
+    else Some (index_of (entry_at entries (last_position leaves))))
 
 -- a comes no later than b: it has the earlier moment, or the same one and no greater id; of one id the smaller index comes first
 abbrev pub comes : Entry → Entry → Bool
@@ -53,28 +54,33 @@ pub record IsWinner (won a b : Entry) : Type 0 where
 
 -- the winner of this game stands where it should
 abbrev pub IsPlayedAt : ℕ → ℕ → List Entry → Type 0
-IsPlayedAt g size entries =
-    IsWinner (entry_at entries (size + g)) (entry_at entries (2 * g)) (entry_at entries (2 * g + 1))
+IsPlayedAt g leaves entries =
+    IsWinner (entry_at entries (leaves + g)) (entry_at entries (2 * g)) (entry_at entries (2 * g + 1))
 
 -- all games are played
 abbrev pub IsPlayed : ℕ → List Entry → Type 0
-IsPlayed size entries = (g : ℕ) → suc g < size → IsPlayedAt g size entries
+IsPlayed leaves entries = (g : ℕ) → suc g < leaves → IsPlayedAt g leaves entries
 
 -- the same, but for this game
 abbrev pub IsPlayedBut : ℕ → ℕ → List Entry → Type 0
-IsPlayedBut left_out size entries = (g : ℕ) → suc g < size → g ≢ left_out → IsPlayedAt g size entries
+IsPlayedBut left_out leaves entries = (g : ℕ) → suc g < leaves → g ≢ left_out → IsPlayedAt g leaves entries
 
--- a leaf that is not free has its own index, and the free indexes are these, each once
-pub record IsListed (size : ℕ) (entries : List Entry) (free : List ℕ) : Type 0 where
-  pub own : (i : ℕ) → i < size → (entry_at entries i).moment ≤ never → index_of (entry_at entries i) ≡ i
-  pub low : (p : ℕ) → p < length free → slice_index_or free p 0 < size
+-- of the indexes that were ever given, which are the smaller ones: a leaf that is not free has its own index, and these are free
+-- again, each once
+pub record IsListed (given : ℕ) (entries : List Entry) (free : List ℕ) : Type 0 where
+  pub own : (i : ℕ) → i < given → (entry_at entries i).moment ≤ never → index_of (entry_at entries i) ≡ i
+  pub low : (p : ℕ) → p < length free → slice_index_or free p 0 < given
   pub none : (p : ℕ) → p < length free → never < (entry_at entries (slice_index_or free p 0)).moment
   pub apart : (p q : ℕ) → p < q → q < length free → slice_index_or free p 0 ≢ slice_index_or free q 0
-  pub count : count_by is_some (slots size entries) + length free ≡ size
+  pub count : count_by is_some (slots given entries) + length free ≡ given
 
-pub record IsTournament (size : ℕ) (entries : List Entry) (free : List ℕ) : Type 0 where
-  pub some : 0 < size
-  pub few : size ≤ cyclics
-  pub long : suc (length entries) ≡ 2 * size
-  pub played : IsPlayed size entries
-  pub listed : IsListed size entries free
+-- with so many leaves and indexes, of which so many were ever given
+pub record IsTournament (leaves size given : ℕ) (entries : List Entry) (free : List ℕ) : Type 0 where
+  pub some : 0 < leaves
+  pub few : leaves ≤ cyclics
+  pub long : suc (length entries) ≡ 2 * leaves
+  pub wide : size ≤ leaves
+  pub known : given ≤ size
+  pub played : IsPlayed leaves entries
+  pub listed : IsListed given entries free
+  pub unused : (i : ℕ) → given ≤ i → i < leaves → never < (entry_at entries i).moment

@@ -20,100 +20,100 @@ fn winner(first: Entry, second: Entry) -> Entry
 
 /// Plays the game of the entry at this position again, which is not the last winner. The answer is where its winner stands.
 #[inline(always)]
-fn play(entries: &mut [Entry], size: usize, position: usize) -> usize
-    requires few { size ≤ cyclics }
-    requires long { length entries.old + 1 ≡ 2 * size }
-    requires position { position + 2 < 2 * size }
-    requires played { IsPlayedBut (position / 2) size entries.old }
-    ensures position { result ≡ size + position / 2 }
+fn play(entries: &mut [Entry], leaves: usize, position: usize) -> usize
+    requires few { leaves ≤ cyclics }
+    requires long { length entries.old + 1 ≡ 2 * leaves }
+    requires position { position + 2 < 2 * leaves }
+    requires played { IsPlayedBut (position / 2) leaves entries.old }
+    ensures position { result ≡ leaves + position / 2 }
     ensures long { length entries.new ≡ length entries.old }
-    ensures leaves { (i : ℕ) → i < size → entry_at entries.new i ≡ entry_at entries.old i }
-    ensures played { IsPlayedBut (result / 2) size entries.new }
+    ensures kept { (i : ℕ) → i < leaves → entry_at entries.new i ≡ entry_at entries.old i }
+    ensures played { IsPlayedBut (result / 2) leaves entries.new }
 {
     let game = position / 2;
-    let won = size + game;
+    let won = leaves + game;
     entries[won] = winner(entries[position], entries[4 * game + 1 - position]);
     won
 }
 
 /// Plays the last games from this position on, at most four.
 #[inline(always)]
-fn finish(entries: &mut [Entry], size: usize, position: usize)
-    requires few { size ≤ cyclics }
-    requires long { length entries.old + 1 ≡ 2 * size }
-    requires position { position + 1 < 2 * size }
-    requires near { 2 * size ≤ position + 32 }
-    requires played { IsPlayedBut (position / 2) size entries.old }
+fn finish(entries: &mut [Entry], leaves: usize, position: usize)
+    requires few { leaves ≤ cyclics }
+    requires long { length entries.old + 1 ≡ 2 * leaves }
+    requires position { position + 1 < 2 * leaves }
+    requires near { 2 * leaves ≤ position + 32 }
+    requires played { IsPlayedBut (position / 2) leaves entries.old }
     ensures long { length entries.new ≡ length entries.old }
-    ensures leaves { (i : ℕ) → i < size → entry_at entries.new i ≡ entry_at entries.old i }
-    ensures played { IsPlayed size entries.new }
+    ensures kept { (i : ℕ) → i < leaves → entry_at entries.new i ≡ entry_at entries.old i }
+    ensures played { IsPlayed leaves entries.new }
 {
-    let last = 2 * size - 2;
+    let last = 2 * leaves - 2;
     if position == last {
         return;
     }
-    let position = play(entries, size, position);
+    let position = play(entries, leaves, position);
     if position == last {
         return;
     }
-    let position = play(entries, size, position);
+    let position = play(entries, leaves, position);
     if position == last {
         return;
     }
-    let position = play(entries, size, position);
+    let position = play(entries, leaves, position);
     if position == last {
         return;
     }
-    play(entries, size, position);
+    play(entries, leaves, position);
 }
 
 /// Puts an entry into the leaf of an index, and plays the games above it again: at most eight. There is no loop, so that each winner
 /// is chosen with no branch.
 #[inline(never)]
-fn replay(entries: &mut [Entry], size: usize, index: usize, entry: Entry)
-    requires few { size ≤ cyclics }
-    requires long { length entries.old + 1 ≡ 2 * size }
-    requires index { index < size }
-    requires played { IsPlayed size entries.old }
+fn replay(entries: &mut [Entry], leaves: usize, index: usize, entry: Entry)
+    requires few { leaves ≤ cyclics }
+    requires long { length entries.old + 1 ≡ 2 * leaves }
+    requires index { index < leaves }
+    requires played { IsPlayed leaves entries.old }
     ensures long { length entries.new ≡ length entries.old }
     ensures here { entry_at entries.new index ≡ entry }
-    ensures others { (i : ℕ) → i < size → i ≢ index → entry_at entries.new i ≡ entry_at entries.old i }
-    ensures played { IsPlayed size entries.new }
+    ensures others { (i : ℕ) → i < leaves → i ≢ index → entry_at entries.new i ≡ entry_at entries.old i }
+    ensures played { IsPlayed leaves entries.new }
 {
-    let last = 2 * size - 2;
+    let last = 2 * leaves - 2;
     entries[index] = entry;
     if index == last {
         return;
     }
-    let position = play(entries, size, index);
+    let position = play(entries, leaves, index);
     if position == last {
         return;
     }
-    let position = play(entries, size, position);
+    let position = play(entries, leaves, position);
     if position == last {
         return;
     }
-    let position = play(entries, size, position);
+    let position = play(entries, leaves, position);
     if position == last {
         return;
     }
-    let position = play(entries, size, position);
-    finish(entries, size, position);
+    let position = play(entries, leaves, position);
+    finish(entries, leaves, position);
 }
 
 /// Puts an entry into the leaf of an index, and plays the games above it again.
-pub(crate) fn enter(entries: &mut Vec<Entry>, size: usize, index: usize, entry: Entry)
-    requires few { size ≤ cyclics }
-    requires long { length entries.old.items + 1 ≡ 2 * size }
-    requires index { index < size }
-    requires played { IsPlayed size entries.old.items }
+pub(crate) fn enter(entries: &mut Vec<Entry>, leaves: usize, index: usize, entry: Entry)
+    requires few { leaves ≤ cyclics }
+    requires long { length entries.old.items + 1 ≡ 2 * leaves }
+    requires index { index < leaves }
+    requires played { IsPlayed leaves entries.old.items }
     ensures long { length entries.new.items ≡ length entries.old.items }
     ensures here { entry_at entries.new.items index ≡ entry }
-    ensures others { (i : ℕ) → i < size → i ≢ index → entry_at entries.new.items i ≡ entry_at entries.old.items i }
-    ensures played { IsPlayed size entries.new.items }
+    ensures others { (i : ℕ) → i < leaves → i ≢ index → entry_at entries.new.items i ≡ entry_at entries.old.items i }
+    ensures played { IsPlayed leaves entries.new.items }
     ensures room { vec_capacity entries.new ≡ vec_capacity entries.old }
 {
-    replay(entries.as_mut_slice(), size, index, entry);
+    replay(entries.as_mut_slice(), leaves, index, entry);
 }
 
 /// Plays all games among the leaves: their winners come after them.
@@ -122,7 +122,7 @@ pub(crate) fn play_all(entries: &mut Vec<Entry>)
     requires few { length entries.old.items ≤ cyclics }
     requires room { 2 * length entries.old.items ≤ vec_capacity entries.old + 1 }
     ensures long { length entries.new.items + 1 ≡ 2 * length entries.old.items }
-    ensures leaves { (i : ℕ) → i < length entries.old.items → entry_at entries.new.items i ≡ entry_at entries.old.items i }
+    ensures kept { (i : ℕ) → i < length entries.old.items → entry_at entries.new.items i ≡ entry_at entries.old.items i }
     ensures played { IsPlayed (length entries.old.items) entries.new.items }
     ensures room { vec_capacity entries.new ≡ vec_capacity entries.old }
 {

@@ -1,17 +1,17 @@
 //! The heap of expirations, with a look-up by index.
 
-ghost use Rattle.std.specs.Prelude.{◌≡◌, ◌≢◌, ℕ, ◌+◌, ◌-◌, ◌*◌, ◌<◌, ◌≤◌, ◌↔◌, ◌++◌, max, length, replicate, slice_set};
+ghost use Rattle.std.specs.Prelude.{◌≡◌, ℕ, ◌+◌, ◌-◌, ◌*◌, ◌<◌, ◌≤◌, ◌⊎◌, ◌↔◌, ◌++◌, [], ◌∷◌, max, length, replicate, slice_set};
 ghost use Rattle.std.specs.Prelude.{option_map, Some, None, IsSome, IfSome, IfNone, IfOk, IfErr, OnOk, OnErr, vec_len};
 ghost use Rattle.std.specs.Prelude.{vec_capacity};
 ghost use Rattle.cyc_types.specs.Limits.{cyclics};
 ghost use Rattle.cyc_types.specs.declared.refusal.Refusal.TheVariants.{Memory};
 ghost use Rattle.cyc_types.specs.Series.{never};
-ghost use Rattle.cyc_heap.specs.Tournament.{entry_at, slots, IsListed};
+ghost use Rattle.cyc_heap.specs.Tournament.{entry_at, IsPlayed};
 ghost use Rattle.cyc_heap.specs.Heap.{HeapView, new_heap, size_of, len_of, expiration_at, with_moment, pair_of, IsEmpty, IsLeast};
 
 use crate::entry::Entry;
 use crate::games::{enter, play_all};
-use cyc_types::{CyclicId, Index, Moment, Refusal};
+use cyc_types::{CYCLICS, CyclicId, Index, Moment, Refusal};
 use std::alloc::Global;
 use std::marker::Model;
 
@@ -22,12 +22,17 @@ use std::marker::Model;
 /// most eight.
 #[derive(Drop)]
 pub struct ExpiryHeap {
-    /// A leaf for each index, and after them the winner of each game.
+    /// The leaves, and after them the winner of each game.
     entries: Vec<Entry>,
-    /// The free indexes; the last is given first.
+    /// The indexes that were given and are free again; the last is given first.
     free: Vec<Index>,
+    /// How many indexes were ever given: the smaller ones. Those above are free too, and the smallest of them is given next where
+    /// none is free again.
+    given: usize,
     /// The number of indexes.
     size: usize,
+    /// The number of leaves: one for each index, and some for those to come, so that few calls of `widen` play all games.
+    leaves: usize,
     /// The size for which memory was taken.
     room: usize,
 }
@@ -42,11 +47,11 @@ impl Model for ExpiryHeap {
     ghost view = { λ h. record {
       slots = slots h.size h.entries.items;
       root =
-          root_of h.size h.entries.items;
+          root_of h.leaves h.entries.items;
       room = h.room;
     } };
 
-    ghost invariant = { λ h. IsTournament h.size h.entries.items h.free.items × (h.size ≤ h.room)
+    ghost invariant = { λ h. IsTournament h.leaves h.size h.given h.entries.items h.free.items × (h.size ≤ h.room)
         × (2 * h.room ≤ suc (vec_capacity h.entries)) × (h.room ≤ vec_capacity h.free) };
 }
 
@@ -57,13 +62,14 @@ impl ExpiryHeap {
         ensures err { IfErr result (λ refusal. refusal ≡ Memory) }
     {
         let mut entries = Vec::with_capacity(alloc, 1)?;
-        let mut free = Vec::with_capacity(alloc, 1)?;
-        add_free(&mut entries, &mut free, 1);
-        play_all(&mut entries);
+        let free = Vec::with_capacity(alloc, 1)?;
+        add_leaves(&mut entries, 1);
         Ok(ExpiryHeap {
             entries,
             free,
+            given: 0,
             size: 1,
+            leaves: 1,
             room: 1,
         })
     }
@@ -79,14 +85,16 @@ impl ExpiryHeap {
         if size > self.room {
             // no allocation can give as much as overflows here
             let all = size.checked_mul(2).ok_or(Refusal::Memory)?;
-            self.entries.reserve(all - self.entries.len())?;
+            let more = all.saturating_sub(self.entries.len());
+            self.entries.reserve(more)?;
             self.free.reserve(size - self.free.len())?;
             self.room = size;
         }
         Ok(())
     }
 
-    /// Adds free indexes up to this size (`cyclic_expand`). Takes no memory.
+    /// Adds free indexes up to this size (`cyclic_expand`). Takes no memory. O(1), but for a call that lays out more leaves: it plays
+    /// all games, at most 255, and makes the leaves twice as many where the memory is there.
     pub fn widen(&mut self, size: usize)
         requires few { size ≤ cyclics }
         requires reserved { size ≤ self.old.room }
@@ -95,9 +103,7 @@ impl ExpiryHeap {
         ensures room { self.new.room ≡ self.old.room }
     {
         if size > self.size {
-            self.entries.truncate(self.size);
-            add_free(&mut self.entries, &mut self.free, size);
-            play_all(&mut self.entries);
+            self.leaves = lay_out(&mut self.entries, self.leaves, size);
             self.size = size;
         }
     }
@@ -110,12 +116,10 @@ impl ExpiryHeap {
         ensures slots { self.new.slots ≡ slice_set self.old.slots result (Some (record { moment = moment; id = id })) }
         ensures room { self.new.room ≡ self.old.room }
     {
-        let Some(index) = self.free.pop() else {
-            unreachable!()
-        };
+        let index = next_index(&mut self.free, &mut self.given);
         let position = usize::from(index.number());
         let entry = Entry::new(moment, id, index);
-        enter(&mut self.entries, self.size, position, entry);
+        enter(&mut self.entries, self.leaves, position, entry);
         index
     }
 
@@ -126,7 +130,7 @@ impl ExpiryHeap {
         ensures root { self.now.root ≡ option_map (λ found. found.0) result }
         ensures least { IfSome result (λ found. IsLeast self.now found.0 (record { moment = found.1; id = found.2 })) }
     {
-        let first = self.entries[2 * (self.size - 1)];
+        let first = self.entries[2 * (self.leaves - 1)];
         let moment = first.moment()?;
         Some((first.index(), moment, first.id()))
     }
@@ -137,7 +141,7 @@ impl ExpiryHeap {
         ensures slots { IfSome self.old.root (λ index. self.new.slots ≡ with_moment self.old.slots index moment) }
         ensures room { self.new.room ≡ self.old.room }
     {
-        let root = self.entries[2 * (self.size - 1)].index();
+        let root = self.entries[2 * (self.leaves - 1)].index();
         self.set_moment(root, moment);
     }
 
@@ -161,7 +165,7 @@ impl ExpiryHeap {
             moment: moment.nanoseconds(),
             word: self.entries[position].word,
         };
-        enter(&mut self.entries, self.size, position, entry);
+        enter(&mut self.entries, self.leaves, position, entry);
     }
 
     /// Takes out the expiration of this index, which is free from now on (`cyclic_remove_here`).
@@ -171,7 +175,7 @@ impl ExpiryHeap {
         ensures room { self.new.room ≡ self.old.room }
     {
         let position = usize::from(index.number());
-        enter(&mut self.entries, self.size, position, Entry::free(index));
+        enter(&mut self.entries, self.leaves, position, Entry::free(index));
         self.free.push_reserved(index);
     }
 
@@ -193,7 +197,7 @@ impl ExpiryHeap {
         ensures value { result ≡ len_of self.now }
         ensures few { result ≤ size_of self.now }
     {
-        self.size - self.free.len()
+        self.given - self.free.len()
     }
 
     /// The number of indexes, those in use and those that are free.
@@ -206,26 +210,64 @@ impl ExpiryHeap {
     }
 }
 
-/// Adds a leaf for each free index up to this size. The smallest of them is given first, once those that were free before are used.
-fn add_free(entries: &mut Vec<Entry>, free: &mut Vec<Index>, size: usize)
-    requires few { size ≤ cyclics }
-    requires more { length entries.old.items ≤ size }
-    requires room { size ≤ vec_capacity entries.old }
-    requires free { size ≤ vec_capacity free.old }
-    requires listed { IsListed (length entries.old.items) entries.old.items free.old.items }
-    ensures listed { IsListed size entries.new.items free.new.items }
-    ensures long { length entries.new.items ≡ size }
-    ensures kept { (i : ℕ) → i < length entries.old.items → entry_at entries.new.items i ≡ entry_at entries.old.items i }
-    ensures unused { (i : ℕ) → length entries.old.items ≤ i → i < size → never < (entry_at entries.new.items i).moment }
-    ensures slots { slots size entries.new.items
-        ≡ slots (length entries.old.items) entries.old.items ++ replicate (size - length entries.old.items) None }
-    ensures room { vec_capacity entries.old ≤ vec_capacity entries.new }
-    ensures free { vec_capacity free.old ≤ vec_capacity free.new }
+/// The index that is given next: the last of those that are free again, or else the smallest that was never given.
+fn next_index(free: &mut Vec<Index>, given: &mut usize) -> Index
+    requires { free.old.items ≡ [] → given.old < cyclics }
+    ensures next { ((free.old.items ≡ free.new.items ++ result ∷ []) × (given.new ≡ given.old))
+        ⊎ ((free.old.items ≡ []) × (free.new.items ≡ []) × (result ≡ given.old) × (given.new ≡ given.old + 1)) }
+    ensures room { vec_capacity free.new ≡ vec_capacity free.old }
 {
-    for number in entries.len()..size {
-        let index = index_of(number);
-        entries.push_reserved(Entry::free(index));
-        free.insert(0, index).unwrap();
+    match free.pop() {
+        Some(index) => index,
+        None => {
+            let index = index_of(*given);
+            *given += 1;
+            index
+        }
+    }
+}
+
+/// Makes the leaves at least as many as this size, and says how many there are. Where they are too few they become twice as many, if
+/// the memory is there, and all games are played anew. Takes no memory.
+fn lay_out(entries: &mut Vec<Entry>, leaves: usize, size: usize) -> usize
+    requires some { 0 < leaves }
+    requires few { leaves ≤ cyclics }
+    requires size { size ≤ cyclics }
+    requires long { length entries.old.items + 1 ≡ 2 * leaves }
+    requires room { 2 * size ≤ vec_capacity entries.old + 1 }
+    requires played { IsPlayed leaves entries.old.items }
+    ensures size { size ≤ result }
+    ensures more { leaves ≤ result }
+    ensures few { result ≤ cyclics }
+    ensures long { length entries.new.items + 1 ≡ 2 * result }
+    ensures kept { (i : ℕ) → i < leaves → entry_at entries.new.items i ≡ entry_at entries.old.items i }
+    ensures unused { (i : ℕ) → leaves ≤ i → i < result → never < (entry_at entries.new.items i).moment }
+    ensures played { IsPlayed result entries.new.items }
+    ensures room { vec_capacity entries.new ≡ vec_capacity entries.old }
+{
+    if size <= leaves {
+        return leaves;
+    }
+    let most = usize::from(CYCLICS).min(entries.capacity() / 2);
+    let more = size.max(most.min(2 * leaves));
+    entries.truncate(leaves);
+    add_leaves(entries, more);
+    play_all(entries);
+    more
+}
+
+/// Adds free leaves up to this number.
+fn add_leaves(entries: &mut Vec<Entry>, leaves: usize)
+    requires few { leaves ≤ cyclics }
+    requires more { length entries.old.items ≤ leaves }
+    requires room { leaves ≤ vec_capacity entries.old }
+    ensures long { length entries.new.items ≡ leaves }
+    ensures kept { (i : ℕ) → i < length entries.old.items → entry_at entries.new.items i ≡ entry_at entries.old.items i }
+    ensures unused { (i : ℕ) → length entries.old.items ≤ i → i < leaves → never < (entry_at entries.new.items i).moment }
+    ensures room { vec_capacity entries.new ≡ vec_capacity entries.old }
+{
+    for number in entries.len()..leaves {
+        entries.push_reserved(Entry::free(index_of(number)));
     }
 }
 

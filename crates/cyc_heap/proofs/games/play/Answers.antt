@@ -13,7 +13,7 @@ returns-clause-played c =
     let low = r.position in
     let x = c.index-entries-position in
     let y = c.index-entries-game in
-    played_again c.args.size p xs c.winner.result r.long r.position
+    played_again c.args.leaves p xs c.winner.result r.long r.position
     (subst₂ (λ a b. IsWinner c.winner.result a b)
     (x.is ∙ get_or_default xs p x.result nowhere (omega (arith, long, low)))
     (y.is ∙ get_or_default xs (4 * (p / 2) + 1 - p) y.result nowhere (omega (arith, long, low)))

@@ -14,10 +14,10 @@ set_moment-requires c =
     let long = h.long in
     let some = h.some in
     let x = c.index.result.now in
-    let is = get_or_default i.entries.items (2 * (i.size - 1)) nowhere x (omega (arith, long, some)) ∙ sym c.index.ensures in
+    let is = get_or_default i.entries.items (2 * (i.leaves - 1)) nowhere x (omega (arith, long, some)) ∙ sym c.index.ensures in
     elim (cases_lt never x.moment) [
-      | inl unused ↦ absurd (let none = root_free i.size i.entries.items i.free.items i.room c.args.self.now h c.self.view_is x is
+      | inl unused ↦ absurd (let none = root_free i.leaves i.size i.given i.entries.items i.free.items i.room c.args.self.now h c.self.view_is x is
           unused in let s = subst IsSome none c.requires in let never : ⊥ = cc in never)
       | inr used ↦ subst IsSome (sym (ap (expiration_at c.args.self.now) c.index-root.ensures
-          ∙ top_used i.size i.entries.items i.free.items i.room c.args.self.now h c.self.view_is x is used)) refl
+          ∙ top_used i.leaves i.size i.given i.entries.items i.free.items i.room c.args.self.now h c.self.view_is x is used)) refl
     ]

@@ -11,7 +11,7 @@ use Rattle.cyc_heap.proofs.heap.ExpiryHeap.remove.Goals as goal
 pub enter-requires-clause-index : goal.enter-requires-clause-index
 enter-requires-clause-index c =
     let i = c.self.inside in
-    let (low, _) = in_use i.size i.entries.items i.free.items i.room c.args.self.now c.self.invariant.0 c.self.view_is c.args.index
+    let (_, _, low, _) = in_use i.leaves i.size i.given i.entries.items i.free.items i.room c.args.self.now c.self.invariant.0 c.self.view_is c.args.index
     c.requires in
     let n = c.number.ensures.value in
     let m = c.from-position.ensures in
@@ -21,20 +21,25 @@ pub invariant_of-self : goal.invariant_of-self
 invariant_of-self c =
     let i = c.self.inside in
     let h = c.self.invariant.0 in
-    let (low, used) = in_use i.size i.entries.items i.free.items i.room c.args.self.now h c.self.view_is c.args.index c.requires in
-    let inside = within i.size i.entries.items i.free.items i.room c.args.self.now h c.self.view_is in
+    let (mine, low, leaf, used) = in_use i.leaves i.size i.given i.entries.items i.free.items i.room c.args.self.now h c.self.view_is
+    c.args.index c.requires in
+    let inside = within i.leaves i.size i.given i.entries.items i.free.items i.room c.args.self.now h c.self.view_is in
     let at : c.from-position.result ≡ c.args.index = c.from-position.ensures ∙ c.number.ensures.value in
     let f = c.enter.ensures in
     let long = f.long in
+    let known = h.known in
+    let wide = h.wide in
     let room = f.room in
     let cap = c.self.invariant.2 in
     let kept = c.push_reserved.ensures.capacity in
     let free = c.self.invariant.3 in (
-      after i.size i.entries.items c.enter.new.entries.items i.free.items c.push_reserved.new.self.items h f.long f.played
-          (subst (λ f. IsListed i.size c.enter.new.entries.items f)
+      after i.leaves i.size i.given i.given i.entries.items c.enter.new.entries.items i.free.items c.push_reserved.new.self.items
+          c.from-position.result h f.long f.played f.others (omega (arith, mine, at)) (omega arith) known
+          (subst (λ f. IsListed i.given c.enter.new.entries.items f)
           (ap (λ n. i.free.items ++ n ∷ []) at ∙ sym c.push_reserved.ensures.items)
-          (freed i.size i.entries.items c.enter.new.entries.items c.from-position.result c.free.result inside
-          (omega (arith, long, inside)) (omega (arith, low, at)) f.here f.others i.free.items h.listed
+          (freed i.given i.entries.items c.enter.new.entries.items c.from-position.result c.free.result (omega (arith, inside, known))
+          (omega (arith, long, inside, known)) (omega (arith, mine, at)) f.here
+          (λ k before off. f.others k (omega (arith, before, known, wide)) off) i.free.items h.listed
           (subst (λ i. (entry_at c.self.inside.entries.items i).moment ≤ never) (sym at) used) c.free.ensures)),
       c.self.invariant.1,
       omega (arith, room, cap),
@@ -45,13 +50,15 @@ pub returns-clause-slots : goal.returns-clause-slots
 returns-clause-slots c =
     let i = c.self.inside in
     let h = c.self.invariant.0 in
-    let (low, used) = in_use i.size i.entries.items i.free.items i.room c.args.self.now h c.self.view_is c.args.index c.requires in
-    let inside = within i.size i.entries.items i.free.items i.room c.args.self.now h c.self.view_is in
+    let (_, low, _, used) = in_use i.leaves i.size i.given i.entries.items i.free.items i.room c.args.self.now h c.self.view_is
+    c.args.index c.requires in
+    let inside = within i.leaves i.size i.given i.entries.items i.free.items i.room c.args.self.now h c.self.view_is in
     let at : c.from-position.result ≡ c.args.index = c.from-position.ensures ∙ c.number.ensures.value in
     let f = c.enter.ensures in
     let long = f.long in
+    let wide = h.wide in
     set_slots i.size i.entries.items c.enter.new.entries.items c.from-position.result c.free.result inside (omega (arith, long, inside))
-    (omega (arith, low, at)) f.here f.others
+    (omega (arith, low, at)) f.here (λ k before off. f.others k (omega (arith, before, wide)) off)
     ∙ ap (set (slots i.size i.entries.items) c.from-position.result) (slot_free c.free.result c.free.ensures)
     ∙ ap (λ (v : HeapView). set v.slots c.from-position.result None) c.self.view_is
     ∙ ap (λ n. set c.args.self.now.slots n None) at

@@ -13,8 +13,8 @@ returns-in_err-moment-clause-some c =
     let long = h.long in
     let some = h.some in
     let x = c.index.result.now in
-    let is = get_or_default i.entries.items (2 * (i.size - 1)) nowhere x (omega (arith, long, some)) ∙ sym c.index.ensures in
-    let none = none_used i.size i.entries.items i.free.items i.room c.args.self.now h c.self.view_is x is
+    let is = get_or_default i.entries.items (2 * (i.leaves - 1)) nowhere x (omega (arith, long, some)) ∙ sym c.index.ensures in
+    let none = none_used i.leaves i.size i.given i.entries.items i.free.items i.room c.args.self.now h c.self.view_is x is
     c.in_err-moment.ensures.none in (
       λ s. absurd (false≢true (subst IsSome c.from_residual.ensures s)),
       λ l. absurd (omega (arith, l, none)),
@@ -27,9 +27,9 @@ returns-in_err-moment-clause-empty c =
     let long = h.long in
     let some = h.some in
     let x = c.index.result.now in
-    let is = get_or_default i.entries.items (2 * (i.size - 1)) nowhere x (omega (arith, long, some)) ∙ sym c.index.ensures in
+    let is = get_or_default i.entries.items (2 * (i.leaves - 1)) nowhere x (omega (arith, long, some)) ∙ sym c.index.ensures in
     subst (λ o. IfNone o (IsEmpty c.args.self.now)) (sym c.from_residual.ensures)
-    (all_free i.size i.entries.items i.free.items i.room c.args.self.now h c.self.view_is x is
+    (all_free i.leaves i.size i.given i.entries.items i.free.items i.room c.args.self.now h c.self.view_is x is
     c.in_err-moment.ensures.none)
 
 pub returns-clause-some : goal.returns-clause-some
@@ -39,9 +39,9 @@ returns-clause-some c =
     let long = h.long in
     let some = h.some in
     let x = c.index.result.now in
-    let is = get_or_default i.entries.items (2 * (i.size - 1)) nowhere x (omega (arith, long, some)) ∙ sym c.index.ensures in
+    let is = get_or_default i.entries.items (2 * (i.leaves - 1)) nowhere x (omega (arith, long, some)) ∙ sym c.index.ensures in
     let (same, used) = c.in_ok-moment.ensures.some in (
-      λ _. some_used i.size i.entries.items i.free.items i.room c.args.self.now h c.self.view_is x is
+      λ _. some_used i.leaves i.size i.given i.entries.items i.free.items i.room c.args.self.now h c.self.view_is x is
           (omega (arith, same, used)),
       λ _. refl,
     )
@@ -53,9 +53,9 @@ returns-clause-least c =
     let long = h.long in
     let some = h.some in
     let x = c.index.result.now in
-    let is = get_or_default i.entries.items (2 * (i.size - 1)) nowhere x (omega (arith, long, some)) ∙ sym c.index.ensures in
+    let is = get_or_default i.entries.items (2 * (i.leaves - 1)) nowhere x (omega (arith, long, some)) ∙ sym c.index.ensures in
     let (same, used) = c.in_ok-moment.ensures.some in
-    let least = top_least i.size i.entries.items i.free.items i.room c.args.self.now h c.self.view_is x is
+    let least = top_least i.leaves i.size i.given i.entries.items i.free.items i.room c.args.self.now h c.self.view_is x is
     (omega (arith, same, used)) in
     subst (λ n. IsLeast c.args.self.now n (record { moment = c.in_ok-moment.moment; id = c.id.result })) (sym c.index-2.ensures)
     (subst (λ m. IsLeast c.args.self.now (index_of x) (record { moment = m; id = c.id.result })) (sym same)

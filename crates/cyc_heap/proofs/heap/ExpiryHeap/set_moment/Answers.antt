@@ -14,8 +14,9 @@ pub index-requires : goal.index-requires
 index-requires c =
     let i = c.self.inside in
     let h = c.self.invariant.0 in
-    let (low, _) = in_use i.size i.entries.items i.free.items i.room c.args.self.now h c.self.view_is c.args.index c.requires in
-    let inside = within i.size i.entries.items i.free.items i.room c.args.self.now h c.self.view_is in
+    let (_, low, _, _) = in_use i.leaves i.size i.given i.entries.items i.free.items i.room c.args.self.now h c.self.view_is
+    c.args.index c.requires in
+    let inside = within i.leaves i.size i.given i.entries.items i.free.items i.room c.args.self.now h c.self.view_is in
     let n = c.number.ensures.value in
     let m = c.from-position.ensures in
     let ok = i.entries.ok in
@@ -24,7 +25,7 @@ index-requires c =
 pub enter-requires-clause-index : goal.enter-requires-clause-index
 enter-requires-clause-index c =
     let i = c.self.inside in
-    let (low, _) = in_use i.size i.entries.items i.free.items i.room c.args.self.now c.self.invariant.0 c.self.view_is c.args.index
+    let (_, _, low, _) = in_use i.leaves i.size i.given i.entries.items i.free.items i.room c.args.self.now c.self.invariant.0 c.self.view_is c.args.index
     c.requires in
     let n = c.number.ensures.value in
     let m = c.from-position.ensures in
@@ -34,22 +35,27 @@ pub invariant_of-self : goal.invariant_of-self
 invariant_of-self c =
     let i = c.self.inside in
     let h = c.self.invariant.0 in
-    let (low, used) = in_use i.size i.entries.items i.free.items i.room c.args.self.now h c.self.view_is c.args.index c.requires in
-    let inside = within i.size i.entries.items i.free.items i.room c.args.self.now h c.self.view_is in
+    let (mine, low, _, used) = in_use i.leaves i.size i.given i.entries.items i.free.items i.room c.args.self.now h c.self.view_is
+    c.args.index c.requires in
+    let inside = within i.leaves i.size i.given i.entries.items i.free.items i.room c.args.self.now h c.self.view_is in
     let at : c.from-position.result ≡ c.args.index = c.from-position.ensures ∙ c.number.ensures.value in
     let x = c.index.result.now in
     let is = get_or_default i.entries.items c.from-position.result nowhere x (omega (arith, low, inside, at)) ∙ sym c.index.ensures in
     let e : Entry = record { moment = c.nanoseconds.result; word = x.word } in
     let f = c.enter.ensures in
     let long = f.long in
-    let mine : index_of e ≡ c.from-position.result = sym (ap index_of is) ∙ h.listed.own c.from-position.result (omega (arith, low, at))
+    let known = h.known in
+    let wide = h.wide in
+    let own : index_of e ≡ c.from-position.result = sym (ap index_of is) ∙ h.listed.own c.from-position.result (omega (arith, mine, at))
     (subst (λ i. (entry_at c.self.inside.entries.items i).moment ≤ never) (sym at) used) in
     let room = f.room in
     let cap = c.self.invariant.2 in (
-      after i.size i.entries.items c.enter.new.entries.items i.free.items i.free.items h f.long f.played
-          (moved i.size i.entries.items c.enter.new.entries.items c.from-position.result e inside (omega (arith, long, inside))
-          (omega (arith, low, at)) f.here f.others i.free.items h.listed
-          (subst (λ i. (entry_at c.self.inside.entries.items i).moment ≤ never) (sym at) used) c.nanoseconds.ensures.valid mine),
+      after i.leaves i.size i.given i.given i.entries.items c.enter.new.entries.items i.free.items i.free.items c.from-position.result h
+          f.long f.played f.others (omega (arith, mine, at)) (omega arith) known
+          (moved i.given i.entries.items c.enter.new.entries.items c.from-position.result e (omega (arith, inside, known))
+          (omega (arith, long, inside, known)) (omega (arith, mine, at)) f.here
+          (λ k before off. f.others k (omega (arith, before, known, wide)) off) i.free.items h.listed
+          (subst (λ i. (entry_at c.self.inside.entries.items i).moment ≤ never) (sym at) used) c.nanoseconds.ensures.valid own),
       c.self.invariant.1,
       omega (arith, room, cap),
       c.self.invariant.3,
@@ -59,19 +65,21 @@ pub returns-clause-slots : goal.returns-clause-slots
 returns-clause-slots c =
     let i = c.self.inside in
     let h = c.self.invariant.0 in
-    let (low, used) = in_use i.size i.entries.items i.free.items i.room c.args.self.now h c.self.view_is c.args.index c.requires in
-    let inside = within i.size i.entries.items i.free.items i.room c.args.self.now h c.self.view_is in
+    let (mine, low, _, used) = in_use i.leaves i.size i.given i.entries.items i.free.items i.room c.args.self.now h c.self.view_is
+    c.args.index c.requires in
+    let inside = within i.leaves i.size i.given i.entries.items i.free.items i.room c.args.self.now h c.self.view_is in
     let at : c.from-position.result ≡ c.args.index = c.from-position.ensures ∙ c.number.ensures.value in
     let x = c.index.result.now in
     let is = get_or_default i.entries.items c.from-position.result nowhere x (omega (arith, low, inside, at)) ∙ sym c.index.ensures in
     let e : Entry = record { moment = c.nanoseconds.result; word = x.word } in
     let f = c.enter.ensures in
     let long = f.long in
+    let wide = h.wide in
     let has : expiration_at c.args.self.now c.args.index ≡ Some (key x)
-    = at_used i.size i.entries.items i.free.items i.room c.args.self.now h c.self.view_is c.args.index low used
+    = at_used i.leaves i.size i.given i.entries.items i.free.items i.room c.args.self.now h c.self.view_is c.args.index low used
     ∙ ap (λ n. Some (key (entry_at i.entries.items n))) (sym at) ∙ ap (λ (e : Entry). Some (key e)) is in
     set_slots i.size i.entries.items c.enter.new.entries.items c.from-position.result e inside (omega (arith, long, inside))
-    (omega (arith, low, at)) f.here f.others
+    (omega (arith, low, at)) f.here (λ k before off. f.others k (omega (arith, before, wide)) off)
     ∙ ap (set (slots i.size i.entries.items) c.from-position.result) (slot_used e c.nanoseconds.ensures.valid)
     ∙ ap (λ (v : HeapView). set v.slots c.from-position.result (Some (key e))) c.self.view_is
     ∙ ap (λ n. set c.args.self.now.slots n (Some (key e))) at
