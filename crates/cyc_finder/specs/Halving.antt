@@ -1,7 +1,7 @@
 -- A run of things by rising id to which a look-up has come.
 use Rattle.std.specs.Prelude.{ℕ, ◌+◌, ◌<◌, ◌≤◌, List, length, slice_index_or}
 
--- the thing of the id stands in this run, which has one thing at least, if it stands anywhere
+-- the thing of the id stands in this run, which has one thing at least, if it stands anywhere (our own rule)
 pub record IsIn {T : Type 0} (id_of : T → ℕ) (things : List T) (id base size : ℕ) : Type 0 where
   pub filled : 0 < size
   pub in_range : base + size ≤ length things

@@ -14,7 +14,7 @@ pub(crate) struct Run {
     pub(crate) size: usize,
 }
 
-/// The half of the run that can have the id, the greater one where they differ. A run of one thing stays.
+/// The half of the run that can have the id, of the larger size where the two sizes differ. A run of one thing stays.
 #[inline(always)]
 fn halve<T: HasId>(things: &[T], id: CyclicId, run: Run) -> Run
     requires rises { Rises T.id_of things.now }
