@@ -15,14 +15,6 @@ pub trait HasId {
         ensures { result ≡ id_of self.now };
 }
 
-impl HasId for CyclicId {
-    ghost id_of = { λ id. id };
-
-    fn id(&self) -> CyclicId {
-        *self
-    }
-}
-
 /// Where the thing of this id stands, or where it would stand, by halving. O(log n), and takes no memory (our own; the kernel
 /// names a cyclic by its address).
 pub fn search<T: HasId>(things: &[T], id: CyclicId) -> Result<usize, usize>

@@ -8,6 +8,7 @@ use Rattle.std.proofs.lemmas.Option.{slice_get-map, slice_get_cases, slice_get_r
 use Rattle.std.proofs.lemmas.Option.{get_or_from_slice_get}
 use Rattle.cyc_types.specs.declared.firing.Sent.{Sent}
 use Rattle.cyc_places.specs.declared.record.Record.{Record}
+use Rattle.cyc_places.specs.declared.records.RecordId.{RecordId}
 use Rattle.cyc_finder.specs.Sorted.{Rises, IsAt}
 use Rattle.cyc_places.specs.Places.{IsRecord, HasNoRecord, HasRisingIds, HaveCounts, HaveAllCounts, AreCounts}
 
@@ -15,9 +16,13 @@ use Rattle.cyc_places.specs.Places.{IsRecord, HasNoRecord, HasRisingIds, HaveCou
 abbrev pub value : Box Record Global → Record
 value kept = kept.value
 
--- its id
-abbrev pub id_in : Box Record Global → ℕ
-id_in kept = kept.value.id
+-- its id, as it stands beside the boxes
+abbrev pub id_in : Box Record Global → RecordId
+id_in kept = record { id = kept.value.id }
+
+-- the number that it is
+abbrev pub id_of : RecordId → ℕ
+id_of kept = kept.id
 
 module _ (kept : List (Box Record Global)) (place : ℕ) where
   -- it is that at the box's place
@@ -36,17 +41,17 @@ map_removed f kept place = map-append f (take place kept) (drop (suc place) kept
 
 -- an id that is read is that of the record at its place
 module _ (kept : List (Box Record Global)) where
-  read : (k d : ℕ) → k < length (map id_in kept)
-      → (r : Record) × IsRecord (map value kept) k r × (r.id ≡ get_or (map id_in kept) k d)
+  read : (k : ℕ) (d : RecordId) → k < length (map id_in kept)
+      → (r : Record) × IsRecord (map value kept) k r × (r.id ≡ (get_or (map id_in kept) k d).id)
   read k d low = by (slice_get_cases kept k).1
     where
       by : ((x : Box Record Global) × (k < length kept) × (slice_get kept k ≡ Some x) × (get_or kept k x ≡ x))
           ⊎ ((length kept ≤ k) × (slice_get kept k ≡ None))
-          → (r : Record) × IsRecord (map value kept) k r × (r.id ≡ get_or (map id_in kept) k d)
+          → (r : Record) × IsRecord (map value kept) k r × (r.id ≡ (get_or (map id_in kept) k d).id)
       by (inl (x, within, is, at)) = (
         x.value,
         slice_get-map value kept k ∙ ap (option_map value) is,
-        sym (get_or-map id_in kept k x d within ∙ ap id_in at),
+        sym (ap id_of (get_or-map id_in kept k x d within ∙ ap id_in at)),
       )
       by (inr (past, none)) = let l = length-map kept id_in in absurd (omega (arith, l, past, low))
 
@@ -68,13 +73,13 @@ module _ (rs : List Record) (k : ℕ) (old new : Record) (at : IsRecord rs k old
   pub rises_written : HasRisingIds rs → HasRisingIds (set rs k new)
   rises_written h i j r s less a b = by (set_either rs k new i r a) (set_either rs k new j s b)
     where
-      id_of : (q : Record) → q ≡ new → q.id ≡ old.id
-      id_of q e = ap (λ (x : Record). x.id) e ∙ same
+      has_id : (q : Record) → q ≡ new → q.id ≡ old.id
+      has_id q e = ap (λ (x : Record). x.id) e ∙ same
 
       by : (slice_get rs i ≡ Some r) ⊎ ((i ≡ k) × (r ≡ new)) → (slice_get rs j ≡ Some s) ⊎ ((j ≡ k) × (s ≡ new)) → r.id < s.id
       by (inl p) (inl q) = h i j r s less p q
-      by (inl p) (inr (e, f)) = let l = h i k r old (omega (arith, less, e)) p at in let g = id_of s f in omega (arith, l, g)
-      by (inr (e, f)) (inl q) = let l = h k j old s (omega (arith, less, e)) at q in let g = id_of r f in omega (arith, l, g)
+      by (inl p) (inr (e, f)) = let l = h i k r old (omega (arith, less, e)) p at in let g = has_id s f in omega (arith, l, g)
+      by (inr (e, f)) (inl q) = let l = h k j old s (omega (arith, less, e)) at q in let g = has_id r f in omega (arith, l, g)
       by (inr (e, f)) (inr (e1, f1)) = absurd (omega (arith, e, e1, less))
 
   pub counts_written : AreCounts new.ended → HaveCounts rs → HaveCounts (set rs k new)
@@ -156,33 +161,33 @@ module _ (kept : List (Box Record Global)) (place : ℕ) (x y : Box Record Globa
       subst HaveAllCounts (sym (map-set value kept place y)) (all_written (map value kept) place x.value y.value at same long h)
 
   -- the ids stay
-  pub box_ids : (ids : List ℕ) → ids ≡ map id_in kept → ids ≡ map id_in (set kept place y)
+  pub box_ids : (ids : List RecordId) → ids ≡ map id_in kept → ids ≡ map id_in (set kept place y)
   box_ids ids e =
       let l = length-map kept value in let m = length-map kept id_in in
       let n = slice_get_within (map value kept) place x.value at in
-      let (r, is, g) = read kept place 0 (omega (arith, l, m, n)) in
-      let it : y.value.id ≡ get_or (map id_in kept) place 0
+      let (r, is, g) = read kept place (id_in y) (omega (arith, l, m, n)) in
+      let it : y.value.id ≡ (get_or (map id_in kept) place (id_in y)).id
       = same ∙ ap (λ (q : Record). q.id) (same_Some x.value r (sym at ∙ is)) ∙ g in
-      e ∙ sym (set-get_or (map id_in kept) place 0) ∙ ap (set (map id_in kept) place) (sym it) ∙ sym (map-set id_in kept place y)
+      e ∙ sym (set-get_or (map id_in kept) place (id_in y))
+      ∙ ap (λ (n : ℕ). set (map id_in kept) place (record { id = n })) (sym it) ∙ sym (map-set id_in kept place y)
 
 -- a look-up among the ids by halves
-abbrev pub number : ℕ → ℕ
-number n = n
-
 module _ (kept : List (Box Record Global)) where
-  pub ids_rise : HasRisingIds (map value kept) → Rises number (map id_in kept)
+  pub ids_rise : HasRisingIds (map value kept) → Rises id_of (map id_in kept)
   ids_rise h i j d less low =
       let (r, a, e) = read kept i d (omega (arith, less, low)) in let (s, b, f) = read kept j d low in
       let l = h i j r s less a b in omega (arith, l, e, f)
 
-  pub found_record : (id place : ℕ) → IsAt number (map id_in kept) id place
+  pub found_record : (id place : ℕ) → IsAt id_of (map id_in kept) id place
       → (r : Record) × IsRecord (map value kept) place r × (r.id ≡ id)
-  found_record id place at = let (r, is, e) = read kept place id at.in_range in (r, is, e ∙ at.has_id id)
+  found_record id place at =
+      let d : RecordId = record { id = id } in let (r, is, e) = read kept place d at.in_range in (r, is, e ∙ at.has_id d)
 
-  pub no_record : (id : ℕ) → All (λ n. n ≢ id) (map id_in kept) → HasNoRecord id (map value kept)
+  pub no_record : (id : ℕ) → All (λ (n : RecordId). n.id ≢ id) (map id_in kept) → HasNoRecord id (map value kept)
   no_record id none k d low same =
       let l = length-map kept value in let m = length-map kept id_in in
       let within : k < length (map id_in kept) = omega (arith, l, m, low) in
-      let (r, is, e) = read kept k id within in
+      let n : RecordId = record { id = id } in
+      let (r, is, e) = read kept k n within in
       let at = ap (λ (q : Record). q.id) (get_or_from_slice_get (map value kept) k r d is) in
-      none k id within (sym e ∙ sym at ∙ same)
+      none k n within (sym e ∙ sym at ∙ same)

@@ -10,11 +10,26 @@ ghost use Rattle.cyc_places.specs.Places.{RecordsView, IsRecord, HasNoRecord, ne
 ghost use Rattle.cyc_places.specs.Places.{summed, HasRisingIds, HaveCounts, HaveAllCounts, IsReceiptOf};
 
 use crate::record::{CPUS, Placement, Record};
-use cyc_finder::search;
+use cyc_finder::{HasId, search};
 use cyc_types::{CyclicId, Level, Receipt, Refusal, Sent};
 use std::alloc::Global;
 use std::collections::VecDeque;
 use std::marker::Model;
+
+/// The id of a record, as it stands in the list beside the records. It has a type of its own since a look-up is among things that
+/// have an id, and a bare `CyclicId` is none of these. When it runs it is the id and nothing more.
+#[derive(Clone, Copy)]
+struct RecordId {
+    id: CyclicId,
+}
+
+impl HasId for RecordId {
+    ghost id_of = { λ kept. kept.id };
+
+    fn id(&self) -> CyclicId {
+        self.id
+    }
+}
 
 /// The records by rising id. A look-up takes O(log n), and nothing but `reserve` takes memory.
 ///
@@ -25,7 +40,7 @@ use std::marker::Model;
 pub struct Records {
     list: VecDeque<Box<Record>>,
     // Their ids, in the same order.
-    ids: VecDeque<CyclicId>,
+    ids: VecDeque<RecordId>,
     // Where there is one, both lists have room for it.
     spare: Option<Box<Record>>,
     alloc: Global,
@@ -46,19 +61,19 @@ impl Model for Records {
     ghost invariant = { λ r. HasRisingIds (map (λ kept. kept.value) r.list.items)
         × HaveCounts (map (λ kept. kept.value) r.list.items)
         × HaveAllCounts (map (λ kept. kept.value) r.list.items) × (IsSome r.spare → deque_len r.list < deque_capacity r.list)
-        × (r.ids.items ≡ map (λ kept. kept.value.id) r.list.items)
+        × (r.ids.items ≡ map (λ kept. record { id = kept.value.id }) r.list.items)
         × (IsSome r.spare → deque_len r.ids < deque_capacity r.ids) };
 }
 
 // The place of an id among those of the front and then those of the back, which rise. None where it is in neither.
-fn find_in(front: &[CyclicId], back: &[CyclicId], id: CyclicId) -> Option<usize>
-    requires rises { Rises (λ n. n) (front.now ++ back.now) }
+fn find_in(front: &[RecordId], back: &[RecordId], id: CyclicId) -> Option<usize>
+    requires rises { Rises (λ kept. kept.id) (front.now ++ back.now) }
     requires countable { length front.now + length back.now < 2 ^ 64 }
-    ensures none { IfNone result (All (λ n. n ≢ id) (front.now ++ back.now)) }
-    ensures some { IfSome result (IsAt (λ n. n) (front.now ++ back.now) id) }
+    ensures none { IfNone result (All (λ kept. kept.id ≢ id) (front.now ++ back.now)) }
+    ensures some { IfSome result (IsAt (λ kept. kept.id) (front.now ++ back.now) id) }
 {
     match back.first() {
-        Some(first) if first.number() <= id.number() => match search(back, id) {
+        Some(first) if first.id.number() <= id.number() => match search(back, id) {
             Ok(place) => Some(front.len() + place),
             Err(_) => None,
         },
@@ -109,7 +124,7 @@ impl Records {
             ended: [Sent { sent: 0, lost: 0 }; CPUS],
         };
         self.list.push_back_reserved(kept);
-        self.ids.push_back_reserved(id);
+        self.ids.push_back_reserved(RecordId { id });
     }
 
     /// How many records there are.

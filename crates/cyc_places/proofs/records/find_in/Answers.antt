@@ -1,6 +1,8 @@
-use Rattle.std.proofs.Common.{Option, Result, Ok, Err, IfErr, IfNone, ℕ, ◌≡◌, ◌<◌, ◌≤◌, ◌++◌, length, get_or, sym, subst, ◌∙◌, arith}
+use Rattle.std.proofs.Common.{Option, Result, Ok, Err, IfErr, IfNone, ℕ, ◌≡◌, ◌<◌, ◌≤◌, ◌++◌, length, get_or, sym, ap, subst, ◌∙◌}
+use Rattle.std.proofs.Common.{arith}
 use Rattle.std.specs.Result.{result_ok}
 use Rattle.std.proofs.lemmas.Option.{slice_get_within, slice_get-get_or, get_or_from_slice_get, none-some}
+use Rattle.cyc_places.proofs.Edits.{id_of}
 use Rattle.cyc_places.proofs.Halves.{IsRunOf, front_run, back_run, run_rises, found_in_run, absent_in_run}
 use Rattle.cyc_places.proofs.records.find_in.Goals.{Then-number, In_default}
 use Rattle.cyc_places.proofs.records.find_in.Goals.{in_default-via-in-Some+else-number, in_default-via-in_default}
@@ -9,15 +11,15 @@ use Rattle.cyc_places.proofs.records.find_in.Goals as goal
 back_is : (c : Then-number) → IsRunOf (c.args.front.now ++ c.args.back.now) c.args.back.now c.args.id (length c.args.front.now)
 back_is c =
     let is = sym c.in-Some.ensures.value in
-    let most : c.in-Some.first.now ≤ c.args.id = omega arith in
+    let most : c.in-Some.first.now.id ≤ c.args.id = omega arith in
     back_run c.args.front.now c.args.back.now c.requires.rises c.args.id (slice_get_within c.args.back.now 0 c.in-Some.first.now is)
-    (λ d. let e = get_or_from_slice_get c.args.back.now 0 c.in-Some.first.now d is in omega (arith, e, most))
+    (λ d. let e = ap id_of (get_or_from_slice_get c.args.back.now 0 c.in-Some.first.now d is) in omega (arith, e, most))
 
 front_is : (c : In_default) → IsRunOf (c.args.front.now ++ c.args.back.now) c.args.front.now c.args.id 0
 front_is c = front_run c.args.front.now c.args.back.now c.requires.rises c.args.id (λ d filled. elim c.in_default.branch [
   | in_default-via-in-Some+else-number v ↦
-      let e = get_or_from_slice_get c.args.back.now 0 v.in-Some.first.now d (sym v.in-Some.ensures.value) in
-      let less : c.args.id < v.in-Some.first.now = omega arith in omega (arith, e, less)
+      let e = ap id_of (get_or_from_slice_get c.args.back.now 0 v.in-Some.first.now d (sym v.in-Some.ensures.value)) in
+      let less : c.args.id < v.in-Some.first.now.id = omega arith in omega (arith, e, less)
   | in_default-via-in_default v ↦
       absurd (none-some (get_or c.args.back.now 0 d)
       (v.in_default.ensures.value ∙ slice_get-get_or c.args.back.now 0 d filled))

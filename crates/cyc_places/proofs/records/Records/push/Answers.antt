@@ -20,7 +20,7 @@ invariant_of-self c =
       subst HaveCounts (sym items) (counts_pushed rs c.args.id c.args.level c.args.place last c.self.invariant.1),
       subst HaveAllCounts (sym items) (all_pushed rs c.args.id c.args.level c.args.place last c.self.invariant.2),
       λ there. absurd (let h = subst IsSome c.take.ensures.after there in cc),
-      c.push_back_reserved-2.ensures.items ∙ ap (λ ids. ids ++ c.args.id ∷ []) c.self.invariant.4
+      c.push_back_reserved-2.ensures.items ∙ ap (λ ids. ids ++ record { id = c.args.id } ∷ []) c.self.invariant.4
           ∙ sym (ap (map id_in) c.push_back_reserved.ensures.items
           ∙ map_push id_in c.self.inside.list.items (with_value c.in-Some.kept new)),
       λ there. absurd (let h = subst IsSome c.take.ensures.after there in cc),
