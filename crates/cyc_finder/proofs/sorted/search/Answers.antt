@@ -4,7 +4,7 @@ use Rattle.cyc_finder.proofs.Runs.{whole, at_one, gap_behind, gap_before, first_
 use Rattle.cyc_finder.proofs.sorted.search.Goals as goal
 
 pub loop-run-init : goal.loop-run-init
-loop-run-init g c = whole g.T.HasId.id_of c.args.things.now c.args.id
+loop-run-init g c = whole g.T.HasId.id_of c.args.things.now _
     (grind (arith, nat_tests, c.is_empty.ensures, c.if-is_empty.false))
 
 pub halve_four_times-run-requires-clause-here : goal.halve_four_times-run-requires-clause-here
