@@ -1,13 +1,13 @@
 //! A part of a step, as it is read.
 
-ghost use Rattle.std.specs.Prelude.{◌≡◌, map, option_map, IfOk};
+ghost use Rattle.std.specs.Prelude.{◌≡◌, map, option_map, OnOk};
 ghost use Rattle.serde_json.specs.Find.{as_str};
 ghost use Rattle.serde_json.specs.View.{view};
 ghost use Rattle.cyc_script.specs.Parameters.{whole_in};
 ghost use Rattle.cyc_script.specs.Parts.{data_of};
 
 use serde_json::Value;
-use std::alloc::{AllocError, Global};
+use std::alloc::AllocError;
 
 /// A part of a step: a text or a whole number of the script's tokens, or any JSON value.
 #[derive(Clone, Copy, Drop)]
@@ -41,13 +41,14 @@ impl<'a> Part<'a> {
     }
 }
 
-/// The parts of a step that is a value.
-pub(crate) fn parts_of<'a>(alloc: Global, values: &'a [Value]) -> Result<Vec<Part<'a>>, AllocError>
-    ensures { IfOk result (λ parts. map data_of parts.items ≡ map view values.now) }
+/// The parts of a step that is these values take the place of those in the list. Takes memory where they are more than it has
+/// room for.
+pub(crate) fn fill<'a>(parts: &mut Vec<Part<'a>>, values: &'a [Value]) -> Result<(), AllocError>
+    ensures { OnOk result (map data_of parts.new.items ≡ map view values.now) }
 {
-    let mut parts = Vec::with_capacity(alloc, values.len())?;
+    parts.clear();
     for value in values {
         parts.push(Part::Value(value))?;
     }
-    Ok(parts)
+    Ok(())
 }

@@ -118,6 +118,7 @@ fn steps(alloc: Global, values: &[Value]) -> Result<(Vec<Step>, Vec<String>), Re
     ensures well_formed { IfOk result (λ read. IsWellFormed read.0.items (length read.1.items)) }
 {
     let mut steps = Vec::with_capacity(alloc, values.len())?;
+    let mut parts = Vec::new(alloc);
     let mut context = Context {
         names: Names::new(alloc),
         moment: 0,
@@ -125,7 +126,7 @@ fn steps(alloc: Global, values: &[Value]) -> Result<(Vec<Step>, Vec<String>), Re
     let mut number: u32 = 0;
     for value in values {
         number += 1;
-        match words::read_value(alloc, &mut context, value) {
+        match words::read_value(alloc, &mut context, &mut parts, value) {
             Ok(step) => steps.push(step)?,
             Err(cause) => return Err(cause.at(number)),
         }

@@ -214,11 +214,12 @@ pub(crate) fn read_step<'a>(
     step_of_items(alloc, context, parts)
 }
 
-/// Reads the step of a value, as `read_step` does. Takes memory for the value's parts too.
+/// Reads the step of a value, as `read_step` does. `parts` is room for the value's parts, whatever stands in it before.
 #[tactic(auto, unfolding(crate::specs::Steps::step_of, crate::specs::Words::form_of_value))]
 pub(crate) fn read_value<'a>(
     alloc: Global,
     context: &mut Context<'a>,
+    parts: &mut Vec<Part<'a>>,
     value: &'a Value,
 ) -> Result<Step, Cause>
     requires { length context.old.names < 2 ^ 32 }
@@ -228,6 +229,6 @@ pub(crate) fn read_value<'a>(
     let Some(items) = value.as_array() else {
         return Err(Cause::Shape);
     };
-    let parts = part::parts_of(alloc, items.as_slice())?;
+    part::fill(parts, items.as_slice())?;
     read_step(alloc, context, parts.as_slice())
 }
