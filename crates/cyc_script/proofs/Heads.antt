@@ -50,6 +50,20 @@ module _ (inside : List Token) (ds : Items) (rest : List Token) (e : BeginsItems
   whole_object ts ms read = ap (converted of_json) (value-begin_object 127 ts (omega arith))
       ∙ converted_object (members (value 126) (length ts) ts) ∙ ap (parse_map object) read
 
+  -- two members, and then the steps
+  two_before : (j k : List ℕ) (ts more : List Token) (d c : Data) → Begins 126 ts d (key k ∷ more)
+      → Begins 126 more c (key (codes "steps") ∷ begin_array ∷ inside)
+      → Begins 127 (begin_object ∷ key j ∷ ts) (object (put (codes "steps") (array ds) (put k c (put j d no_members)))) rest
+  two_before j k ts more d c begins next =
+      let all = key j ∷ ts in
+      let less = shorter 126 ts (key k ∷ more) d begins in
+      let lesser = shorter 126 more (key (codes "steps") ∷ begin_array ∷ inside) c next in
+      let first = put j d no_members in
+      let read = member_read (value 126) no_members (length all) j all ts _ d (omega arith) refl begins
+      ∙ member_read (value 126) first (length all - 1) k (key k ∷ more) more _ c (omega (arith, less)) refl next
+      ∙ last_member (put k c first) (length all - 1 - 1) (omega (arith, less, lesser)) in
+      whole_object all _ read
+
 pub without_ceiling : (ts inside : List Token) (cpus : ℕ) (d : Data)
     → Begins 126 ts d (key (codes "steps") ∷ begin_array ∷ inside) → number_between 1 most_cpus d ≡ Some cpus
     → Heads (begin_object ∷ key (codes "cpus") ∷ ts) inside cpus 4294967295
@@ -68,16 +82,15 @@ pub with_ceiling : (ts more inside : List Token) (cpus ceiling : ℕ) (d c : Dat
     → Heads (begin_object ∷ key (codes "cpus") ∷ ts) inside cpus ceiling
 unfolding has_keys is_key cpus_of ceiling_of values_of
 with_ceiling ts more inside cpus ceiling d c begins between next calls = λ ds rest e.
-    let all = key (codes "cpus") ∷ ts in
-    let less = shorter 126 ts (key (codes "ceiling") ∷ more) d begins in
-    let lesser = shorter 126 more (key (codes "steps") ∷ begin_array ∷ inside) c next in
-    let first = put (codes "cpus") d no_members in
-    let second = put (codes "ceiling") c first in
-    let read = member_read (value 126) no_members (length all) (codes "cpus") all ts _ d (omega arith) refl begins
-    ∙ member_read (value 126) first (length all - 1) (codes "ceiling") (key (codes "ceiling") ∷ more) more _ c
-    (omega (arith, less)) refl next
-    ∙ last_member inside ds rest e second (length all - 1 - 1) (omega (arith, less, lesser)) in
-    (object (put (codes "steps") (array ds) second), whole_object inside ds rest e all _ read, refl, between, calls, refl)
+    (_, two_before inside ds rest e (codes "cpus") (codes "ceiling") ts more d c begins next, refl, between, calls, refl)
+
+pub ceiling_first : (ts more inside : List Token) (cpus ceiling : ℕ) (d c : Data)
+    → Begins 126 ts c (key (codes "cpus") ∷ more) → number_between 1 4294967295 c ≡ Some ceiling
+    → Begins 126 more d (key (codes "steps") ∷ begin_array ∷ inside) → number_between 1 most_cpus d ≡ Some cpus
+    → Heads (begin_object ∷ key (codes "ceiling") ∷ ts) inside cpus ceiling
+unfolding has_keys is_key cpus_of ceiling_of values_of
+ceiling_first ts more inside cpus ceiling d c begins calls next between = λ ds rest e.
+    (_, two_before inside ds rest e (codes "ceiling") (codes "cpus") ts more c d begins next, refl, between, calls, refl)
 
 -- ---- the script
 

@@ -132,15 +132,28 @@ fn opens_steps(reader: &mut Reader<'_>) -> bool
     matches!(reader.next(), Some(Token::BeginArray))
 }
 
-/// The CPUs and the ceiling of a script, up to the bracket that opens its steps.
-fn head(reader: &mut Reader<'_>) -> Option<(u32, Ceiling)>
-    ensures heads { IfSome result (λ head. Heads reader.old reader.new head.0 head.1) }
+/// The ceiling and the CPUs of a script, from behind the key of the ceiling up to the bracket that opens its steps.
+fn from_ceiling(reader: &mut Reader<'_>) -> Option<(u32, Ceiling)>
+    ensures heads { IfSome result (λ head. Heads
+        (token.begin_object ∷ token.key (codes "ceiling") ∷ reader.old) reader.new head.0 head.1) }
     ensures range { IfSome result (λ head. (1 ≤ head.0) × (head.0 ≤ most_cpus)) }
 {
-    let Some(Token::BeginObject) = reader.next() else {
-        return None;
-    };
+    let calls = number_between(&next_part(reader)?, 1, u32::MAX)?;
+    let ceiling = Ceiling::new(calls)?;
     let cpus = number_at(reader, "cpus", MOST_CPUS)?;
+    if !opens_steps(reader) {
+        return None;
+    }
+    Some((cpus, ceiling))
+}
+
+/// The CPUs of a script and its ceiling if it has one, from behind the key of the CPUs up to the bracket that opens its steps.
+fn from_cpus(reader: &mut Reader<'_>) -> Option<(u32, Ceiling)>
+    ensures heads { IfSome result (λ head. Heads
+        (token.begin_object ∷ token.key (codes "cpus") ∷ reader.old) reader.new head.0 head.1) }
+    ensures range { IfSome result (λ head. (1 ≤ head.0) × (head.0 ≤ most_cpus)) }
+{
+    let cpus = number_between(&next_part(reader)?, 1, MOST_CPUS)?;
     let Some(Token::Key(key)) = reader.next() else {
         return None;
     };
@@ -159,6 +172,27 @@ fn head(reader: &mut Reader<'_>) -> Option<(u32, Ceiling)>
         return None;
     };
     Some((cpus, Ceiling::new(u32::MAX)?))
+}
+
+/// The CPUs and the ceiling of a script, up to the bracket that opens its steps. The ceiling, if there is one, may stand first
+/// too: sorted keys have it so.
+fn head(reader: &mut Reader<'_>) -> Option<(u32, Ceiling)>
+    ensures heads { IfSome result (λ head. Heads reader.old reader.new head.0 head.1) }
+    ensures range { IfSome result (λ head. (1 ≤ head.0) × (head.0 ≤ most_cpus)) }
+{
+    let Some(Token::BeginObject) = reader.next() else {
+        return None;
+    };
+    let Some(Token::Key(key)) = reader.next() else {
+        return None;
+    };
+    if key == "ceiling" {
+        return from_ceiling(reader);
+    }
+    if key != "cpus" {
+        return None;
+    }
+    from_cpus(reader)
 }
 
 /// Whether the brace that closes the script is all that is left.
@@ -187,8 +221,8 @@ fn script_in(alloc: Global, reader: &mut Reader<'_>) -> Result<Script, Cause>
     })
 }
 
-/// The script of a text that is written as most are: the CPUs, the ceiling if it has one, and the steps, with no other
-/// value than the texts and whole numbers of steps. Else an error, of memory alone where memory is refused.
+/// The script of a text that is written as most are: the CPUs, the ceiling before or after them if it has one, and the steps,
+/// with no other value than the texts and whole numbers of steps. Else an error, of memory alone where memory is refused.
 pub(crate) fn script(alloc: Global, text: &str) -> Result<Script, Cause>
     ensures { IfOk result (λ script. (d : Data) × (read text.now ≡ Some d)
         × (content_of d ≡ Ok (content script))) }

@@ -123,3 +123,20 @@ fn the_ceiling_is_read_and_the_last_of_equal_keys_stands(rt: HostRuntime) {
         assert_eq!(rt; sizes(&script), (1, ceiling, 0, 0), "in {text}");
     }
 }
+
+static ORDERS: [&str; 4] = [
+    "{\"cpus\":2,\"ceiling\":3,\"steps\":[[\"omni\",\"a\",\"low\",1,1,0],[\"advance\",5],[\"softint\",0,\"low\",8]]}",
+    "{\"ceiling\":3,\"cpus\":2,\"steps\":[[\"omni\",\"a\",\"low\",1,1,0],[\"advance\",5],[\"softint\",0,\"low\",8]]}",
+    "{\"steps\":[[\"omni\",\"a\",\"low\",1,1,0],[\"advance\",5],[\"softint\",0,\"low\",8]],\"ceiling\":3,\"cpus\":2}",
+    "{\"steps\":[[\"omni\",\"a\",\"low\",1,1,0],[\"advance\",5],[\"softint\",0,\"low\",8]],\"cpus\":2,\"ceiling\":3}",
+];
+
+#[test]
+fn the_keys_stand_in_any_order(rt: HostRuntime) {
+    for text in &ORDERS {
+        let script = read(&rt, text);
+        assert_eq!(rt; sizes(&script), (2, 3, 1, 3), "in {text}");
+        assert_eq!(rt; advanced(&script, 1), Some(5), "in {text}");
+        assert_eq!(rt; served(&script, 2), Some((0, Soft::Low, 8)), "in {text}");
+    }
+}
