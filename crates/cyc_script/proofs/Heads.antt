@@ -1,23 +1,28 @@
 -- What a script has beside its steps, from its tokens.
 use Rattle.std.proofs.Common.{◌≡◌, ℕ, ◌-◌, ◌≤◌, List, [], ◌∷◌, length, true, Option, Some, None, Result, Ok, Err}
-use Rattle.std.proofs.Common.{codes, refl, ap, sym, ◌∙◌, arith}
-use Rattle.std.specs.Prelude.{IfSome, OnOk, nat_le}
+use Rattle.std.proofs.Common.{codes, inl, inr, refl, ap, sym, ◌∙◌, arith}
+use Rattle.std.specs.Prelude.{Bool, IfSome, IfOk, IsTrue, nat_le}
 use Rattle.std.proofs.lemmas.Bool.Decides.{nat_tests}
 use Rattle.json.specs.Token.{Token, key, begin_array, begin_object, end_object}
 use Rattle.json.specs.Json.{parse_map, members, value}
 use Rattle.json.proofs.Grammar.{value-begin_object}
 use Rattle.serde_json.specs.Data.{Data, array, object, Items, Members, no_members, put}
 use Rattle.serde_json.specs.Read.{of_json, of_members, converted}
+use Rattle.cyc_types.specs.declared.refusal.Refusal.{Refusal}
 use Rattle.cyc_script.specs.declared.step.Step.{Step}
+use Rattle.cyc_script.specs.declared.unread.Unread.{Unread}
+use Rattle.cyc_script.specs.declared.unread.Unread.TheVariants.{Refused, Unusual}
 use Rattle.cyc_script.specs.Limits.{most_cpus, most_steps}
-use Rattle.cyc_script.specs.Script.{number_between, is_key, has_keys, cpus_of, ceiling_of, values_of, within_limit, content_of}
+use Rattle.cyc_script.specs.Script.{Content, number_between, is_key, has_keys, cpus_of, ceiling_of, values_of, within_limit, content_of}
 use Rattle.cyc_script.specs.Steps.{first_context, steps_of}
-use Rattle.cyc_script.specs.Tokens.{Begins, BeginsItems, Heads}
+use Rattle.cyc_script.specs.Tokens.{Begins, BeginsItems, HasContent, HasSteps, Heads, Refuses}
+use Rattle.cyc_script.specs.Words.{list_of}
 use Rattle.cyc_script.proofs.Grammar.{array_read, converted_object, member_read, members_over, shorter}
 
-pub always : {A E : Type 0} (r : Result A E) (P : Type 0) → P → OnOk r P
-always (Ok x) P p = p
-always (Err e) P p = tt
+pub if_all : {E : Type 0} (r : Result Bool E) (P Q : Type 0) → (P → Q) → IfOk r (λ all. IsTrue all → P)
+    → IfOk r (λ all. IsTrue all → Q)
+if_all (Ok all) P Q f p = λ h. f (p h)
+if_all (Err e) P Q f p = tt
 
 -- ---- a number
 
@@ -94,12 +99,32 @@ ceiling_first ts more inside cpus ceiling d c begins calls next between = λ ds 
 
 -- ---- the script
 
-pub content_made : (d : Data) (cpus ceiling : ℕ) (values : List Data) (steps : List Step) (names : List (List ℕ))
-    → has_keys d ≡ true → cpus_of d ≡ Some cpus
-    → ceiling_of d ≡ Some ceiling → values_of d ≡ within_limit values → length values ≤ most_steps
-    → steps_of [] first_context values ≡ Ok (steps, names)
-    → content_of d ≡ Ok (record { cpus = cpus; ceiling = ceiling; names = names; steps = steps })
+-- the content of a script of these steps and names, or their refusal
+abbrev made : ℕ → ℕ → Result (List Step × List (List ℕ)) Refusal → Result Content Refusal
+made cpus ceiling (Ok read) = Ok (record { cpus = cpus; ceiling = ceiling; names = read.1; steps = read.0 })
+made cpus ceiling (Err refusal) = Err refusal
+
+content_made : (d : Data) (cpus ceiling : ℕ) (values : List Data) (read : Result (List Step × List (List ℕ)) Refusal)
+    → has_keys d ≡ true → cpus_of d ≡ Some cpus → ceiling_of d ≡ Some ceiling → values_of d ≡ within_limit values
+    → length values ≤ most_steps → steps_of [] first_context values ≡ read → content_of d ≡ made cpus ceiling read
 unfolding content_of
-content_made d cpus ceiling values steps names keys c g v few read =
+content_made d cpus ceiling values (Ok read) keys c g v few e =
     let fits : nat_le (length values) most_steps ≡ true = grind (arith, nat_tests) in
-    rw (keys, c, g, v, fits, read) refl
+    rw (keys, c, g, v, fits, e) refl
+content_made d cpus ceiling values (Err refusal) keys c g v few e =
+    let fits : nat_le (length values) most_steps ≡ true = grind (arith, nat_tests) in
+    rw (keys, c, g, v, fits, e) refl
+
+module _ (tokens inside : List Token) (cpus ceiling : ℕ) (heads : Heads tokens inside cpus ceiling) where
+  -- the head and the steps make the script
+  pub has_content : (read : Result (List Step × List (List ℕ)) Refusal) → HasSteps inside read
+      → HasContent tokens (made cpus ceiling read)
+  has_content read has =
+      let head = heads has.0 [] has.1 in
+      (head.0, head.1, content_made head.0 cpus ceiling (list_of has.0) read head.2 head.3 head.4 head.5 has.2 has.3)
+
+  -- what refuses the steps refuses the script
+  pub refused : (unread : Unread) → Refuses (HasSteps inside) unread → Refuses (HasContent tokens) unread
+  refused (Refused refusal) (inl is) = inl is
+  refused (Refused refusal) (inr has) = inr (has_content (Err refusal) has)
+  refused Unusual told = tt

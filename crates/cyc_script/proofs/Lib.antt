@@ -5,6 +5,7 @@ pub mod Lists
 pub mod Naming
 pub mod Numbers
 pub mod Parts
+pub mod Rest
 pub mod Steps
 pub mod Taken
 pub mod WellFormed

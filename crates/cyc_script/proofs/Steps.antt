@@ -19,7 +19,7 @@ pub step_accepted : (steps : List Step) (b after : Context) (d : Data) (ds : Lis
 unfolding steps_of
 step_accepted steps b after d ds step e = rw e refl
 
-step_faulty : (steps : List Step) (b : Context) (d : Data) (ds : List Data) (e : Cause) → step_of b d ≡ Err e
+pub step_faulty : (steps : List Step) (b : Context) (d : Data) (ds : List Data) (e : Cause) → step_of b d ≡ Err e
     → steps_of steps b (d ∷ ds) ≡ Err (refusal_at (length steps + 1) e)
 unfolding steps_of
 step_faulty steps b d ds e h = rw h refl

@@ -1,5 +1,6 @@
 -- The steps of a script, taken one after another from the items that are left.
-use Rattle.std.proofs.Common.{◌≡◌, ℕ, ◌+◌, ◌≤◌, List, [], ◌∷◌, ◌++◌, length, Option, Some, None, Result, Ok, true}
+use Rattle.std.proofs.Common.{◌≡◌, ℕ, ◌+◌, ◌≤◌, List, [], ◌∷◌, ◌++◌, length, Option, Some, None, Result, Ok, Err, true}
+use Rattle.std.proofs.Common.{◌⊎◌, inl, inr, ◌∙◌}
 use Rattle.std.proofs.Common.{refl, ap, ap₂, sym, arith}
 use Rattle.std.specs.Prelude.{option_map}
 use Rattle.std.proofs.Math.ListN.{length-append}
@@ -7,12 +8,16 @@ use Rattle.json.specs.Token.{Token}
 use Rattle.json.specs.Json.{parse_map}
 use Rattle.serde_json.specs.Data.{Data, Items, no_items, item}
 use Rattle.cyc_types.specs.declared.refusal.Refusal.{Refusal}
+use Rattle.cyc_types.specs.declared.refusal.Refusal.TheVariants.{Memory}
+use Rattle.cyc_script.specs.declared.cause.Cause.{Cause}
+use Rattle.cyc_script.specs.declared.cause.Cause.TheVariants as cause
 use Rattle.cyc_script.specs.declared.context.Context.{Context}
 use Rattle.cyc_script.specs.declared.step.Step.{Step}
+use Rattle.cyc_script.specs.Answers.{Fails, refusal_at}
 use Rattle.cyc_script.specs.Steps.{Fits, first_context, step_of, steps_of}
 use Rattle.cyc_script.specs.WellFormed.{names_fit, names_after_all, moments_fit, moment_after_all, name_fits, moment_fits}
 use Rattle.cyc_script.specs.Words.{list_of}
-use Rattle.cyc_script.proofs.Steps.{step_accepted, steps_end}
+use Rattle.cyc_script.proofs.Steps.{step_accepted, step_faulty, steps_end}
 use Rattle.cyc_script.proofs.WellFormed.{names_after_all_push, names_fit_push, moment_after_all_push, moments_fit_push}
 use Rattle.cyc_script.proofs.WellFormed.{names_after_at_most}
 
@@ -56,6 +61,26 @@ pub all_taken : (read : Option (Items × List Token)) (k : ℕ) (result : Result
 all_taken None k result r e = absurd (cc)
 all_taken (Some p) k result r e =
     (p.0, ap (λ rest. Some (p.0, rest)) (ap left_over e), omega (arith, ap counted e), ap (kept result) e)
+
+-- ---- a faulty step
+
+-- the first faulty step decides, whatever the others say
+pub fault_taken : (read left : Option (Items × List Token)) (steps : List Step) (before : Context) (d : Data) (fault : Cause)
+    (ds : Items) (r : List Token) → taken [] first_context read ≡ taken steps before (parse_map (item d) left)
+    → left ≡ Some (ds, r) → step_of before d ≡ Err fault
+    → (all : Items) × (read ≡ Some (all, r)) × (length (list_of all) ≡ length steps + length (d ∷ list_of ds))
+    × (steps_of [] first_context (list_of all) ≡ Err (refusal_at (length steps + 1) fault))
+fault_taken read left steps before d fault ds r same is faulty =
+    let here = ap (λ left. taken steps before (parse_map (item d) left)) is in
+    let decides = step_faulty steps before d (list_of ds) fault faulty in
+    let count = length steps + length (d ∷ list_of ds) in
+    all_taken read count _ r (same ∙ here ∙ ap (λ wanted. Some ((count, wanted), r)) decides)
+
+-- a refusal is that of memory, or of the fault that the step has
+pub refusal_told : (P : Type 0) (n : ℕ) (fault : Cause) (wanted : Result (Step × Context) Cause) (refusal : Refusal)
+    → refusal ≡ refusal_at n fault → Fails cause.Memory fault wanted → (wanted ≡ Err fault → P) → (refusal ≡ Memory) ⊎ P
+refusal_told P n fault wanted refusal at (inl is) told = inl (at ∙ ap (refusal_at n) is)
+refusal_told P n fault wanted refusal at (inr is) told = inr (told is)
 
 -- ---- what holds after each step
 

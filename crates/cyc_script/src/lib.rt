@@ -11,6 +11,7 @@ mod reader;
 mod script;
 mod step;
 mod tokens;
+mod unread;
 mod whole;
 mod words;
 

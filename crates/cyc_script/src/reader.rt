@@ -12,13 +12,14 @@ ghost use Rattle.cyc_script.specs.Parts.{data_of};
 ghost use Rattle.cyc_script.specs.Script.{content, number_between, cpus_in, cpus_of, ceiling_of, within_limit, values_of, is_key};
 ghost use Rattle.cyc_script.specs.Script.{has_keys, content_of, json_of, script_of};
 ghost use Rattle.cyc_script.specs.Steps.{first_context, steps_of};
+ghost use Rattle.cyc_script.specs.Tokens.{Tells};
 
-use crate::cause::Cause;
 use crate::context::Context;
 use crate::names::Names;
 use crate::part::Part;
 use crate::script::Script;
 use crate::step::Step;
+use crate::unread::Unread;
 use crate::{parameters, tokens, words};
 use cyc_types::{Ceiling, Refusal};
 use serde_json::{Map, Value};
@@ -171,13 +172,12 @@ fn json(alloc: Global, bytes: &[u8]) -> Result<Value, Refusal>
 
 /// The script of bytes whose tokens are read straight.
 #[tactic(auto, using(crate::proofs::Lists::is_utf8_text), unfolding(crate::specs::Script::json_of))]
-fn script_of_tokens(alloc: Global, bytes: &[u8]) -> Result<Script, Cause>
-    ensures { IfOk result (λ script. (d : Data) × (json_of bytes.now ≡ Ok d)
-        × (content_of d ≡ Ok (content script))) }
+fn script_of_tokens(alloc: Global, bytes: &[u8]) -> Result<Script, Unread>
+    ensures { Tells (λ wanted. (d : Data) × (json_of bytes.now ≡ Ok d) × (content_of d ≡ wanted)) content result }
 {
     match str::from_utf8(bytes) {
         Ok(text) => tokens::script(alloc, text),
-        Err(_) => Err(Cause::Shape),
+        Err(_) => Err(Unread::Unusual),
     }
 }
 
@@ -195,7 +195,7 @@ pub fn read_script(alloc: Global, bytes: &[u8]) -> Result<Script, Refusal>
     }
     match script_of_tokens(alloc, bytes) {
         Ok(script) => Ok(script),
-        Err(Cause::Memory) => Err(Refusal::Memory),
-        Err(_) => script_in(alloc, &json(alloc, bytes)?),
+        Err(Unread::Refused(refusal)) => Err(refusal),
+        Err(Unread::Unusual) => script_in(alloc, &json(alloc, bytes)?),
     }
 }

@@ -1,18 +1,16 @@
 //! A script, read straight from the tokens of its text.
 
 ghost use Rattle.std.specs.Prelude.{◌≡◌, ℕ, ◌<◌, ◌≤◌, ◌^◌, List, ◌∷◌, [], length, map, string_bytes};
-ghost use Rattle.std.specs.Prelude.{Some, Ok, IfOk, IfSome, OnOk, OnSome, IsTrue, codes};
+ghost use Rattle.std.specs.Prelude.{Some, Ok, IfOk, IfSome, OnSome, IsTrue, codes};
 ghost use Rattle.json.specs.Token as token;
-ghost use Rattle.serde_json.specs.Data.{Data, Items};
+ghost use Rattle.serde_json.specs.Data.{Data};
 ghost use Rattle.serde_json.specs.Read.{read};
-ghost use Rattle.cyc_script.specs.Answers.{Gives};
 ghost use Rattle.cyc_script.specs.Limits.{most_steps, most_cpus};
 ghost use Rattle.cyc_script.specs.Parts.{data_of};
 ghost use Rattle.cyc_script.specs.Script.{content, content_of, number_between};
-ghost use Rattle.cyc_script.specs.Steps.{Fits, first_context, step_of, steps_of};
-ghost use Rattle.cyc_script.specs.Tokens.{Begins, BeginsItems, Heads, items_of_parts, step_data};
+ghost use Rattle.cyc_script.specs.Tokens.{Begins, BeginsItems, HasContent, HasMoreSteps, HasSteps, Heads, Tells};
+ghost use Rattle.cyc_script.specs.Tokens.{items_of_parts, step_data};
 ghost use Rattle.cyc_script.specs.WellFormed.{IsWellFormed};
-ghost use Rattle.cyc_script.specs.Words.{list_of};
 
 use crate::cause::Cause;
 use crate::context::Context;
@@ -21,11 +19,12 @@ use crate::part::Part;
 use crate::reader::{MOST_CPUS, MOST_STEPS, number_between};
 use crate::script::Script;
 use crate::step::Step;
+use crate::unread::Unread;
 use crate::whole::whole;
 use crate::words;
-use cyc_types::Ceiling;
+use cyc_types::{Ceiling, Refusal};
 use json::{Reader, Scratch, Token};
-use std::alloc::Global;
+use std::alloc::{AllocError, Global};
 
 /// The next part of a step, where it is a text or a whole number.
 fn next_part<'a>(reader: &mut Reader<'a>) -> Option<Part<'a>>
@@ -40,50 +39,68 @@ fn next_part<'a>(reader: &mut Reader<'a>) -> Option<Part<'a>>
     }
 }
 
-/// The parts of a step up to the bracket that closes it.
-fn read_parts<'a>(reader: &mut Reader<'a>, parts: &mut Vec<Part<'a>>) -> Result<(), Cause>
-    ensures value { OnOk result
-        (BeginsItems 124 reader.old (items_of_parts parts.new.items) reader.new) }
-    ensures shorter { OnOk result (length reader.new < length reader.old) }
+/// Reads the parts of a step up to the bracket that closes it, where all are texts and whole numbers; else `false`.
+fn read_parts<'a>(reader: &mut Reader<'a>, parts: &mut Vec<Part<'a>>) -> Result<bool, AllocError>
+    ensures value { IfOk result (λ all. IsTrue all
+        → BeginsItems 124 reader.old (items_of_parts parts.new.items) reader.new) }
+    ensures shorter { IfOk result (λ all. IsTrue all → length reader.new < length reader.old) }
 {
     parts.clear();
     while !reader.take_end_array() {
         let Some(part) = next_part(reader) else {
-            return Err(Cause::Shape);
+            return Ok(false);
         };
         parts.push(part)?;
     }
-    Ok(())
+    Ok(true)
 }
 
-/// The next step.
-fn step<'a>(
-    alloc: Global,
-    reader: &mut Reader<'a>,
-    parts: &mut Vec<Part<'a>>,
-    context: &mut Context<'a>,
-) -> Result<Step, Cause>
-    requires { length context.old.names < 2 ^ 32 }
-    ensures value { OnOk result
-        (Begins 125 reader.old (step_data parts.new.items) reader.new) }
-    ensures reads { IfOk result
-        (λ step. step_of context.old (step_data parts.new.items) ≡ Ok (step, context.new)) }
-    ensures fits { IfOk result (λ step. Fits context.old step context.new) }
-    ensures shorter { OnOk result (length reader.new < length reader.old) }
+/// Reads the parts of the next step, where all are texts and whole numbers; else `false`.
+fn step_parts<'a>(reader: &mut Reader<'a>, parts: &mut Vec<Part<'a>>) -> Result<bool, AllocError>
+    ensures value { IfOk result (λ all. IsTrue all
+        → Begins 125 reader.old (step_data parts.new.items) reader.new) }
+    ensures shorter { IfOk result (λ all. IsTrue all → length reader.new < length reader.old) }
 {
     let Some(Token::BeginArray) = reader.next() else {
-        return Err(Cause::Shape);
+        return Ok(false);
     };
-    read_parts(reader, parts)?;
-    words::read_step(alloc, context, parts.as_slice())
+    read_parts(reader, parts)
 }
 
-/// The steps up to the bracket that closes them, with the names that they introduce.
-fn steps(alloc: Global, reader: &mut Reader<'_>) -> Result<(Vec<Step>, Vec<String>), Cause>
-    ensures value { IfOk result (λ read. (ds : Items) × BeginsItems 125 reader.old ds reader.new
-        × (length (list_of ds) ≤ most_steps)
-        × (steps_of [] first_context (list_of ds)
-        ≡ Ok (read.0.items, map string_bytes read.1.items))) }
+/// Whether the brace that closes the script is all that is left.
+fn is_over(reader: &mut Reader<'_>) -> bool
+    ensures { IsTrue result → reader.old ≡ token.end_object ∷ [] }
+{
+    matches!(reader.next(), Some(Token::EndObject)) && reader.next().is_none()
+}
+
+/// Whether steps of texts and whole numbers alone, whatever they say, are all that is left of a script behind so many steps.
+/// `parts` is room for the parts of each.
+fn ends_behind<'a>(
+    reader: &mut Reader<'a>,
+    parts: &mut Vec<Part<'a>>,
+    before: usize,
+) -> Result<bool, AllocError>
+    requires { before ≤ most_steps }
+    ensures { IfOk result (λ ends. IsTrue ends → HasMoreSteps before reader.old) }
+{
+    let mut count = before;
+    while !reader.take_end_array() {
+        if count == MOST_STEPS {
+            return Ok(false);
+        }
+        if !step_parts(reader, parts)? {
+            return Ok(false);
+        }
+        count += 1;
+    }
+    Ok(is_over(reader))
+}
+
+/// The steps up to the end of the script, with the names that they introduce. A faulty step is refused only where all behind it
+/// is of the usual form as well.
+fn steps(alloc: Global, reader: &mut Reader<'_>) -> Result<(Vec<Step>, Vec<String>), Unread>
+    ensures value { Tells (HasSteps reader.old) (λ read. (read.0.items, map string_bytes read.1.items)) result }
     ensures well_formed { IfOk result (λ read. IsWellFormed read.0.items (length read.1.items)) }
 {
     let mut steps = Vec::new(alloc);
@@ -94,10 +111,25 @@ fn steps(alloc: Global, reader: &mut Reader<'_>) -> Result<(Vec<Step>, Vec<Strin
     };
     while !reader.take_end_array() {
         if steps.len() == MOST_STEPS {
-            return Err(Cause::Shape);
+            return Err(Unread::Unusual);
         }
-        let next = step(alloc, reader, &mut parts, &mut context)?;
-        steps.push(next)?;
+        if !step_parts(reader, &mut parts)? {
+            return Err(Unread::Unusual);
+        }
+        match words::read_step(alloc, &mut context, parts.as_slice()) {
+            Ok(step) => steps.push(step)?,
+            Err(Cause::Memory) => return Err(Unread::Refused(Refusal::Memory)),
+            Err(cause) => {
+                let number = steps.len() + 1;
+                if !ends_behind(reader, &mut parts, number)? {
+                    return Err(Unread::Unusual);
+                }
+                return Err(Unread::Refused(cause.at(number as u32)));
+            }
+        }
+    }
+    if !is_over(reader) {
+        return Err(Unread::Unusual);
     }
     Ok((steps, context.names.into_texts()))
 }
@@ -195,24 +227,14 @@ fn head(reader: &mut Reader<'_>) -> Option<(u32, Ceiling)>
     from_cpus(reader)
 }
 
-/// Whether the brace that closes the script is all that is left.
-fn is_over(reader: &mut Reader<'_>) -> bool
-    ensures { IsTrue result → reader.old ≡ token.end_object ∷ [] }
-{
-    matches!(reader.next(), Some(Token::EndObject)) && reader.next().is_none()
-}
-
-fn script_in(alloc: Global, reader: &mut Reader<'_>) -> Result<Script, Cause>
-    ensures { IfOk result (λ script. (d : Data) × Begins 127 reader.old d []
-        × (content_of d ≡ Ok (content script))) }
+/// The script of the tokens.
+fn script_in(alloc: Global, reader: &mut Reader<'_>) -> Result<Script, Unread>
+    ensures { Tells (HasContent reader.old) content result }
 {
     let Some((cpus, ceiling)) = head(reader) else {
-        return Err(Cause::Shape);
+        return Err(Unread::Unusual);
     };
     let (steps, names) = steps(alloc, reader)?;
-    if !is_over(reader) {
-        return Err(Cause::Shape);
-    }
     Ok(Script {
         cpus,
         ceiling,
@@ -222,10 +244,9 @@ fn script_in(alloc: Global, reader: &mut Reader<'_>) -> Result<Script, Cause>
 }
 
 /// The script of a text that is written as most are: the CPUs, the ceiling before or after them if it has one, and the steps,
-/// with no other value than the texts and whole numbers of steps. Else an error, of memory alone where memory is refused.
-pub(crate) fn script(alloc: Global, text: &str) -> Result<Script, Cause>
-    ensures { IfOk result (λ script. (d : Data) × (read text.now ≡ Some d)
-        × (content_of d ≡ Ok (content script))) }
+/// with no other value than the texts and whole numbers of steps. Where one of its steps is faulty, the refusal of the first.
+pub(crate) fn script(alloc: Global, text: &str) -> Result<Script, Unread>
+    ensures { Tells (λ wanted. (d : Data) × (read text.now ≡ Some d) × (content_of d ≡ wanted)) content result }
 {
     let mut scratch = Scratch::new(alloc);
     let mut reader = Reader::new(text, &mut scratch)?;

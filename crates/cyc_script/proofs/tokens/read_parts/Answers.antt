@@ -26,7 +26,7 @@ loop-reader-preserved c =
     )
 
 pub returns-clause-value : goal.returns-clause-value
-returns-clause-value c =
+returns-clause-value c = λ all.
     let l = c.loop-reader in
     let r = c.take_end_array.new.self in
     let over = items_over (value 124) l.invariant.0 l.reader r l.invariant.1 (grind arith) in
