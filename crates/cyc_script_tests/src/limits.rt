@@ -13,29 +13,43 @@ fn read(alloc: Global, bytes: &[u8]) -> Result<usize, Refusal> {
     }
 }
 
-// The text of a script of so many equal steps.
-fn text_of_steps(alloc: Global, count: u32, step: &str) -> Result<String, AllocError> {
+// The text of a script of a first step and so many equal ones in all.
+fn text_of_steps(alloc: Global, first: &str, count: u32, step: &str) -> Result<String, AllocError> {
     let mut text = String::from_str(alloc, "{\"cpus\":1,\"steps\":[")?;
     for n in 0..count {
         if n > 0 {
             text.push_str(",")?;
         }
-        text.push_str(step)?;
+        text.push_str(if n == 0 { first } else { step })?;
     }
     text.push_str("]}")?;
     Ok(text)
 }
 
-// Reads a script of so many steps.
-fn read_steps<R: AllocGlobal + Abort>(rt: &R, count: u32) -> Result<usize, Refusal> {
-    let text = text_of_steps(rt.alloc(), count, "[\"advance\",0]").expect(rt, "a text");
+// Reads a script of so many steps, the first of which is given.
+fn read_steps<R: AllocGlobal + Abort>(rt: &R, first: &str, count: u32) -> Result<usize, Refusal> {
+    let text = text_of_steps(rt.alloc(), first, count, "[\"advance\",0]").expect(rt, "a text");
     read(rt.alloc(), text.as_bytes())
 }
 
 #[test]
 fn a_script_has_at_most_65536_steps(rt: HostRuntime) {
-    assert_eq!(rt; read_steps(&rt, 65_536), Ok(65_536));
-    assert_eq!(rt; read_steps(&rt, 65_537), Err(Refusal::ScriptShape(0)));
+    const ADVANCE: &str = "[\"advance\",0]";
+    assert_eq!(rt; read_steps(&rt, ADVANCE, 65_536), Ok(65_536));
+    assert_eq!(rt;
+        read_steps(&rt, ADVANCE, 65_537),
+        Err(Refusal::ScriptShape(0))
+    );
+}
+
+#[test]
+fn too_many_steps_decide_before_a_faulty_one(rt: HostRuntime) {
+    const FAULTY: &str = "[\"remove\",\"a\"]";
+    assert_eq!(rt; read_steps(&rt, FAULTY, 65_536), Err(Refusal::NoName(1)));
+    assert_eq!(rt;
+        read_steps(&rt, FAULTY, 65_537),
+        Err(Refusal::ScriptShape(0))
+    );
 }
 
 // Reads so many spaces.

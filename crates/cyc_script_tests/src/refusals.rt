@@ -179,3 +179,161 @@ fn the_first_faulty_step_decides_and_its_form_before_its_name(rt: HostRuntime) {
         assert_eq!(rt; refusal_of_steps(&rt, steps), *refusal, "at {steps}");
     }
 }
+
+/// The steps of a script with a faulty one, each list with its refusal. The faulty step stands first, in the middle or last, or
+/// there are two; behind it are steps, or values that are none, with parts that are neither texts nor whole numbers.
+const FAULTS_BEFORE_OTHERS: [(&str, Refusal); 20] = [
+    (
+        "[\"offline\"],[\"advance\",5],[\"add\",\"a\",\"low\",1,1]",
+        ScriptShape(1),
+    ),
+    (
+        "[\"bind\",\"a\",0],[\"add\",\"a\",\"low\",1,1],[\"advance\",5]",
+        NoName(1),
+    ),
+    (
+        "[\"advance\",5],[\"hold\",5],[\"advance\",6]",
+        ScriptShape(2),
+    ),
+    (
+        "[\"add\",\"a\",\"low\",1,1],[\"omni\",\"a\",\"low\",1,1,0],[\"remove\",\"a\"]",
+        NameTwice(2),
+    ),
+    (
+        "[\"advance\",5],[\"remove\",\"a\"],[\"advance\",6]",
+        NoName(2),
+    ),
+    (
+        "[\"advance\",5],[\"advance\",4],[\"advance\",6]",
+        TimeBack(2),
+    ),
+    (
+        "[\"juggle\",0],[\"advance\",5],[\"advance\",\"6\"]",
+        ScriptShape(3),
+    ),
+    (
+        "[\"add\",\"a\",\"low\",1,1],[\"advance\",5],[\"add\",\"a\",\"low\",1,1]",
+        NameTwice(3),
+    ),
+    (
+        "[\"juggle\",0],[\"advance\",5],[\"unbind\",\"a\"]",
+        NoName(3),
+    ),
+    (
+        "[\"juggle\",0],[\"advance\",5],[\"advance\",4]",
+        TimeBack(3),
+    ),
+    (
+        "[\"advance\",5],[\"advance\",4],[\"advance\",3],[\"bind\"]",
+        TimeBack(2),
+    ),
+    (
+        "[\"juggle\",0],[\"bind\",\"a\",0],[\"advance\"],[\"remove\",\"b\"]",
+        NoName(2),
+    ),
+    (
+        "[\"advance\",5],[\"advance\",4],[\"advance\",[6]]",
+        TimeBack(2),
+    ),
+    (
+        "[\"advance\",5],[\"advance\",4],[\"advance\",null]",
+        TimeBack(2),
+    ),
+    (
+        "[\"advance\",5],[\"advance\",4],[\"advance\",6.0]",
+        TimeBack(2),
+    ),
+    (
+        "[\"advance\",5],[\"remove\",\"a\"],[[]],[\"advance\",6]",
+        NoName(2),
+    ),
+    (
+        "[\"advance\",5],[\"remove\",\"a\"],{\"advance\":[6]}",
+        NoName(2),
+    ),
+    ("[\"advance\",5],[\"remove\",\"a\"],7", NoName(2)),
+    (
+        "[\"advance\",null],[\"remove\",\"a\"],[\"advance\",6]",
+        ScriptShape(1),
+    ),
+    (
+        "[\"advance\",5],[\"advance\",[4]],[\"remove\",\"a\"]",
+        ScriptShape(2),
+    ),
+];
+
+#[test]
+fn the_first_faulty_step_decides_whatever_steps_stand_behind_it(rt: HostRuntime) {
+    for (steps, refusal) in &FAULTS_BEFORE_OTHERS {
+        assert_eq!(rt; refusal_of_steps(&rt, steps), Some(*refusal), "at {steps}");
+    }
+}
+
+/// Texts whose second step is faulty, each with its refusal: what stands behind the steps decides where the text is no JSON or
+/// the object is no script.
+const FAULTS_BEFORE_THE_END: [(&str, Refusal); 14] = [
+    (
+        "{\"cpus\":1,\"steps\":[[\"advance\",5],[\"advance\",4],[\"advance\",6]}",
+        ScriptSyntax,
+    ),
+    (
+        "{\"cpus\":1,\"steps\":[[\"advance\",5],[\"advance\",4],[\"advance\" 6]]}",
+        ScriptSyntax,
+    ),
+    (
+        "{\"cpus\":1,\"steps\":[[\"advance\",5],[\"advance\",4],[\"advance\",06]]}",
+        ScriptSyntax,
+    ),
+    (
+        "{\"cpus\":1,\"steps\":[[\"advance\",5],[\"advance\",4],]}",
+        ScriptSyntax,
+    ),
+    (
+        "{\"cpus\":1,\"steps\":[[\"advance\",5],[\"advance\",4]]",
+        ScriptSyntax,
+    ),
+    (
+        "{\"cpus\":1,\"steps\":[[\"advance\",5],[\"advance\",4]]} 7",
+        ScriptSyntax,
+    ),
+    (
+        "{\"cpus\":1,\"steps\":[[\"advance\",5],[\"advance\",4]],\"more\"}",
+        ScriptSyntax,
+    ),
+    (
+        "{\"cpus\":1,\"steps\":[[\"advance\",5],[\"advance\",4]],\"more\":1}",
+        ScriptShape(0),
+    ),
+    (
+        "{\"cpus\":1,\"steps\":[[\"advance\",5],[\"advance\",4]],\"cpus\":17}",
+        ScriptShape(0),
+    ),
+    (
+        "{\"cpus\":1,\"steps\":[[\"advance\",5],[\"advance\",4]],\"cpus\":2}",
+        TimeBack(2),
+    ),
+    (
+        "{\"cpus\":1,\"steps\":[[\"advance\",5],[\"advance\",4]],\"steps\":[[]]}",
+        ScriptShape(1),
+    ),
+    (
+        "{\"cpus\":2,\"ceiling\":3,\"steps\":[[\"advance\",5],[\"advance\",4]]}",
+        TimeBack(2),
+    ),
+    (
+        "{\"ceiling\":3,\"cpus\":2,\"steps\":[[\"advance\",5],[\"advance\",4]]}",
+        TimeBack(2),
+    ),
+    (
+        "{\"steps\":[[\"advance\",5],[\"advance\",4]],\"cpus\":2}",
+        TimeBack(2),
+    ),
+];
+
+#[test]
+fn the_end_of_the_text_decides_before_a_faulty_step(rt: HostRuntime) {
+    for (text, refusal) in &FAULTS_BEFORE_THE_END {
+        let refused = refusal_of(rt.alloc(), text.as_bytes());
+        assert_eq!(rt; refused, Some(*refusal), "at {text}");
+    }
+}
