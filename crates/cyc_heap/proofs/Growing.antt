@@ -5,7 +5,8 @@ use Rattle.std.proofs.lemmas.Bool.{cases_eq, cases_lt}
 use Rattle.std.proofs.lemmas.List.{get_or_push, get_or_append_left, get_or-take}
 use Rattle.cyc_types.specs.Series.{never}
 use Rattle.cyc_heap.specs.declared.entry.Entry.{Entry}
-use Rattle.cyc_heap.specs.Tournament.{nowhere, entry_at, index_of, slots, last_position, root_of, comes, IsWinner, IsPlayedAt, IsPlayed, IsListed}
+use Rattle.cyc_heap.specs.Tournament.{nowhere, entry_at, index_of, slots, last_position, winner_of, comes, IsWinner, IsPlayedAt}
+use Rattle.cyc_heap.specs.Tournament.{IsPlayed, IsListed}
 use Rattle.cyc_heap.proofs.Slots.{slots_kept}
 use Rattle.cyc_heap.proofs.Playing.{winner_at, comes_antisym, least_of_all, one_of_all}
 use Rattle.cyc_heap.proofs.Views.{winner_used, winner_free, comes_later}
@@ -32,7 +33,8 @@ kept_listed size xs ys free long_xs long_ys same h = record {
   none = λ p at. (let m = ap (λ (e : Entry). e.moment) (same (get_or free p 0) (h.low p at)) in
       let was = h.none p at in omega (arith, m, was));
   apart = h.apart;
-  count = (let s = ap (count_by is_some) (slots_kept size xs ys long_xs long_ys same) in let count = h.count in omega (arith, s, count));
+  count = (let s = ap (count_by is_some) (slots_kept size xs ys long_xs long_ys same) in let count = h.count in omega
+      (arith, s, count));
 }
 
 -- the leaves alone
@@ -52,7 +54,8 @@ played_more size g xs won long within best played k low = elim (cases_eq k g) [
       best
   | inr off ↦ winner_at (entry_at xs (size + k)) (entry_at xs (2 * k)) (entry_at xs (2 * k + 1))
       (entry_at (xs ++ won ∷ []) (size + k)) (entry_at (xs ++ won ∷ []) (2 * k)) (entry_at (xs ++ won ∷ []) (2 * k + 1))
-      (old (size + k) (omega (arith, low, off))) (old (2 * k) (omega (arith, within, low))) (old (2 * k + 1) (omega (arith, within, low)))
+      (old (size + k) (omega (arith, low, off))) (old (2 * k) (omega (arith, within, low))) (old (2 * k + 1) (omega
+      (arith, within, low)))
       (played k (omega (arith, low, off)))
 ]
   where
@@ -60,7 +63,8 @@ played_more size g xs won long within best played k low = elim (cases_eq k g) [
     old i low = get_or_append_left xs (won ∷ []) nowhere i (omega (arith, low, long))
 
 -- more free leaves keep the winner as it is
-module _ (leaves more : ℕ) (xs ys : List Entry) (played : IsPlayed leaves xs) (played_after : IsPlayed more ys) (some : 0 < leaves)
+module _ (leaves more : ℕ) (xs ys : List Entry) (played : IsPlayed leaves xs) (played_after : IsPlayed more ys)
+    (some : 0 < leaves)
     (wider : leaves ≤ more) (same : (i : ℕ) → i < leaves → entry_at ys i ≡ entry_at xs i)
     (unused : (i : ℕ) → leaves ≤ i → i < more → never < (entry_at ys i).moment) where
   not_later : comes (entry_at ys (last_position more)) (entry_at xs (last_position leaves)) ≡ true
@@ -68,7 +72,7 @@ module _ (leaves more : ℕ) (xs ys : List Entry) (played : IsPlayed leaves xs) 
       subst (λ (e : Entry). comes (entry_at ys (last_position more)) e ≡ true) (same i low ∙ sym is)
       (least_of_all more ys played_after i (omega (arith, low, wider))))
 
-  pub same_root : root_of more ys ≡ root_of leaves xs
+  pub same_root : winner_of more ys ≡ winner_of leaves xs
   same_root = elim (cases_lt never (entry_at ys (last_position more)).moment) [
     | inl none ↦ (let m = comes_later (entry_at ys (last_position more)) (entry_at xs (last_position leaves)) not_later in
         winner_free more ys none ∙ sym (winner_free leaves xs (omega (arith, m, none))))

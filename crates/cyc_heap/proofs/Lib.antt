@@ -3,3 +3,7 @@ pub mod Playing
 pub mod Views
 pub mod Listed
 pub mod Growing
+pub mod Moving
+pub mod Ordering
+pub mod Drawing
+pub mod Changing

@@ -1,5 +1,6 @@
 -- The leaves and the free indexes, after another entry in one leaf.
-use Rattle.std.proofs.Common.{◌≡◌, ◌≢◌, ℕ, suc, ◌+◌, ◌<◌, ◌≤◌, ◌⊎◌, inl, inr, List, [], ◌∷◌, ◌++◌, length, get_or, Option, Some, None, is_some}
+use Rattle.std.proofs.Common.{◌≡◌, ◌≢◌, ℕ, suc, ◌+◌, ◌<◌, ◌≤◌, ◌⊎◌, inl, inr, Bool, true, false, List, [], ◌∷◌, ◌++◌, length}
+use Rattle.std.proofs.Common.{get_or, Option, Some, None, is_some}
 use Rattle.std.proofs.Common.{count_by, cond, refl, sym, ap, ◌∙◌, subst, subst₂, arith}
 use Rattle.std.proofs.Math.ListN.{set}
 use Rattle.std.proofs.lemmas.Bool.{cases_eq, cases_lt}
@@ -8,12 +9,14 @@ use Rattle.std.proofs.lemmas.List.Sums.{sum_by-append}
 use Rattle.cyc_types.specs.Series.{never}
 use Rattle.cyc_types.specs.Expirations.{Expiration}
 use Rattle.cyc_heap.specs.declared.entry.Entry.{Entry}
-use Rattle.cyc_heap.specs.Tournament.{key, entry_at, index_of, slot, slots, IsPlayed, IsListed, IsTournament}
+use Rattle.cyc_heap.specs.Tournament.{key, entry_at, index_of, free_entry, slot, slots, IsPlayed, IsListed}
+use Rattle.cyc_heap.specs.Order.{IsOrder, IsTournament}
 use Rattle.cyc_heap.proofs.Slots.{length-slots, slots_at, slots_set, slots_kept, one_more, slot_used, slot_free}
 use Rattle.cyc_heap.proofs.Views.{count_same, count_more, count_less}
 
 -- the leaf of the index x has another entry
-module _ (size : ℕ) (xs ys : List Entry) (x : ℕ) (e : Entry) (long_xs : size ≤ length xs) (long_ys : size ≤ length ys) (low : x < size)
+module _ (size : ℕ) (xs ys : List Entry) (x : ℕ) (e : Entry) (long_xs : size ≤ length xs) (long_ys : size ≤ length ys)
+    (low : x < size)
     (here : entry_at ys x ≡ e) (others : (i : ℕ) → i < size → i ≢ x → entry_at ys i ≡ entry_at xs i) where
   pub set_slots : slots size ys ≡ set (slots size xs) x (slot e)
   set_slots = slots_set size xs ys x e long_xs long_ys low here others
@@ -140,9 +143,10 @@ abbrev pub IsNext : ℕ → List ℕ → ℕ → ℕ → List ℕ → Type 0
 IsNext given free x given_after free_after = ((free ≡ free_after ++ x ∷ []) × (given_after ≡ given))
     ⊎ ((free ≡ []) × (free_after ≡ []) × (x ≡ given) × (given_after ≡ given + 1))
 
-module _ (leaves size given : ℕ) (xs : List Entry) (free : List ℕ) (x given_after : ℕ) (free_after : List ℕ)
-    (h : IsTournament leaves size given xs free) (next : IsNext given free x given_after free_after)
-    (few : given < size + length free) where
+module _ (is_few : Bool) (few : List Entry) (leaves size given : ℕ) (xs : List Entry) (free : List ℕ) (x given_after : ℕ)
+    (free_after : List ℕ) (h : IsTournament is_few few leaves size given xs free)
+    (next : IsNext given free x given_after free_after)
+    (left : given < size + length free) where
   -- it is free
   pub next_free : (x < given_after) × (given ≤ given_after) × (given_after ≤ size) × (never < (entry_at xs x).moment)
   next_free = (let known = h.known in
@@ -160,8 +164,8 @@ module _ (leaves size given : ℕ) (xs : List Entry) (free : List ℕ) (x given_
         | inr (none, none_after, at, more) ↦ (let zero = ap length none in (
           omega (arith, at, more),
           omega (arith, more),
-          omega (arith, more, few, zero),
-          subst (λ i. never < (entry_at xs i).moment) (sym at) (h.unused given (omega arith) (omega (arith, few, zero, wide))),
+          omega (arith, more, left, zero),
+          subst (λ i. never < (entry_at xs i).moment) (sym at) (h.unused given (omega arith) (omega (arith, left, zero, wide))),
         ))
       ])
 
@@ -182,26 +186,37 @@ module _ (leaves size given : ℕ) (xs : List Entry) (free : List ℕ) (x given_
         | inr (none, none_after, at, more) ↦ subst₂ (λ n f. IsListed n ys f) (sym more) (sym none_after)
             (let zero = ap length none in
             first given xs ys e (omega (arith, known, wide, long, some))
-            (omega (arith, known, wide, long, some, same_length, few, zero)) (ap (entry_at ys) (sym at) ∙ here)
+            (omega (arith, known, wide, long, some, same_length, left, zero)) (ap (entry_at ys) (sym at) ∙ here)
             (λ i within. others i (omega (arith, within, known, wide)) (λ q. absurd (omega (arith, q, at, within))))
             (subst (λ f. IsListed given xs f) none h.listed) uses (mine ∙ at))
       ])
 
 -- the tournament after it
-pub after : (leaves size given given_after : ℕ) (xs ys : List Entry) (free free_after : List ℕ) (x : ℕ)
-    → IsTournament leaves size given xs free → length ys ≡ length xs → IsPlayed leaves ys
+pub after : (was is_few : Bool) (few_was few : List Entry) (leaves size given given_after : ℕ) (xs ys : List Entry)
+    (free free_after : List ℕ) (x : ℕ) (e : Entry)
+    → IsTournament was few_was leaves size given xs free → length ys ≡ length xs
+    → (is_few ≡ true → IsOrder few leaves ys) → (is_few ≡ false → IsPlayed leaves ys)
+    → entry_at ys x ≡ e → (never < e.moment → e ≡ free_entry)
     → ((i : ℕ) → i < leaves → i ≢ x → entry_at ys i ≡ entry_at xs i)
     → x < given_after → given ≤ given_after → given_after ≤ size
-    → IsListed given_after ys free_after → IsTournament leaves size given_after ys free_after
-after leaves size given given_after xs ys free free_after x h same played others low more known listed = record {
-  some = h.some;
-  few = h.few;
-  long = ap suc same ∙ h.long;
-  wide = h.wide;
-  known = known;
-  played = played;
-  listed = listed;
-  unused = λ i from within. (let moment = ap (λ (e : Entry). e.moment)
-      (others i within (λ q. absurd (omega (arith, q, from, low)))) in
-      let was = h.unused i (omega (arith, from, more)) within in omega (arith, moment, was));
-}
+    → IsListed given_after ys free_after → IsTournament is_few few leaves size given_after ys free_after
+after was is_few few_was few leaves size given given_after xs ys free free_after x e h same ordered played here bare others low
+    more known listed = record {
+      some = h.some;
+      at_most = h.at_most;
+      long = ap suc same ∙ h.long;
+      wide = h.wide;
+      known = known;
+      ordered = ordered;
+      played = played;
+      bare = λ i within unused. elim (cases_eq i x) [
+        | inl is ↦ (let at : entry_at ys i ≡ e = ap (entry_at ys) is ∙ here in
+            let moment = ap (λ (e : Entry). e.moment) at in at ∙ bare (omega (arith, moment, unused)))
+        | inr off ↦ (let at = others i within off in
+            let moment = ap (λ (e : Entry). e.moment) at in at ∙ h.bare i within (omega (arith, moment, unused)))
+      ];
+      listed = listed;
+      unused = λ i from within. (let moment = ap (λ (e : Entry). e.moment)
+          (others i within (λ q. absurd (omega (arith, q, from, low)))) in
+          let was = h.unused i (omega (arith, from, more)) within in omega (arith, moment, was));
+    }

@@ -1,8 +1,10 @@
 -- How the games are played, and what all of them come to.
-use Rattle.std.proofs.Common.{◌≡◌, ◌≢◌, ℕ, zero, suc, ◌+◌, ◌-◌, ◌*◌, ◌/◌, ◌%◌, ◌<◌, ◌≤◌, inl, inr, Bool, true, false, List, length, refl, sym, ap, ◌∙◌}
-use Rattle.std.proofs.Common.{subst, subst₂, arith}
+use Rattle.std.proofs.Common.{◌≡◌, ◌≢◌, ℕ, zero, suc, ◌+◌, ◌-◌, ◌*◌, ◌/◌, ◌%◌, ◌<◌, ◌≤◌, inl, inr, ltb, leb, ◌==◌, ◌&&◌, ◌||◌}
+use Rattle.std.proofs.Common.{Bool, true, false, List, length, refl, sym}
+use Rattle.std.proofs.Common.{ap, ◌∙◌, subst, subst₂, arith}
 use Rattle.std.proofs.Math.ListN.{set}
 use Rattle.std.proofs.lemmas.Bool.{cases_eq, cases_lt}
+use Rattle.std.proofs.lemmas.Bool.Decides.{nat_tests}
 use Rattle.std.proofs.lemmas.List.{get_or-set_same, get_or-set_other}
 use Rattle.cyc_types.proofs.Order.{test_total, test_antisym, test_trans}
 use Rattle.cyc_heap.specs.declared.entry.Entry.{Entry}
@@ -58,14 +60,20 @@ module _ (size p : ℕ) (xs : List Entry) (won : Entry) (long : length xs + 1 �
         (played g within apart)
   ]
 
-comes_self : (a : Entry) → comes a a ≡ true
+pub comes_self : (a : Entry) → comes a a ≡ true
 comes_self a = self (comes a a) refl
   where
     self : (b : Bool) → comes a a ≡ b → b ≡ true
     self true h = refl
     self false h = sym h ∙ test_total a.moment a.word a.moment a.word h
 
-comes_trans : (a b c : Entry) → comes a b ≡ true → comes b c ≡ true → comes a c ≡ true
+pub comes_by_moment : (a b : Entry) → a.moment < b.moment → comes a b ≡ true
+comes_by_moment a b less = earlier a.moment a.word b.moment b.word less
+  where
+    earlier : (m i n j : ℕ) → m < n → (ltb m n || ((m == n) && leb i j)) ≡ true
+    earlier m i n j less = grind (arith, nat_tests)
+
+pub comes_trans : (a b c : Entry) → comes a b ≡ true → comes b c ≡ true → comes a c ≡ true
 comes_trans a b c h k = test_trans a.moment a.word b.moment b.word c.moment c.word h k
 
 pub comes_antisym : (a b : Entry) → comes a b ≡ true → comes b a ≡ true → a ≡ b
@@ -106,13 +114,18 @@ module _ (size : ℕ) (xs : List Entry) (played : IsPlayed size xs) where
         let within : suc g < size = omega (arith, low, after) in
         let position : size + g ≡ p = omega (arith, after) in
         elim (played g within).one [
-          | inl is ↦ (let (i, leaf, same) = down bound (2 * g) (omega (arith, near, within, after)) (omega (arith, within)) some in
+          | inl is ↦ (let (i, leaf, same) = down bound (2 * g) (omega (arith, near, within, after)) (omega
+              (arith, within)) some in
               (i, leaf, sym (ap (entry_at xs) position) ∙ is ∙ same))
-          | inr is ↦ (let (i, leaf, same) = down bound (2 * g + 1) (omega (arith, near, within, after)) (omega (arith, within)) some
+          | inr is ↦ (let (i, leaf, same) = down bound (2 * g + 1) (omega (arith, near, within, after)) (omega
+              (arith, within)) some
               in (i, leaf, sym (ap (entry_at xs) position) ∙ is ∙ same))
         ])
   ]
 
+  pub any_of_all : (p : ℕ) → p ≤ last_position size → 0 < size → (i : ℕ) × (i < size) × (entry_at xs p ≡ entry_at xs i)
+  any_of_all p low some = down (2 * size) p (omega (arith, low, some)) low some
+
   -- the last winner is one of the leaves
   pub one_of_all : 0 < size → (i : ℕ) × (i < size) × (entry_at xs (last_position size) ≡ entry_at xs i)
-  one_of_all some = down (2 * size) (last_position size) (omega (arith, some)) (omega arith) some
+  one_of_all some = any_of_all (last_position size) (omega arith) some

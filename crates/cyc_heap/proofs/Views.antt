@@ -1,8 +1,9 @@
 -- What callers see of a tournament, read off its entries.
-use Rattle.std.proofs.Common.{◌≡◌, ℕ, suc, ◌+◌, ◌-◌, ◌/◌, ◌<◌, ◌≤◌, ◌==◌, leb, ◌&&◌, ◌||◌, inl, inr, true, List, [], ◌∷◌, ◌++◌, length, get_or, replicate, Option, Some, None}
+use Rattle.std.proofs.Common.{◌≡◌, ℕ, suc, ◌+◌, ◌-◌, ◌/◌, ◌<◌, ◌≤◌, ◌⊎◌, ◌==◌, leb, ◌&&◌, ◌||◌, inl, inr, Bool, true, false, List}
+use Rattle.std.proofs.Common.{[], ◌∷◌, ◌++◌, length, get_or, replicate, Option, Some, None}
 use Rattle.std.proofs.Common.{IsSome, is_some, option_map, cond, count_by, ltb, refl, sym, ap, ◌∙◌, subst, arith}
 use Rattle.std.proofs.Math.ListN.{set}
-use Rattle.std.proofs.lemmas.Bool.{cases_lt, lt-ltb, le-ltb, cond-true, cond-false}
+use Rattle.std.proofs.lemmas.Bool.{cases_eq, cases_lt, lt-ltb, le-ltb, cond-true, cond-false}
 use Rattle.std.proofs.lemmas.Bool.Decides.{nat_tests}
 use Rattle.std.proofs.lemmas.List.{get_or_past}
 use Rattle.std.proofs.lemmas.List.Sums.{sum_by-set}
@@ -10,21 +11,23 @@ use Rattle.cyc_types.specs.Limits.{cyclics}
 use Rattle.cyc_types.specs.Series.{never}
 use Rattle.cyc_types.specs.Expirations.{Expiration, is_before}
 use Rattle.cyc_heap.specs.declared.entry.Entry.{Entry}
-use Rattle.cyc_heap.specs.Tournament.{key, entry_at, index_of, slot, slots, comes, last_position, root_of, IsTournament}
+use Rattle.cyc_heap.specs.Tournament.{key, entry_at, index_of, slot, slots, comes, last_position, winner_of, IsPlayed}
+use Rattle.cyc_heap.specs.Order.{IsOrder, IsTournament, first_of, root_of}
 use Rattle.cyc_heap.specs.Heap.{HeapView, size_of, len_of, expiration_at, at_moment, with_moment, IsLeast}
 use Rattle.cyc_heap.proofs.Slots.{length-slots, slots_at, slot_used, slot_free, slots_more, count_with_free}
-use Rattle.cyc_heap.proofs.Playing.{least_of_all, one_of_all}
+use Rattle.cyc_heap.proofs.Playing.{comes_self, comes_by_moment, least_of_all, one_of_all}
 
-abbrev pub view_of : ℕ → ℕ → List Entry → ℕ → HeapView
-view_of leaves size xs room = record { slots = slots size xs; root = root_of leaves xs; room = room }
+abbrev pub view_of : Bool → List Entry → ℕ → ℕ → List Entry → ℕ → HeapView
+view_of is_few few leaves size xs room = record { slots = slots size xs; root = root_of is_few few leaves xs; room = room }
 
 -- the index at the root, by the last winner
 pub winner_used : (leaves : ℕ) (xs : List Entry) → (entry_at xs (last_position leaves)).moment ≤ never
-    → root_of leaves xs ≡ Some (index_of (entry_at xs (last_position leaves)))
+    → winner_of leaves xs ≡ Some (index_of (entry_at xs (last_position leaves)))
 winner_used leaves xs used = cond-false (ltb never (entry_at xs (last_position leaves)).moment) None
     (Some (index_of (entry_at xs (last_position leaves)))) (le-ltb never (entry_at xs (last_position leaves)).moment used)
 
-pub winner_free : (leaves : ℕ) (xs : List Entry) → never < (entry_at xs (last_position leaves)).moment → root_of leaves xs ≡ None
+pub winner_free : (leaves : ℕ) (xs : List Entry) → never < (entry_at xs (last_position leaves)).moment
+    → winner_of leaves xs ≡ None
 winner_free leaves xs unused = cond-true (ltb never (entry_at xs (last_position leaves)).moment) None
     (Some (index_of (entry_at xs (last_position leaves)))) (lt-ltb never (entry_at xs (last_position leaves)).moment unused)
 
@@ -65,7 +68,8 @@ moment_slots v i m e has = ap (λ o. set v.slots i (option_map (at_moment m) o))
 later : (m i n j : ℕ) → (ltb m n || ((m == n) && leb i j)) ≡ true → m ≤ n
 later m i n j h = grind (arith, nat_tests)
 
-earlier : (m i n j : ℕ) → (ltb m n || ((m == n) && leb i j)) ≡ true → (ltb m n || ((m == n) && leb (i / cyclics) (j / cyclics))) ≡ true
+earlier : (m i n j : ℕ) → (ltb m n || ((m == n) && leb i j)) ≡ true → (ltb m n || ((m == n) && leb (i / cyclics)
+    (j / cyclics))) ≡ true
 earlier m i n j h = grind (arith, nat_tests)
 
 pub comes_before : (a b : Entry) → comes a b ≡ true → is_before (key a) (key b) ≡ true
@@ -74,8 +78,40 @@ comes_before a b h = earlier a.moment a.word b.moment b.word h
 pub comes_later : (a b : Entry) → comes a b ≡ true → a.moment ≤ b.moment
 comes_later a b h = later a.moment a.word b.moment b.word h
 
-module _ (leaves size given : ℕ) (xs : List Entry) (free : List ℕ) (room : ℕ) (v : HeapView)
-    (h : IsTournament leaves size given xs free) (is : view_of leaves size xs room ≡ v) where
+pub few_or_many : (b : Bool) → (b ≡ true) ⊎ (b ≡ false)
+few_or_many true = inl refl
+few_or_many false = inr refl
+
+-- this entry is a leaf that comes before all
+pub record IsTop (leaves : ℕ) (xs : List Entry) (x : Entry) : Type 0 where
+  pub one : (i : ℕ) × (i < leaves) × (entry_at xs i ≡ x)
+  pub before : (k : ℕ) → k < leaves → comes x (entry_at xs k) ≡ true
+
+-- the last winner is, and so is the first of few
+pub winner_top : (leaves : ℕ) (xs : List Entry) → IsPlayed leaves xs → 0 < leaves → IsTop leaves xs (entry_at xs
+    (last_position leaves))
+winner_top leaves xs played some = record {
+  one = let (i, low, is) = one_of_all leaves xs played some in (i, low, sym is);
+  before = least_of_all leaves xs played;
+}
+
+pub first_top : (few : List Entry) (leaves : ℕ) (xs : List Entry) → IsOrder few leaves xs → 0 < length few
+    → IsTop leaves xs (entry_at few 0)
+first_top few leaves xs h some = record {
+  one = (index_of (entry_at few 0), h.low 0 some, h.own 0 some);
+  before = λ k low. elim (cases_lt never (entry_at xs k).moment) [
+    | inl unused ↦ (let used = h.used 0 some in comes_by_moment (entry_at few 0) (entry_at xs k) (omega (arith, used, unused)))
+    | inr used ↦ (let (p, at, _, is) = h.all k low used in
+        elim (cases_eq p 0) [
+          | inl first ↦ subst (λ e. comes (entry_at few 0) e ≡ true) (ap (entry_at few) (sym first) ∙ is) (comes_self
+              (entry_at few 0))
+          | inr later ↦ subst (λ e. comes (entry_at few 0) e ≡ true) is (h.list.rising 0 p (omega (arith, later)) at)
+        ])
+  ];
+}
+
+module _ (is_few : Bool) (few : List Entry) (leaves size given : ℕ) (xs : List Entry) (free : List ℕ) (room : ℕ) (v : HeapView)
+    (h : IsTournament is_few few leaves size given xs free) (is : view_of is_few few leaves size xs room ≡ v) where
   pub leaves_within : leaves ≤ length xs
   leaves_within = let long = h.long in let some = h.some in omega (arith, long, some)
 
@@ -137,12 +173,20 @@ module _ (leaves size given : ℕ) (xs : List Entry) (free : List ℕ) (room : �
           let wide = h.wide in
           (leaf_given i (omega (arith, low, wide)) used, low, omega (arith, low, wide), used))
 
-  -- the last winner is what its index has
-  pub top_used : (x : Entry) → entry_at xs (last_position leaves) ≡ x → x.moment ≤ never
-      → expiration_at v (index_of x) ≡ Some (key x)
-  top_used x here used =
-      let (i, low, same) = one_of_all leaves xs h.played h.some in
-      let leaf : entry_at xs i ≡ x = sym same ∙ here in
+  -- its leaf holds its expiration, and has its index
+  pub leaf_held : (i : ℕ) (x : Entry) → IsSome (expiration_at v i) → entry_at xs i ≡ x
+      → (expiration_at v (index_of x) ≡ Some (key x)) × (index_of x ≡ i)
+  leaf_held i x some here =
+      let (mine, low, _, used) = in_use i some in
+      let own : index_of x ≡ i = sym (ap index_of here) ∙ h.listed.own i mine used in (
+        ap (expiration_at v) own ∙ at_used i low used ∙ ap (λ (e : Entry). Some (key e)) here,
+        own,
+      )
+
+  -- the leaf before all is what its index has
+  pub top_used : (x : Entry) → IsTop leaves xs x → x.moment ≤ never → expiration_at v (index_of x) ≡ Some (key x)
+  top_used x top used =
+      let (i, low, leaf) = top.one in
       let moment = ap (λ (e : Entry). e.moment) leaf in
       let mine = leaf_given i low (omega (arith, moment, used)) in
       let known = h.known in
@@ -150,41 +194,39 @@ module _ (leaves size given : ℕ) (xs : List Entry) (free : List ℕ) (room : �
       ap (expiration_at v) own ∙ at_used i (omega (arith, mine, known)) (omega (arith, moment, used))
       ∙ ap (λ (e : Entry). Some (key e)) leaf
 
-  pub top_least : (x : Entry) → entry_at xs (last_position leaves) ≡ x → x.moment ≤ never → IsLeast v (index_of x) (key x)
-  top_least x here used = record {
-    holds = top_used x here used;
+  pub top_least : (x : Entry) → IsTop leaves xs x → x.moment ≤ never → IsLeast v (index_of x) (key x)
+  top_least x top used = record {
+    holds = top_used x top used;
     least = λ k other has. (let (low, _, same) = held k other has in
         let wide = h.wide in
-        subst (λ (x : Entry). is_before (key x) other ≡ true) here
-        (subst (λ e. is_before (key (entry_at xs (last_position leaves))) e ≡ true) same
-        (comes_before (entry_at xs (last_position leaves)) (entry_at xs k)
-        (least_of_all leaves xs h.played k (omega (arith, low, wide))))));
+        subst (λ e. is_before (key x) e ≡ true) same
+        (comes_before x (entry_at xs k) (top.before k (omega (arith, low, wide)))));
   }
 
-  -- where it has no moment no index is in use
-  pub all_free : (x : Entry) → entry_at xs (last_position leaves) ≡ x → never < x.moment → (i : ℕ) → expiration_at v i ≡ None
-  all_free x here unused i = elim (cases_lt i size) [
+  -- where all leaves are free no index is in use
+  pub all_free : ((k : ℕ) → k < leaves → never < (entry_at xs k).moment) → (i : ℕ) → expiration_at v i ≡ None
+  all_free none i = elim (cases_lt i size) [
     | inr past ↦ at_past i past
-    | inl low ↦ at_free i low (let moment = ap (λ (e : Entry). e.moment) here in
-        let wide = h.wide in
-        let least = comes_later (entry_at xs (last_position leaves)) (entry_at xs i)
-        (least_of_all leaves xs h.played i (omega (arith, low, wide))) in
-        omega (arith, moment, least, unused))
+    | inl low ↦ at_free i low (none i (let wide = h.wide in omega (arith, low, wide)))
   ]
 
-  pub none_used : (x : Entry) → entry_at xs (last_position leaves) ≡ x → never < x.moment → len_of v ≡ 0
-  none_used x here unused = count_none v.slots (all_free x here unused)
+  -- they are free where the last winner is, or where there are no few
+  pub winner_none : is_few ≡ false → never < (entry_at xs (last_position leaves)).moment
+      → (k : ℕ) → k < leaves → never < (entry_at xs k).moment
+  winner_none many unused k low =
+      let least = comes_later (entry_at xs (last_position leaves)) (entry_at xs k) (least_of_all leaves xs
+      (h.played many) k low) in
+      omega (arith, least, unused)
 
-  pub some_used : (x : Entry) → entry_at xs (last_position leaves) ≡ x → x.moment ≤ never → 0 < len_of v
-  some_used x here used = let less = count_less v.slots (index_of x) (key x) (top_used x here used) in omega (arith, less)
+  pub few_none : is_few ≡ true → length few ≡ 0 → (k : ℕ) → k < leaves → never < (entry_at xs k).moment
+  few_none small none k low = elim (cases_lt never (entry_at xs k).moment) [
+    | inl unused ↦ unused
+    | inr used ↦ absurd (let (p, at, _, _) = (h.ordered small).all k low used in omega (arith, at, none))
+  ]
 
-  pub root_used : (x : Entry) → entry_at xs (last_position leaves) ≡ x → x.moment ≤ never → v.root ≡ Some (index_of x)
-  root_used x here used =
-      let moment = ap (λ (e : Entry). e.moment) here in
-      sym (ap (λ (v : HeapView). v.root) is) ∙ winner_used leaves xs (omega (arith, moment, used))
-      ∙ ap (λ (e : Entry). Some (index_of e)) here
+  -- what callers see at the root
+  pub root_many : is_few ≡ false → v.root ≡ winner_of leaves xs
+  root_many many = sym (ap (λ (v : HeapView). v.root) is) ∙ cond-false is_few (first_of few) (winner_of leaves xs) many
 
-  pub root_free : (x : Entry) → entry_at xs (last_position leaves) ≡ x → never < x.moment → v.root ≡ None
-  root_free x here unused =
-      let moment = ap (λ (e : Entry). e.moment) here in
-      sym (ap (λ (v : HeapView). v.root) is) ∙ winner_free leaves xs (omega (arith, moment, unused))
+  pub root_few : is_few ≡ true → v.root ≡ first_of few
+  root_few small = sym (ap (λ (v : HeapView). v.root) is) ∙ cond-true is_few (first_of few) (winner_of leaves xs) small

@@ -1,2 +1,3 @@
 pub mod Heap
 pub mod Tournament
+pub mod Order

@@ -1,9 +1,10 @@
--- A tournament among the expirations of all indexes (Knuth, The Art of Computer Programming, volume 3, 5.4.1): first a leaf for each
--- index, and some that stand free, then the winner of each game. The entries 2g and 2g + 1 play the game g, and its winner is the
--- entry g after the leaves.
-use Rattle.std.specs.Prelude.{◌≡◌, ◌≢◌, ℕ, suc, ◌+◌, ◌-◌, ◌*◌, ◌/◌, ◌%◌, ◌<◌, ◌≤◌, ◌⊎◌, ◌==◌, ◌&&◌, ◌||◌, Bool, true, nat_lt, nat_le, List, length, take}
+-- A tournament among the expirations of all indexes (Knuth, The Art of Computer Programming, volume 3, 5.4.1): first a leaf for
+-- each index, and some that stand free, then the winner of each game. The entries 2g and 2g + 1 play the game g, and its winner
+-- is the entry g after the leaves.
+use Rattle.std.specs.Prelude.{◌≡◌, ◌≢◌, ℕ, suc, ◌+◌, ◌-◌, ◌*◌, ◌/◌, ◌%◌, ◌^◌, ◌<◌, ◌≤◌, ◌⊎◌, ◌==◌, ◌&&◌, ◌||◌, Bool, true, nat_lt}
+use Rattle.std.specs.Prelude.{nat_le, List, length, take}
 use Rattle.std.specs.Prelude.{map, count_by, slice_index_or, Option, Some, None, is_some, if◌then◌else◌}
-use Rattle.cyc_types.specs.Limits.{cyclics}
+use Rattle.cyc_types.specs.Limits.{cyclics, last_id}
 use Rattle.cyc_types.specs.Series.{never}
 use Rattle.cyc_types.specs.Expirations.{Expiration}
 use Rattle.cyc_heap.specs.declared.entry.Entry.{Entry}
@@ -25,6 +26,10 @@ key e = record { moment = e.moment; id = id_of e }
 abbrev pub entry_at : List Entry → ℕ → Entry
 entry_at entries p = slice_index_or entries p nowhere
 
+-- the entry of a free index: it comes after every moment, and its word means nothing
+abbrev pub free_entry : Entry
+free_entry = record { moment = 2 ^ 64 - 1; word = last_id * cyclics }
+
 -- what a leaf has: an expiration where it has a moment, and else its index is free
 abbrev pub slot : Entry → Option Expiration
 slot e = (if nat_lt never e.moment then None else Some (key e))
@@ -38,8 +43,8 @@ abbrev pub last_position : ℕ → ℕ
 last_position leaves = 2 * (leaves - 1)
 
 -- its index, none where all indexes are free
-abbrev pub root_of : ℕ → List Entry → Option ℕ
-root_of leaves entries = (if nat_lt never (entry_at entries (last_position leaves)).moment then None
+abbrev pub winner_of : ℕ → List Entry → Option ℕ
+winner_of leaves entries = (if nat_lt never (entry_at entries (last_position leaves)).moment then None
     else Some (index_of (entry_at entries (last_position leaves))))
 
 -- a comes no later than b: it has the earlier moment, or the same one and no greater id; of one id the smaller index comes first
@@ -73,14 +78,3 @@ pub record IsListed (given : ℕ) (entries : List Entry) (free : List ℕ) : Typ
   pub none : (p : ℕ) → p < length free → never < (entry_at entries (slice_index_or free p 0)).moment
   pub apart : (p q : ℕ) → p < q → q < length free → slice_index_or free p 0 ≢ slice_index_or free q 0
   pub count : count_by is_some (slots given entries) + length free ≡ given
-
--- with so many leaves and indexes, of which so many were ever given
-pub record IsTournament (leaves size given : ℕ) (entries : List Entry) (free : List ℕ) : Type 0 where
-  pub some : 0 < leaves
-  pub few : leaves ≤ cyclics
-  pub long : suc (length entries) ≡ 2 * leaves
-  pub wide : size ≤ leaves
-  pub known : given ≤ size
-  pub played : IsPlayed leaves entries
-  pub listed : IsListed given entries free
-  pub unused : (i : ℕ) → given ≤ i → i < leaves → never < (entry_at entries i).moment

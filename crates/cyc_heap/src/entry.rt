@@ -2,9 +2,9 @@
 
 ghost use Rattle.std.specs.Prelude.{◌≡◌, ◌+◌, ◌*◌, ◌/◌, ◌%◌, ◌<◌, ◌≤◌, ◌^◌, ◌↔◌, true, IfSome, IfNone};
 ghost use Rattle.std.specs.Bool.{OnTrue, OnFalse};
-ghost use Rattle.cyc_types.specs.Limits.{cyclics};
+ghost use Rattle.cyc_types.specs.Limits.{cyclics, last_id};
 ghost use Rattle.cyc_types.specs.Series.{never};
-ghost use Rattle.cyc_heap.specs.Tournament.{id_of, index_of, comes};
+ghost use Rattle.cyc_heap.specs.Tournament.{id_of, index_of, comes, free_entry};
 
 use cyc_types::{CYCLICS, CyclicId, Index, Moment};
 use std::marker::Model;
@@ -40,6 +40,15 @@ impl Word {
         }
     }
 
+    /// The word of a free index: the last id and index 0, which mean nothing there.
+    fn free() -> Word
+        ensures { result ≡ last_id * cyclics }
+    {
+        Word {
+            bits: CyclicId::last().number() * BASE,
+        }
+    }
+
     fn bits(self) -> u64
         ensures value { result ≡ self }
     {
@@ -62,7 +71,7 @@ impl Word {
 /// The moment at which a free index has its turn: it comes after every moment.
 const FREE: u64 = u64::MAX;
 
-/// An expiration and the index of its cyclic. Where the index is free, its moment is after every other, and the id means nothing.
+/// An expiration and the index of its cyclic. Where the index is free, its moment is after every other, and the word means nothing.
 #[derive(Clone, Copy)]
 pub(crate) struct Entry {
     pub moment: u64,
@@ -83,13 +92,13 @@ impl Entry {
         }
     }
 
-    /// The entry of this index where it is free.
-    pub(crate) fn free(index: Index) -> Entry
-        ensures { never < result.moment }
+    /// The entry of a free index, and of a game among free ones.
+    pub(crate) fn free() -> Entry
+        ensures { result ≡ free_entry }
     {
         Entry {
             moment: FREE,
-            word: Word::new(CyclicId::LAST, index),
+            word: Word::free(),
         }
     }
 

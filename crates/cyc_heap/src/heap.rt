@@ -1,14 +1,17 @@
 //! The heap of expirations, with a look-up by index.
 
-ghost use Rattle.std.specs.Prelude.{◌≡◌, ℕ, ◌+◌, ◌-◌, ◌*◌, ◌<◌, ◌≤◌, ◌⊎◌, ◌↔◌, ◌++◌, [], ◌∷◌, max, length, replicate, slice_set};
+ghost use Rattle.std.specs.Prelude.{◌≡◌, ℕ, ◌+◌, ◌-◌, ◌*◌, ◌<◌, ◌≤◌, ◌⊎◌, ◌↔◌, ◌++◌, [], ◌∷◌, true, false, max, length, replicate, slice_set};
 ghost use Rattle.std.specs.Prelude.{option_map, Some, None, IsSome, IfSome, IfNone, IfOk, IfErr, OnOk, OnErr, vec_len};
 ghost use Rattle.std.specs.Prelude.{vec_capacity};
 ghost use Rattle.cyc_types.specs.Limits.{cyclics};
 ghost use Rattle.cyc_types.specs.declared.refusal.Refusal.TheVariants.{Memory};
 ghost use Rattle.cyc_types.specs.Series.{never};
-ghost use Rattle.cyc_heap.specs.Tournament.{entry_at, IsPlayed};
+ghost use Rattle.cyc_heap.specs.Tournament.{key, index_of, entry_at, free_entry, IsPlayed};
+ghost use Rattle.cyc_heap.specs.Order.{most_in_order, HasBareLeaves, IsBlank, IsOrder};
 ghost use Rattle.cyc_heap.specs.Heap.{HeapView, new_heap, size_of, len_of, expiration_at, with_moment, pair_of, IsEmpty, IsLeast};
 
+use crate::between::{MOST_IN_ORDER, in_order_at_most, order_few, play_few};
+use crate::changes::{add, change, lower_first, take};
 use crate::entry::Entry;
 use crate::games::{enter, play_all};
 use cyc_types::{CYCLICS, CyclicId, Index, Moment, Refusal};
@@ -18,8 +21,9 @@ use std::marker::Model;
 /// The expirations of one CPU's cyclics by their indexes, with the least at hand (`cyp_heap` of sys/cyclic_impl.h).
 /// The size is the number of indexes; of equal moments the smaller id expires first (our own rule).
 ///
-/// It is a tournament in position of the kernel's heap (our own): a change of any expiration plays the games above its index again, at
-/// most eight.
+/// Few expirations stand in order, 4 to 12 of them, and more are a tournament, both in position of the kernel's heap (our own): a
+/// change of any expiration moves it among the few, or plays the games above its index again, at most eight. An insertion or a
+/// removal that leads from the one to the other plays as many for each of the few.
 #[derive(Drop)]
 pub struct ExpiryHeap {
     /// The leaves, and after them the winner of each game.
@@ -35,24 +39,29 @@ pub struct ExpiryHeap {
     leaves: usize,
     /// The size for which memory was taken.
     room: usize,
+    /// The expirations in order, while they are few. Then the games are as if all leaves were free.
+    few: Vec<Entry>,
+    /// Whether they are few. More than `in_order_at_most` play, until no more than three quarters of so many are left.
+    is_few: bool,
 }
 
 impl Model for ExpiryHeap {
     ghost use Rattle.std.specs.Prelude.{suc, ◌*◌, ◌≤◌, vec_capacity};
     ghost use Rattle.cyc_heap.specs.Heap.{HeapView};
-    ghost use Rattle.cyc_heap.specs.Tournament.{IsTournament, slots, root_of};
+    ghost use Rattle.cyc_heap.specs.Tournament.{slots};
+    ghost use Rattle.cyc_heap.specs.Order.{most_in_order, IsTournament, root_of};
 
     ghost Value = { HeapView };
 
     ghost view = { λ h. record {
       slots = slots h.size h.entries.items;
       root =
-          root_of h.leaves h.entries.items;
+          root_of h.is_few h.few.items h.leaves h.entries.items;
       room = h.room;
     } };
 
-    ghost invariant = { λ h. IsTournament h.leaves h.size h.given h.entries.items h.free.items × (h.size ≤ h.room)
-        × (2 * h.room ≤ suc (vec_capacity h.entries)) × (h.room ≤ vec_capacity h.free) };
+    ghost invariant = { λ h. IsTournament h.is_few h.few.items h.leaves h.size h.given h.entries.items h.free.items × (h.size ≤ h.room)
+        × (2 * h.room ≤ suc (vec_capacity h.entries)) × (h.room ≤ vec_capacity h.free) × (most_in_order ≤ vec_capacity h.few) };
 }
 
 impl ExpiryHeap {
@@ -63,7 +72,8 @@ impl ExpiryHeap {
     {
         let mut entries = Vec::with_capacity(alloc, 1)?;
         let free = Vec::with_capacity(alloc, 1)?;
-        add_leaves(&mut entries, 1);
+        let few = Vec::with_capacity(alloc, MOST_IN_ORDER)?;
+        add_free(&mut entries, 1);
         Ok(ExpiryHeap {
             entries,
             free,
@@ -71,6 +81,8 @@ impl ExpiryHeap {
             size: 1,
             leaves: 1,
             room: 1,
+            few,
+            is_few: true,
         })
     }
 
@@ -103,7 +115,7 @@ impl ExpiryHeap {
         ensures room { self.new.room ≡ self.old.room }
     {
         if size > self.size {
-            self.leaves = lay_out(&mut self.entries, self.leaves, size);
+            self.leaves = lay_out(&mut self.entries, self.is_few, self.leaves, size);
             self.size = size;
         }
     }
@@ -116,10 +128,22 @@ impl ExpiryHeap {
         ensures slots { self.new.slots ≡ slice_set self.old.slots result (Some (record { moment = moment; id = id })) }
         ensures room { self.new.room ≡ self.old.room }
     {
+        self.is_few = make_room(
+            self.few.as_slice(),
+            &mut self.entries,
+            self.is_few,
+            self.leaves,
+        );
         let index = next_index(&mut self.free, &mut self.given);
-        let position = usize::from(index.number());
         let entry = Entry::new(moment, id, index);
-        enter(&mut self.entries, self.leaves, position, entry);
+        add(
+            &mut self.few,
+            &mut self.entries,
+            self.is_few,
+            self.leaves,
+            index,
+            entry,
+        );
         index
     }
 
@@ -130,7 +154,7 @@ impl ExpiryHeap {
         ensures root { self.now.root ≡ option_map (λ found. found.0) result }
         ensures least { IfSome result (λ found. IsLeast self.now found.0 (record { moment = found.1; id = found.2 })) }
     {
-        let first = self.entries[2 * (self.leaves - 1)];
+        let first = self.first()?;
         let moment = first.moment()?;
         Some((first.index(), moment, first.id()))
     }
@@ -141,8 +165,21 @@ impl ExpiryHeap {
         ensures slots { IfSome self.old.root (λ index. self.new.slots ≡ with_moment self.old.slots index moment) }
         ensures room { self.new.room ≡ self.old.room }
     {
-        let root = self.entries[2 * (self.leaves - 1)].index();
-        self.set_moment(root, moment);
+        if self.is_few {
+            let entry = Entry {
+                moment: moment.nanoseconds(),
+                word: self.few[0].word,
+            };
+            lower_first(&mut self.few, &mut self.entries, self.leaves, entry);
+            return;
+        }
+        let root = self.entries[2 * (self.leaves - 1)];
+        let position = usize::from(root.index().number());
+        let entry = Entry {
+            moment: moment.nanoseconds(),
+            word: root.word,
+        };
+        enter(&mut self.entries, self.leaves, position, entry);
     }
 
     /// Gives the expiration of this index another moment, earlier or later (`cyclic_reprogram_cyclic`).
@@ -151,21 +188,43 @@ impl ExpiryHeap {
         ensures slots { self.new.slots ≡ with_moment self.old.slots index moment }
         ensures room { self.new.room ≡ self.old.room }
     {
-        self.set_moment(index, moment);
+        let held = self.entries[usize::from(index.number())];
+        self.set_moment(held, moment);
     }
 
-    /// The expiration of this index has this moment from now on.
-    fn set_moment(&mut self, index: Index, moment: Moment)
-        requires { IsSome (expiration_at self.old index) }
-        ensures slots { self.new.slots ≡ with_moment self.old.slots index moment }
+    /// The entry at the root, which may be that of a free index; none where there are no few.
+    #[inline(always)]
+    fn first(&self) -> Option<Entry>
+        ensures none { IfNone result (IsEmpty self.now × (self.now.root ≡ None)) }
+        ensures free { IfSome result (λ e. never < e.moment → IsEmpty self.now × (self.now.root ≡ None)) }
+        ensures used { IfSome result (λ e. e.moment ≤ never → IsLeast self.now (index_of e) (key e)
+            × (self.now.root ≡ Some (index_of e))) }
+    {
+        if self.is_few {
+            return self.few.first().copied();
+        }
+        Some(self.entries[2 * (self.leaves - 1)])
+    }
+
+    /// The expiration that this entry holds has this moment from now on.
+    fn set_moment(&mut self, held: Entry, moment: Moment)
+        requires { expiration_at self.old (index_of held) ≡ Some (key held) }
+        ensures slots { self.new.slots ≡ with_moment self.old.slots (index_of held) moment }
         ensures room { self.new.room ≡ self.old.room }
     {
-        let position = usize::from(index.number());
+        let index = held.index();
         let entry = Entry {
             moment: moment.nanoseconds(),
-            word: self.entries[position].word,
+            word: held.word,
         };
-        enter(&mut self.entries, self.leaves, position, entry);
+        change(
+            &mut self.few,
+            &mut self.entries,
+            self.is_few,
+            self.leaves,
+            index,
+            entry,
+        );
     }
 
     /// Takes out the expiration of this index, which is free from now on (`cyclic_remove_here`).
@@ -174,9 +233,22 @@ impl ExpiryHeap {
         ensures slots { self.new.slots ≡ slice_set self.old.slots index None }
         ensures room { self.new.room ≡ self.old.room }
     {
-        let position = usize::from(index.number());
-        enter(&mut self.entries, self.leaves, position, Entry::free(index));
+        take(
+            &mut self.few,
+            &mut self.entries,
+            self.is_few,
+            self.leaves,
+            index,
+        );
         self.free.push_reserved(index);
+        let len = self.given.saturating_sub(self.free.len());
+        self.is_few = is_few_now(
+            &mut self.few,
+            &mut self.entries,
+            self.is_few,
+            self.leaves,
+            len,
+        );
     }
 
     /// The expiration of this index. None where the index is free or not below the size.
@@ -210,6 +282,64 @@ impl ExpiryHeap {
     }
 }
 
+/// Where the few are as many as may stand in order, they play from now on. Says whether they are few, so that there is room for one
+/// more.
+fn make_room(few: &[Entry], entries: &mut Vec<Entry>, is_few: bool, leaves: usize) -> bool
+    requires most { leaves ≤ cyclics }
+    requires long { length entries.old.items + 1 ≡ 2 * leaves }
+    requires played { is_few ≡ false → IsPlayed leaves entries.old.items }
+    requires ordered { is_few ≡ true → IsOrder few.now leaves entries.old.items }
+    requires bare { HasBareLeaves leaves entries.old.items }
+    ensures long { length entries.new.items ≡ length entries.old.items }
+    ensures kept { (i : ℕ) → i < leaves → entry_at entries.new.items i ≡ entry_at entries.old.items i }
+    ensures played { result ≡ false → IsPlayed leaves entries.new.items }
+    ensures ordered { result ≡ true → IsOrder few.now leaves entries.new.items }
+    ensures space { result ≡ true → length few.now < most_in_order }
+    ensures room { vec_capacity entries.new ≡ vec_capacity entries.old }
+{
+    if !is_few {
+        return false;
+    }
+    if few.len() < in_order_at_most(leaves) {
+        return true;
+    }
+    play_few(few, entries, leaves);
+    false
+}
+
+/// Whether they are few, now that so many are left. Where they were many and few are left, these are put in order.
+fn is_few_now(
+    few: &mut Vec<Entry>,
+    entries: &mut Vec<Entry>,
+    is_few: bool,
+    leaves: usize,
+    len: usize,
+) -> bool
+    requires some { 0 < leaves }
+    requires most { leaves ≤ cyclics }
+    requires long { length entries.old.items + 1 ≡ 2 * leaves }
+    requires played { is_few ≡ false → IsPlayed leaves entries.old.items }
+    requires ordered { is_few ≡ true → IsOrder few.old.items leaves entries.old.items }
+    requires own { (i : ℕ) → i < leaves → (entry_at entries.old.items i).moment ≤ never → index_of (entry_at entries.old.items i) ≡ i }
+    requires bare { HasBareLeaves leaves entries.old.items }
+    requires space { most_in_order ≤ vec_capacity few.old }
+    ensures long { length entries.new.items ≡ length entries.old.items }
+    ensures kept { (i : ℕ) → i < leaves → entry_at entries.new.items i ≡ entry_at entries.old.items i }
+    ensures played { result ≡ false → IsPlayed leaves entries.new.items }
+    ensures ordered { result ≡ true → IsOrder few.new.items leaves entries.new.items }
+    ensures room { vec_capacity entries.new ≡ vec_capacity entries.old }
+    ensures few_room { vec_capacity few.new ≡ vec_capacity few.old }
+{
+    if is_few {
+        return true;
+    }
+    // so much fewer that the way there and back isn't gone at each call
+    if len > in_order_at_most(leaves) / 4 * 3 {
+        return false;
+    }
+    order_few(few, entries, leaves)
+}
+
 /// The index that is given next: the last of those that are free again, or else the smallest that was never given.
 fn next_index(free: &mut Vec<Index>, given: &mut usize) -> Index
     requires { free.old.items ≡ [] → given.old < cyclics }
@@ -220,7 +350,7 @@ fn next_index(free: &mut Vec<Index>, given: &mut usize) -> Index
     match free.pop() {
         Some(index) => index,
         None => {
-            let index = index_of(*given);
+            let index = index_at(*given);
             *given += 1;
             index
         }
@@ -228,21 +358,21 @@ fn next_index(free: &mut Vec<Index>, given: &mut usize) -> Index
 }
 
 /// Makes the leaves at least as many as this size, and says how many there are. Where they are too few they become twice as many, if
-/// the memory is there, and all games are played anew. Takes no memory.
-fn lay_out(entries: &mut Vec<Entry>, leaves: usize, size: usize) -> usize
+/// the memory is there, and all games are played anew, or are blank while few stand in order. Takes no memory.
+fn lay_out(entries: &mut Vec<Entry>, is_few: bool, leaves: usize, size: usize) -> usize
     requires some { 0 < leaves }
     requires few { leaves ≤ cyclics }
     requires size { size ≤ cyclics }
     requires long { length entries.old.items + 1 ≡ 2 * leaves }
     requires room { 2 * size ≤ vec_capacity entries.old + 1 }
-    requires played { IsPlayed leaves entries.old.items }
     ensures size { size ≤ result }
     ensures more { leaves ≤ result }
     ensures few { result ≤ cyclics }
     ensures long { length entries.new.items + 1 ≡ 2 * result }
     ensures kept { (i : ℕ) → i < leaves → entry_at entries.new.items i ≡ entry_at entries.old.items i }
-    ensures unused { (i : ℕ) → leaves ≤ i → i < result → never < (entry_at entries.new.items i).moment }
-    ensures played { IsPlayed result entries.new.items }
+    ensures unused { (i : ℕ) → leaves ≤ i → i < result → entry_at entries.new.items i ≡ free_entry }
+    ensures played { is_few ≡ false → IsPlayed leaves entries.old.items → IsPlayed result entries.new.items }
+    ensures blank { is_few ≡ true → IsBlank leaves entries.old.items → IsBlank result entries.new.items }
     ensures room { vec_capacity entries.new ≡ vec_capacity entries.old }
 {
     if size <= leaves {
@@ -251,28 +381,31 @@ fn lay_out(entries: &mut Vec<Entry>, leaves: usize, size: usize) -> usize
     let most = usize::from(CYCLICS).min(entries.capacity() / 2);
     let more = size.max(most.min(2 * leaves));
     entries.truncate(leaves);
-    add_leaves(entries, more);
-    play_all(entries);
+    add_free(entries, more);
+    if is_few {
+        add_free(entries, 2 * more - 1);
+    } else {
+        play_all(entries);
+    }
     more
 }
 
-/// Adds free leaves up to this number.
-fn add_leaves(entries: &mut Vec<Entry>, leaves: usize)
-    requires few { leaves ≤ cyclics }
-    requires more { length entries.old.items ≤ leaves }
-    requires room { leaves ≤ vec_capacity entries.old }
-    ensures long { length entries.new.items ≡ leaves }
+/// Adds free entries up to this number.
+fn add_free(entries: &mut Vec<Entry>, number: usize)
+    requires more { length entries.old.items ≤ number }
+    requires room { number ≤ vec_capacity entries.old }
+    ensures long { length entries.new.items ≡ number }
     ensures kept { (i : ℕ) → i < length entries.old.items → entry_at entries.new.items i ≡ entry_at entries.old.items i }
-    ensures unused { (i : ℕ) → length entries.old.items ≤ i → i < leaves → never < (entry_at entries.new.items i).moment }
+    ensures unused { (i : ℕ) → length entries.old.items ≤ i → i < number → entry_at entries.new.items i ≡ free_entry }
     ensures room { vec_capacity entries.new ≡ vec_capacity entries.old }
 {
-    for number in entries.len()..leaves {
-        entries.push_reserved(Entry::free(index_of(number)));
+    for _position in entries.len()..number {
+        entries.push_reserved(Entry::free());
     }
 }
 
 /// The index of this number.
-fn index_of(number: usize) -> Index
+fn index_at(number: usize) -> Index
     requires { number < cyclics }
     ensures { result ≡ number }
 {

@@ -23,7 +23,8 @@ loop-game-preserved c =
     (c.index-in-loop-game.ensures ∙ get_or_default xs (2 * g + 1) y nowhere (omega (arith, long, test, len, ok)))
     c.winner-won.ensures in
     record {
-      long = ap length push.items ∙ length_push xs won ∙ ap (λ n. n + 1) h.long ∙ (let e : size + g + 1 ≡ size + (g + 1) = omega arith in e);
+      long = ap length push.items ∙ length_push xs won ∙ ap (λ n. n + 1) h.long ∙ (let e : size + g + 1 ≡ size +
+          (g + 1) = omega arith in e);
       leaves = λ i low. ap (λ es. entry_at es i) push.items
           ∙ get_or_append_left xs (won ∷ []) nowhere i (omega (arith, low, long)) ∙ h.leaves i low;
       played = λ k low. subst (λ es. IsPlayedAt k size es) (sym push.items)

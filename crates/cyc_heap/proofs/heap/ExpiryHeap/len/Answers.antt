@@ -5,13 +5,15 @@ use Rattle.cyc_heap.proofs.heap.ExpiryHeap.len.Goals as goal
 pub returns-clause-value : goal.returns-clause-value
 returns-clause-value c =
     let i = c.self.inside in
-    let len = len_is i.leaves i.size i.given i.entries.items i.free.items i.room c.args.self.now c.self.invariant.0 c.self.view_is in
+    let len = len_is i.is_few i.few.items i.leaves i.size i.given i.entries.items i.free.items i.room c.args.self.now
+    c.self.invariant.0 c.self.view_is in
     let free = c.len.ensures in
     omega (arith, len, free)
 
 pub returns-clause-few : goal.returns-clause-few
 returns-clause-few c =
     let i = c.self.inside in
-    let size = size_is i.leaves i.size i.given i.entries.items i.free.items i.room c.args.self.now c.self.invariant.0 c.self.view_is in
+    let size = size_is i.is_few i.few.items i.leaves i.size i.given i.entries.items i.free.items i.room c.args.self.now
+    c.self.invariant.0 c.self.view_is in
     let known = c.self.invariant.0.known in
     omega (arith, size, known)

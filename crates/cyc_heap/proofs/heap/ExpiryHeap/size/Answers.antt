@@ -5,4 +5,5 @@ use Rattle.cyc_heap.proofs.heap.ExpiryHeap.size.Goals as goal
 pub returns-clause-value : goal.returns-clause-value
 returns-clause-value c =
     let i = c.self.inside in
-    sym (size_is i.leaves i.size i.given i.entries.items i.free.items i.room c.args.self.now c.self.invariant.0 c.self.view_is)
+    sym (size_is i.is_few i.few.items i.leaves i.size i.given i.entries.items i.free.items i.room c.args.self.now
+    c.self.invariant.0 c.self.view_is)

@@ -1,0 +1,217 @@
+-- From few in order to many that play, and back.
+use Rattle.std.proofs.Common.{◌≡◌, ◌≢◌, ℕ, zero, suc, ◌+◌, ◌*◌, ◌<◌, ◌≤◌, ◌⊎◌, inl, inr, true, List, [], ◌∷◌, ◌++◌, length, refl}
+use Rattle.std.proofs.Common.{sym, ap, ◌∙◌}
+use Rattle.std.proofs.Common.{subst, subst₂, arith}
+use Rattle.std.proofs.lemmas.Bool.{cases_eq, cases_lt}
+use Rattle.std.proofs.lemmas.List.{length_push, get_or_push, get_or_append_left}
+use Rattle.cyc_types.specs.Series.{never}
+use Rattle.cyc_heap.specs.declared.entry.Entry.{Entry}
+use Rattle.cyc_heap.specs.Tournament.{nowhere, entry_at, index_of, free_entry, comes, last_position, IsPlayed}
+use Rattle.cyc_heap.specs.Order.{HasNo, StandsIn, HasBareLeaves, IsList, IsOrder}
+use Rattle.cyc_heap.proofs.Playing.{winner_at, comes_self, comes_by_moment, least_of_all, any_of_all, one_of_all}
+use Rattle.cyc_heap.proofs.Views.{comes_later}
+
+-- whether one of the first n has this index
+pub member : (n i : ℕ) (few : List Entry)
+    → ((p : ℕ) × (p < n) × (index_of (entry_at few p) ≡ i)) ⊎ ((p : ℕ) → p < n → index_of (entry_at few p) ≢ i)
+member zero i few = inr (λ p low. absurd (omega (arith, low)))
+member (suc n) i few = elim (member n i few) [
+  | inl (p, low, is) ↦ inl (p, omega (arith, low), is)
+  | inr none ↦ elim (cases_eq (index_of (entry_at few n)) i) [
+    | inl is ↦ inl (n, omega arith, is)
+    | inr off ↦ inr (λ p low. elim (cases_eq p n) [
+      | inl at ↦ subst (λ p. index_of (entry_at few p) ≢ i) (sym at) off
+      | inr else ↦ none p (omega (arith, low, else))
+    ])
+  ]
+]
+
+-- the leaf of one more has another entry
+module _ (few : List Entry) (n limit : ℕ) (ys zs : List Entry) (e : Entry) (list : IsList few) (low : n < length few)
+    (here : entry_at zs (index_of (entry_at few n)) ≡ e)
+    (others : (i : ℕ) → i < limit → i ≢ index_of (entry_at few n) → entry_at zs i ≡ entry_at ys i) where
+  pub here_more : (wanted : ℕ → Entry) → wanted n ≡ e → ((p : ℕ) → p < length few → index_of (entry_at few p) < limit)
+      → ((p : ℕ) → p < n → entry_at ys (index_of (entry_at few p)) ≡ wanted p)
+      → (p : ℕ) → p < n + 1 → entry_at zs (index_of (entry_at few p)) ≡ wanted p
+  here_more wanted is inside before p within = elim (cases_eq p n) [
+    | inl at ↦ ap (λ p. entry_at zs (index_of (entry_at few p))) at ∙ here ∙ sym is ∙ ap wanted (sym at)
+    | inr else ↦ (let less : p < n = omega (arith, within, else) in
+        others (index_of (entry_at few p)) (inside p (omega (arith, less, low))) (list.apart p n less low) ∙ before p less)
+  ]
+
+  pub others_more : (ws : List Entry)
+      → ((i : ℕ) → i < limit → ((p : ℕ) → p < n → index_of (entry_at few p) ≢ i) → entry_at ys i ≡ entry_at ws i)
+      → (i : ℕ) → i < limit → ((p : ℕ) → p < n + 1 → index_of (entry_at few p) ≢ i) → entry_at zs i ≡ entry_at ws i
+  others_more ws same i within none =
+      others i within (λ e. none n (omega arith) (sym e)) ∙ same i within (λ p less. none p (omega (arith, less)))
+
+-- the few play
+module _ (few : List Entry) (leaves : ℕ) (xs ys : List Entry) (h : IsOrder few leaves xs) (bare : HasBareLeaves leaves xs)
+    (long_xs : length xs + 1 ≡ 2 * leaves) (long : length ys ≡ length xs)
+    (free : (p : ℕ) → p < length few → entry_at ys (index_of (entry_at few p)) ≡ free_entry)
+    (others : (i : ℕ) → i < length xs → HasNo i few → entry_at ys i ≡ entry_at xs i) where
+  all_free : (p : ℕ) → p < length xs → entry_at ys p ≡ free_entry
+  all_free p low = elim (cases_lt p leaves) [
+    | inr past ↦ others p low (λ q within e. absurd (let m = h.low q within in omega (arith, m, e, past))) ∙ h.blank p past low
+    | inl leaf ↦ elim (member (length few) p few) [
+      | inl (q, within, is) ↦ ap (entry_at ys) (sym is) ∙ free q within
+      | inr none ↦ others p low none ∙ elim (cases_lt never (entry_at xs p).moment) [
+        | inl unused ↦ bare p leaf unused
+        | inr used ↦ absurd (let (q, within, is, _) = h.all p leaf used in none q within is)
+      ]
+    ]
+  ]
+
+  pub played_free : IsPlayed leaves ys
+  played_free g within = winner_at free_entry free_entry free_entry (entry_at ys (leaves + g)) (entry_at ys (2 * g))
+      (entry_at ys (2 * g + 1)) (all_free (leaves + g) (omega (arith, within, long_xs)))
+      (all_free (2 * g) (omega (arith, within, long_xs))) (all_free (2 * g + 1) (omega (arith, within, long_xs)))
+      (record { one = inl refl; left = comes_self free_entry; right = comes_self free_entry })
+
+  pub kept_playing : (zs : List Entry) → StandsIn zs few
+      → ((i : ℕ) → i < leaves → HasNo i few → entry_at zs i ≡ entry_at ys i)
+      → (i : ℕ) → i < leaves → entry_at zs i ≡ entry_at xs i
+  kept_playing zs here same i low = elim (member (length few) i few) [
+    | inl (p, within, is) ↦ ap (entry_at zs) (sym is) ∙ here p within ∙ sym (h.own p within) ∙ ap (entry_at xs) is
+    | inr none ↦ same i low none ∙ others i (omega (arith, low, long_xs)) none
+  ]
+
+-- of the leaves of xs, these few were taken out one by one, and ys is left
+pub record IsDrawn (leaves : ℕ) (xs : List Entry) (few : List Entry) (ys : List Entry) : Type 0 where
+  pub long : length ys ≡ length xs
+  pub played : IsPlayed leaves ys
+  pub list : IsList few
+  pub low : (p : ℕ) → p < length few → index_of (entry_at few p) < leaves
+  pub own : StandsIn xs few
+  pub used : (p : ℕ) → p < length few → (entry_at few p).moment ≤ never
+  pub gone : (p : ℕ) → p < length few → entry_at ys (index_of (entry_at few p)) ≡ free_entry
+  pub rest : (i : ℕ) → i < leaves → HasNo i few → entry_at ys i ≡ entry_at xs i
+  pub later : (p i : ℕ) → p < length few → i < leaves → comes (entry_at few p) (entry_at ys i) ≡ true
+
+pub drawn_none : (leaves : ℕ) (xs few : List Entry) → few ≡ [] → IsPlayed leaves xs → IsDrawn leaves xs few xs
+drawn_none leaves xs few none played = let l = ap length none in record {
+  long = refl;
+  played = played;
+  list = record {
+    rising = λ p q less low. absurd (omega (arith, low, l));
+    apart = λ p q less low. absurd (omega (arith, low, l));
+  };
+  low = λ p low. absurd (omega (arith, low, l));
+  own = λ p low. absurd (omega (arith, low, l));
+  used = λ p low. absurd (omega (arith, low, l));
+  gone = λ p low. absurd (omega (arith, low, l));
+  rest = λ i low _. refl;
+  later = λ p i low _. absurd (omega (arith, low, l));
+}
+
+-- the winner is taken out
+module _ (leaves : ℕ) (xs few ys : List Entry) (h : IsDrawn leaves xs few ys) (some : 0 < leaves)
+    (own : (i : ℕ) → i < leaves → (entry_at xs i).moment ≤ never → index_of (entry_at xs i) ≡ i) (r : Entry)
+    (is : entry_at ys (last_position leaves) ≡ r) (used : r.moment ≤ never) where
+  pub winner : (i : ℕ) × (i < leaves) × (entry_at ys i ≡ r) × (entry_at xs i ≡ r) × (index_of r ≡ i) × HasNo i few
+  winner =
+      let (i, low, at) = one_of_all leaves ys h.played some in
+      let here : entry_at ys i ≡ r = sym at ∙ is in
+      let n = ap (λ (e : Entry). e.moment) here in
+      elim (member (length few) i few) [
+        | inl (p, within, index) ↦ absurd (let m = ap (λ (e : Entry). e.moment) (ap (entry_at ys) (sym index)
+            ∙ h.gone p within) in
+            omega (arith, m, n, used))
+        | inr none ↦ (let leaf : entry_at xs i ≡ r = sym (h.rest i low none) ∙ here in
+            let m = ap (λ (e : Entry). e.moment) leaf in
+            (i, low, here, leaf, ap index_of (sym leaf) ∙ own i low (omega (arith, m, used)), none))
+      ]
+
+  pub winner_low : index_of r < leaves
+  winner_low = let (i, low, _, _, index, _) = winner in omega (arith, low, index)
+
+  at_old : (p : ℕ) → p < length few → entry_at (few ++ r ∷ []) p ≡ entry_at few p
+  at_old p low = get_or_append_left few (r ∷ []) nowhere p low
+
+  at_last : (p : ℕ) → p ≡ length few → entry_at (few ++ r ∷ []) p ≡ r
+  at_last p last = get_or_push few r nowhere p (sym last)
+
+  each : (P : Entry → Type 0) → ((p : ℕ) → p < length few → P (entry_at few p)) → P r
+      → (p : ℕ) → p < length (few ++ r ∷ []) → P (entry_at (few ++ r ∷ []) p)
+  each P old last p low = let l = length_push few r in elim (cases_lt p (length few)) [
+    | inl before ↦ subst P (sym (at_old p before)) (old p before)
+    | inr past ↦ subst P (sym (at_last p (omega (arith, past, low, l)))) last
+  ]
+
+  pairs : (R : Entry → Entry → Type 0) → ((p q : ℕ) → p < q → q < length few → R (entry_at few p) (entry_at few q))
+      → ((p : ℕ) → p < length few → R (entry_at few p) r)
+      → (p q : ℕ) → p < q → q < length (few ++ r ∷ []) → R (entry_at (few ++ r ∷ []) p) (entry_at (few ++ r ∷ []) q)
+  pairs R old last p q less low = let l = length_push few r in elim (cases_lt q (length few)) [
+    | inl before ↦ subst₂ R (sym (at_old p (omega (arith, less, before)))) (sym (at_old q before)) (old p q less before)
+    | inr past ↦ subst₂ R (sym (at_old p (omega (arith, less, low, l)))) (sym (at_last q (omega (arith, past, low, l))))
+        (last p (omega (arith, less, low, l)))
+  ]
+
+  pub drawn_more : (zs : List Entry) → length zs ≡ length ys → entry_at zs (index_of r) ≡ free_entry
+      → ((i : ℕ) → i < leaves → i ≢ index_of r → entry_at zs i ≡ entry_at ys i) → IsPlayed leaves zs
+      → IsDrawn leaves xs (few ++ r ∷ []) zs
+  drawn_more zs long here others played =
+      let (i, low, at, leaf, index, none) = winner in
+      let off : (p : ℕ) → p < length few → index_of (entry_at few p) ≢ index_of r = λ p within e. none p within (e ∙ index) in
+      let l = length_push few r in
+      record {
+        long = long ∙ h.long;
+        played = played;
+        list = record {
+          rising = pairs (λ a b. comes a b ≡ true) h.list.rising
+              (λ p within. subst (λ e. comes (entry_at few p) e ≡ true) at (h.later p i within low));
+          apart = pairs (λ a b. index_of a ≢ index_of b) h.list.apart off;
+        };
+        low = each (λ e. index_of e < leaves) h.low winner_low;
+        own = each (λ e. entry_at xs (index_of e) ≡ e) h.own (ap (entry_at xs) index ∙ leaf);
+        used = each (λ (e : Entry). e.moment ≤ never) h.used used;
+        gone = each (λ e. entry_at zs (index_of e) ≡ free_entry)
+            (λ p within. others (index_of (entry_at few p)) (h.low p within) (off p within) ∙ h.gone p within) here;
+        rest = λ k inside no. others k inside
+            (λ e. no (length few) (omega (arith, l)) (ap index_of (at_last (length few) refl) ∙ sym e))
+            ∙ h.rest k inside (λ p within e. no p (omega (arith, within, l)) (ap index_of (at_old p within) ∙ e));
+        later = λ p k within inside. elim (cases_eq k (index_of r)) [
+          | inl mine ↦ subst (λ e. comes (entry_at (few ++ r ∷ []) p) e ≡ true) (sym (ap (entry_at zs) mine ∙ here))
+              (comes_by_moment (entry_at (few ++ r ∷ []) p) free_entry
+              (let m = each (λ (e : Entry). e.moment ≤ never) h.used used p within in omega (arith, m)))
+          | inr else ↦ subst (λ e. comes (entry_at (few ++ r ∷ []) p) e ≡ true) (sym (others k inside else))
+              (each (λ e. comes e (entry_at ys k) ≡ true) (λ p within. h.later p k within inside)
+              (subst (λ e. comes e (entry_at ys k) ≡ true) is (least_of_all leaves ys h.played k inside)) p within)
+        ];
+      }
+
+-- all were taken out, and they stand in their leaves again
+module _ (leaves : ℕ) (xs few ys zs : List Entry) (h : IsDrawn leaves xs few ys) (here : StandsIn zs few)
+    (others : (i : ℕ) → i < leaves → HasNo i few → entry_at zs i ≡ entry_at ys i) where
+  pub kept_drawn : (i : ℕ) → i < leaves → entry_at zs i ≡ entry_at xs i
+  kept_drawn i low = elim (member (length few) i few) [
+    | inl (p, within, is) ↦ ap (entry_at zs) (sym is) ∙ here p within ∙ sym (h.own p within) ∙ ap (entry_at xs) is
+    | inr none ↦ others i low none ∙ h.rest i low none
+  ]
+
+  module _ (some : 0 < leaves) (bare : HasBareLeaves leaves xs) (unused : never < (entry_at ys
+      (last_position leaves)).moment) where
+    bare_now : (i : ℕ) → i < leaves → entry_at ys i ≡ free_entry
+    bare_now i low = elim (member (length few) i few) [
+      | inl (p, within, is) ↦ ap (entry_at ys) (sym is) ∙ h.gone p within
+      | inr none ↦ (let same = h.rest i low none in
+          let m = ap (λ (e : Entry). e.moment) same in
+          let after = comes_later (entry_at ys (last_position leaves)) (entry_at ys i) (least_of_all leaves ys h.played i low) in
+          same ∙ bare i low (omega (arith, m, after, unused)))
+    ]
+
+    pub drawn_order : length xs + 1 ≡ 2 * leaves → length zs ≡ length ys
+        → ((i : ℕ) → leaves ≤ i → i < length ys → entry_at zs i ≡ entry_at ys i) → IsOrder few leaves zs
+    drawn_order long same_length games = let l = h.long in record {
+      list = h.list;
+      low = h.low;
+      own = here;
+      used = h.used;
+      all = λ i low has. elim (member (length few) i few) [
+        | inl (p, within, is) ↦ (p, within, is, sym (here p within) ∙ ap (entry_at zs) is)
+        | inr none ↦ absurd (let m = ap (λ (e : Entry). e.moment) (others i low none ∙ bare_now i low) in omega (arith, m, has))
+      ];
+      blank = λ p past low. games p past (omega (arith, low, same_length))
+          ∙ (let (i, leaf, same) = any_of_all leaves ys h.played p (omega (arith, low, same_length, l, long)) some in
+          same ∙ bare_now i leaf);
+    }

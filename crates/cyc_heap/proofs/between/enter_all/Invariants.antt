@@ -1,0 +1,13 @@
+use Rattle.std.proofs.Common.{◌≡◌, ◌≢◌, ℕ, ◌<◌, length, vec_capacity}
+use Rattle.cyc_heap.specs.Tournament.{entry_at, index_of, IsPlayed}
+use Rattle.cyc_heap.proofs.between.enter_all.Given as goal
+
+abbrev pub invariant-loop-entry : goal.invariant-loop-entry
+invariant-loop-entry l = record {
+  long : length l.entries.items ≡ length l.fn.entries.items;
+  here : (p : ℕ) → p < l.entry-index → entry_at l.entries.items (index_of (entry_at l.few p)) ≡ entry_at l.few p;
+  others : (i : ℕ) → i < l.leaves → ((p : ℕ) → p < l.entry-index → index_of (entry_at l.few p) ≢ i)
+      → entry_at l.entries.items i ≡ entry_at l.fn.entries.items i;
+  played : IsPlayed l.leaves l.entries.items;
+  room : vec_capacity l.entries ≡ vec_capacity l.fn.entries;
+}

@@ -1,0 +1,101 @@
+use Rattle.std.proofs.Common.{◌≡◌, ◌<◌, ◌≤◌, ◌*◌, ◌-◌, ◌+◌, ℕ, true, false, length, Option, Some, None, IfSome, IfNone, is_some}
+use Rattle.std.proofs.Common.{not, sym, ap, ◌∙◌, subst, arith}
+use Rattle.std.proofs.lemmas.Bool.{false≢true}
+use Rattle.std.proofs.lemmas.List.{length_push, get_or_default}
+use Rattle.cyc_types.specs.Series.{never}
+use Rattle.cyc_heap.specs.declared.entry.Entry.{Entry}
+use Rattle.cyc_heap.specs.Tournament.{nowhere, entry_at, index_of}
+use Rattle.cyc_heap.specs.Order.{StandsIn, HasNo}
+use Rattle.cyc_heap.proofs.Drawing.{IsDrawn, winner_low, drawn_more, kept_drawn, drawn_order}
+use Rattle.cyc_heap.proofs.between.order_few.Goals as goal
+
+unused_of : (o : Option ℕ) (m : ℕ) → is_some o ≡ false → IfNone o (never < m) → never < m
+unused_of None m none h = h
+unused_of (Some k) m none h = absurd (false≢true (sym none))
+
+used_of : (o : Option ℕ) (m : ℕ) → is_some o ≡ true → IfSome o (λ k. (k ≡ m) × (k ≤ never)) → m ≤ never
+used_of None m some h = absurd (false≢true some)
+used_of (Some k) m some h = let (is, low) = h in omega (arith, is, low)
+
+pub returns-then-is_none-clause-kept : goal.returns-then-is_none-clause-kept
+returns-then-is_none-clause-kept c =
+    let d = c.loop-count.invariant.drawn in
+    let f = c.fill_leaves.ensures in
+    let few = c.as_slice.ensures.value in
+    let zs = c.fill_leaves.new.entries.items in
+    let long = d.long in
+    let all = c.requires.long in
+    kept_drawn c.args.leaves c.args.entries.now.items c.loop-count.few.items c.loop-count.entries.items zs d
+    (subst (StandsIn zs) few f.here)
+    (λ i low none. f.others i (omega (arith, low, long, all)) (subst (HasNo i) (sym few) none))
+
+pub returns-then-is_none-clause-ordered : goal.returns-then-is_none-clause-ordered
+returns-then-is_none-clause-ordered c = λ _. (
+    let d = c.loop-count.invariant.drawn in
+    let f = c.fill_leaves.ensures in
+    let few = c.as_slice.ensures.value in
+    let ys = c.loop-count.entries.items in
+    let zs = c.fill_leaves.new.entries.items in
+    let long = d.long in
+    let all = c.requires.long in
+    let some = c.requires.some in
+    let x = c.index.result.now in
+    let is = get_or_default ys (2 * (c.args.leaves - 1)) nowhere x (omega (arith, long, all, some)) ∙ sym c.index.ensures in
+    let m = ap (λ (e : Entry). e.moment) is in
+    let unused = unused_of c.moment.result x.moment (c.is_none.ensures ∙ ap not c.if-is_none.true) c.moment.ensures.none in
+    drawn_order c.args.leaves c.args.entries.now.items c.loop-count.few.items ys zs d (subst (StandsIn zs) few f.here)
+    (λ i low none. f.others i (omega (arith, low, long, all)) (subst (HasNo i) (sym few) none))
+    some c.requires.bare (omega (arith, m, unused)) all f.long
+    (λ i past low. f.others i low (subst (HasNo i) (sym few)
+    (λ p within e. absurd (let low = d.low p within in omega (arith, low, e, past))))))
+
+pub enter-requires-clause-index : goal.enter-requires-clause-index
+enter-requires-clause-index c =
+    let d = c.loop-count.invariant.drawn in
+    let ys = c.loop-count.entries.items in
+    let long = d.long in
+    let all = c.requires.long in
+    let some = c.requires.some in
+    let x = c.index.result.now in
+    let is = get_or_default ys (2 * (c.args.leaves - 1)) nowhere x (omega (arith, long, all, some)) ∙ sym c.index.ensures in
+    let used = used_of c.moment.result x.moment (c.is_none.ensures ∙ ap not c.if-is_none.false) c.moment.ensures.some in
+    let low = winner_low c.args.leaves c.args.entries.now.items c.loop-count.few.items ys d some c.requires.own x is used in
+    let at : c.from-position.result ≡ index_of x = c.from-position.ensures ∙ c.number.ensures.value
+    ∙ c.index-in-loop-count.ensures in
+    omega (arith, low, at)
+
+pub loop-count-preserved : goal.loop-count-preserved
+loop-count-preserved c =
+    let h = c.loop-count.invariant in
+    let d = h.drawn in
+    let xs = c.args.entries.now.items in
+    let few = c.loop-count.few.items in
+    let ys = c.loop-count.entries.items in
+    let zs = c.enter.new.entries.items in
+    let long = d.long in
+    let all = c.requires.long in
+    let some = c.requires.some in
+    let x = c.index.result.now in
+    let is = get_or_default ys (2 * (c.args.leaves - 1)) nowhere x (omega (arith, long, all, some)) ∙ sym c.index.ensures in
+    let used = used_of c.moment.result x.moment (c.is_none.ensures ∙ ap not c.if-is_none.false) c.moment.ensures.some in
+    let at : c.from-position.result ≡ index_of x = c.from-position.ensures ∙ c.number.ensures.value
+    ∙ c.index-in-loop-count.ensures in
+    let f = c.enter.ensures in
+    let p = c.push_reserved.ensures in
+    record {
+      drawn = subst (λ l. IsDrawn c.args.leaves xs l zs) (sym p.items)
+          (drawn_more c.args.leaves xs few ys d some c.requires.own x is used zs f.long
+          (ap (entry_at zs) (sym at) ∙ f.here ∙ c.free.ensures) (λ i low off. f.others i low (λ e. off (e ∙ at))) f.played);
+      long = ap length p.items ∙ length_push few x ∙ ap (λ n. n + 1) h.long;
+      room = f.room ∙ h.room;
+      few_room = p.capacity ∙ h.few_room;
+    }
+
+pub returns-clause-kept : goal.returns-clause-kept
+returns-clause-kept c =
+    let d = c.loop-count.invariant.drawn in
+    let f = c.enter_all.ensures in
+    let few = c.as_slice-2.ensures.value in
+    let zs = c.enter_all.new.entries.items in
+    kept_drawn c.args.leaves c.args.entries.now.items c.loop-count.few.items c.loop-count.entries.items zs d
+    (subst (StandsIn zs) few f.here) (λ i low none. f.others i low (subst (HasNo i) (sym few) none))
