@@ -1,5 +1,5 @@
 -- Lemmas on acts: none, one, and one after others.
-use Rattle.std.proofs.Common.{◌≡◌, ℕ, ◌+◌, List, [], ◌∷◌, ◌++◌, refl, sym, ap, subst, arith, ◌⊎◌, inl, inr}
+use Rattle.std.proofs.Common.{◌≡◌, ℕ, ◌+◌, List, [], ◌∷◌, ◌++◌, refl, sym, ap, subst, arith}
 use Rattle.std.specs.List.{FoldsTo}
 use Rattle.cyc_types.specs.Counting.{times}
 use Rattle.cyc_types.specs.declared.Raise.{Ghosts as Raise}
@@ -114,14 +114,12 @@ module _ {C R : Type 0} (called : C → ℕ → C → Type 0) (count : C → ℕ
   one_high l id c c' k w is h n = subst (λ x. One x id (record { calls = c; lock = k; low = w })
       (record { calls = c'; lock = k; low = w }) 0) (sym is) (act_high called count firing id c c' k w h n)
 
-  pub one_end : (l : Level) (id : ℕ) (c : C) (k k' w w' : R) (n : ℕ) → (l ≡ Lock) ⊎ (l ≡ Low)
-      → (l ≡ Lock → RaisedOnce firing id k k' n × (w' ≡ w)) → (l ≡ Low → RaisedOnce firing id w w' n × (k' ≡ k)) →
-      One l id (record { calls = c; lock = k; low = w }) (record { calls = c; lock = k'; low = w' }) n
-  one_end l id c k k' w w' n (inl is) lock low = subst (λ x. One l id (record { calls = c; lock = k; low = w })
-      (record { calls = c; lock = k'; low = x }) n) (sym (lock is).1)
-      (subst (λ x. One x id (record { calls = c; lock = k; low = w }) (record { calls = c; lock = k'; low = w }) n) (sym is)
-      (act_lock called count firing id c k k' w n (lock is).0))
-  one_end l id c k k' w w' n (inr is) lock low = subst (λ x. One l id (record { calls = c; lock = k; low = w })
-      (record { calls = c; lock = x; low = w' }) n) (sym (low is).1)
-      (subst (λ x. One x id (record { calls = c; lock = k; low = w }) (record { calls = c; lock = k; low = w' }) n) (sym is)
-      (act_low called count firing id c k w w' n (low is).0))
+  pub one_lock : (l : Level) (id : ℕ) (c : C) (k k' w : R) (n : ℕ) → l ≡ Lock → RaisedOnce firing id k k' n →
+      One l id (record { calls = c; lock = k; low = w }) (record { calls = c; lock = k'; low = w }) n
+  one_lock l id c k k' w n is h = subst (λ x. One x id (record { calls = c; lock = k; low = w })
+      (record { calls = c; lock = k'; low = w }) n) (sym is) (act_lock called count firing id c k k' w n h)
+
+  pub one_low : (l : Level) (id : ℕ) (c : C) (k w w' : R) (n : ℕ) → l ≡ Low → RaisedOnce firing id w w' n →
+      One l id (record { calls = c; lock = k; low = w }) (record { calls = c; lock = k; low = w' }) n
+  one_low l id c k w w' n is h = subst (λ x. One x id (record { calls = c; lock = k; low = w })
+      (record { calls = c; lock = k; low = w' }) n) (sym is) (act_low called count firing id c k w w' n h)

@@ -1,7 +1,7 @@
 //! One fire: every expiration that is due, in order.
 
-ghost use Rattle.std.specs.Prelude.{◌≡◌, ◌≢◌, ℕ, ◌+◌, ◌<◌, ◌≤◌, ◌++◌, ◌∷◌, [], length, min, All, List, Some};
-ghost use Rattle.std.specs.Prelude.{IfOk, IfErr, OnOk, OnErr, IfNone, IfSome};
+ghost use Rattle.std.specs.Prelude.{◌≡◌, ℕ, ◌+◌, ◌<◌, ◌≤◌, ◌++◌, ◌∷◌, [], length, min, All, List, Some, IfOk, IfErr, OnOk, OnErr};
+ghost use Rattle.std.specs.Prelude.{IfNone, IfSome};
 ghost use Rattle.std.specs.Bool.{OnTrue, OnFalse};
 ghost use Rattle.cyc_types.specs.Series.{due, next, never, late};
 ghost use Rattle.cyc_types.specs.Firing.{MayRaise, Sound};
@@ -67,59 +67,6 @@ fn raise_once<R: Raise>(end: &mut R, id: CyclicId) -> u64
     }
 }
 
-/// Two ends, of which the first is raised.
-#[derive(Drop)]
-struct Ends<'a, R: Raise> {
-    first: &'a mut R,
-    other: &'a mut R,
-}
-
-impl<'a, R: Raise> Ends<'a, R> {
-    /// The two, turned about where this is asked. They pass by value: of that the compiler makes a conditional move, and a branch
-    /// of a swap behind a `&mut`.
-    #[inline(always)]
-    fn turned_if(self, asked: bool) -> Ends<'a, R>
-        ensures turned { OnTrue asked ((result.first ≡ self.entry.other) × (result.other ≡ self.entry.first)) }
-        ensures straight { OnFalse asked ((result.first ≡ self.entry.first) × (result.other ≡ self.entry.other)) }
-    {
-        let Ends { first, other } = self;
-        if asked {
-            Ends {
-                first: other,
-                other: first,
-            }
-        } else {
-            Ends { first, other }
-        }
-    }
-}
-
-/// Raises a cyclic once at the end of its soft level, and says how many expirations were lost. Which level expires next can't be
-/// foretold, so its end is chosen with no branch.
-///
-/// That the two are turned back costs nothing. It is for the proof, which knows of an end what stands last in its own field.
-#[inline(always)]
-fn raise_at<R: Raise>(level: Level, lock: &mut R, low: &mut R, id: CyclicId) -> u64
-    requires lock { level ≡ Lock → MayRaise id (R.view lock.old) }
-    requires low { level ≡ Low → MayRaise id (R.view low.old) }
-    requires soft { level ≢ High }
-    ensures lock { level ≡ Lock → RaisedOnce R.Raise id lock.old lock.new result × (low.new ≡ low.old) }
-    ensures low { level ≡ Low → RaisedOnce R.Raise id low.old low.new result × (lock.new ≡ lock.old) }
-    ensures few { result ≤ 1 }
-    ensures sound_lock { Sound (R.view lock.old) → Sound (R.view lock.new) }
-    ensures sound_low { Sound (R.view low.old) → Sound (R.view low.new) }
-{
-    let is_low = level == Level::Low;
-    let ends = Ends {
-        first: lock,
-        other: low,
-    };
-    let ends = ends.turned_if(is_low);
-    let lost = raise_once(ends.first, id);
-    let _ends = ends.turned_if(is_low);
-    lost
-}
-
 /// Makes one expiration at its level (`cyclic_expire`), and says how many were lost.
 pub fn expire_at<C: Calls, R: Raise>(
     id: CyclicId,
@@ -151,7 +98,8 @@ pub fn expire_at<C: Calls, R: Raise>(
             calls.call(id, level)?;
             Ok(0)
         }
-        Level::Lock | Level::Low => Ok(raise_at(level, lock, low, id)),
+        Level::Lock => Ok(raise_once(lock, id)),
+        Level::Low => Ok(raise_once(low, id)),
     }
 }
 
