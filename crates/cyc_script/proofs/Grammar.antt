@@ -1,13 +1,19 @@
 -- What the tokens of a text say: the grammar's loops, a turn at a time, under the conversion to data.
-use Rattle.std.proofs.Common.{◌≡◌, ℕ, ◌-◌, ◌<◌, ◌≤◌, List, [], ◌∷◌, length, Option, Some, None, refl, ap, ◌∙◌}
+use Rattle.std.proofs.Common.{◌≡◌, ℕ, zero, suc, ◌-◌, ◌<◌, ◌≤◌, List, [], ◌∷◌, length, true, Option, Some, None, refl, ap, ◌∙◌}
+use Rattle.std.proofs.Common.{arith}
 use Rattle.std.specs.Prelude.{option_map, option_and_then}
 use Rattle.json.specs.Token.{Token}
+use Rattle.json.specs.declared.token.Token as declared
+use Rattle.json.specs.declared.token.Token.TheVariants as token
+use Rattle.json.specs.Reads.{Yields}
 use Rattle.json.specs.Json as json
-use Rattle.json.specs.Json.{Parse, parse_map, after_end_array, read_key, items, members, value, if_last}
-use Rattle.json.proofs.Grammar.{items_end, items_more, members_end, members_more, value_is, value-begin_array}
+use Rattle.json.specs.Json.{Parse, parse_map, after_end_array, read_key, items, members, members_step, value, if_last}
+use Rattle.json.proofs.Grammar.{items_end, items_fail, items_more, members_end, members_fail, members_more, members_no_key}
+use Rattle.json.proofs.Grammar.{value_is, value-begin_array}
 use Rattle.json.proofs.Grammar.{skip_value-shorter, left}
 use Rattle.serde_json.specs.Data.{Data, array, object, Items, no_items, item, Members, no_members, put}
 use Rattle.serde_json.specs.Read.{of_json, of_items, of_members, converted}
+use Rattle.cyc_script.specs.Tokens.{begins_none, ended}
 
 -- ---- what was converted
 
@@ -78,6 +84,62 @@ module _ (p : Parse json.Json) where
         → converted (λ ms. of_members ms old) (members p n ts) ≡ Some (old, r)
     members_over n ts r enough e = ap (converted (λ ms. of_members ms old)) (members_end p n ts r enough e)
 
+-- ---- a turn that fails
+
+no_value : {A : Type 0} (r : List Token) (x : Option A) → option_map {U = A × List Token} (λ y. (y, r)) x ≡ None → x ≡ None
+no_value r None e = refl
+no_value r (Some y) e = absurd (cc)
+
+without_item : (j : json.Json) → of_json j ≡ None → (o : Option (json.Items × List Token))
+    → converted of_items (parse_map (json.item j) o) ≡ None
+without_item j e None = refl
+without_item j e (Some p) = rw e refl
+
+without_member : (k : List ℕ) (j : json.Json) (old : Members) → of_json j ≡ None → (o : Option (json.Members × List Token))
+    → converted (λ ms. of_members ms old) (parse_map (json.member k j) o) ≡ None
+without_member k j old e None = refl
+without_member k j old e (Some p) = rw e refl
+
+module _ (p : Parse json.Json) where
+  item_none_at : (n : ℕ) (ts : List Token) (o : Option (json.Json × List Token)) → after_end_array ts ≡ None → p ts ≡ o
+      → converted of_json o ≡ None → converted of_items (items p n ts) ≡ None
+  unfolding items
+  item_none_at n ts None going is e = ap (converted of_items) (items_fail p n ts going is)
+  item_none_at zero ts (Some (j, r)) going is e = refl
+  item_none_at (suc n) ts (Some (j, r)) going is e =
+      ap (converted of_items) (items_more p (suc n) ts r j (omega arith) going is)
+      ∙ without_item j (no_value r (of_json j) e) (items p (suc n - 1) r)
+
+  pub item_none : (n : ℕ) (ts : List Token) → after_end_array ts ≡ None → converted of_json (p ts) ≡ None
+      → converted of_items (items p n ts) ≡ None
+  item_none n ts going e = item_none_at n ts (p ts) going refl e
+
+  module _ (old : Members) where
+    member_none_at : (n : ℕ) (k : List ℕ) (ts s : List Token) (o : Option (json.Json × List Token))
+        → read_key ts ≡ Some (Some k, s) → p s ≡ o → converted of_json o ≡ None
+        → converted (λ ms. of_members ms old) (members p n ts) ≡ None
+    unfolding members
+    member_none_at n k ts s None key is e = ap (converted (λ ms. of_members ms old)) (members_fail p n k ts s key is)
+    member_none_at zero k ts s (Some (j, r)) key is e = refl
+    member_none_at (suc n) k ts s (Some (j, r)) key is e =
+        ap (converted (λ ms. of_members ms old)) (members_more p (suc n) k ts s r j (omega arith) key is)
+        ∙ without_member k j old (no_value r (of_json j) e) (members p (suc n - 1) r)
+
+    pub member_none : (n : ℕ) (k : List ℕ) (ts s : List Token) → read_key ts ≡ Some (Some k, s)
+        → converted of_json (p s) ≡ None → converted (λ ms. of_members ms old) (members p n ts) ≡ None
+    member_none n k ts s key e = member_none_at n k ts s (p s) key refl e
+
+    pub key_none : (n : ℕ) (ts : List Token) → read_key ts ≡ None
+        → converted (λ ms. of_members ms old) (members p n ts) ≡ None
+    key_none n ts key = ap (converted (λ ms. of_members ms old)) (members_no_key p n ts key)
+
+    pub key_over : (n : ℕ) (t : Token) (ts r : List Token) → read_key ts ≡ Some (None, t ∷ r)
+        → ended (converted (λ ms. of_members ms old) (members p n ts)) ≡ None
+    unfolding members
+    key_over zero t ts r key = refl
+    key_over (suc n) t ts r key = ap (λ k. ended (converted (λ ms. of_members ms old)
+        (option_and_then (λ q. members_step p (members p n) q.0 q.1) k))) key
+
 -- a value takes a token at least
 pub shorter : (depth : ℕ) (ts r : List Token) (d : Data) → converted of_json (value depth ts) ≡ Some (d, r) → length r < length ts
 shorter depth ts r d e = let j = converted_some of_json (value depth ts) d r e in skip_value-shorter depth ts r (ap left j.1)
@@ -89,6 +151,28 @@ pub array_read : (depth : ℕ) (ts r : List Token) (ds : Items) → 0 < depth
 array_read depth ts r ds some e = ap (converted of_json) (value-begin_array depth ts some)
     ∙ converted_array (items (value (depth - 1)) (length ts) ts) ∙ ap (parse_map array) e
 
+-- an array whose items are none
+pub array_none : (depth : ℕ) (ts : List Token) → 0 < depth
+    → converted of_items (items (value (depth - 1)) (length ts) ts) ≡ None
+    → converted of_json (value depth (Token.begin_array ∷ ts)) ≡ None
+array_none depth ts some e = ap (converted of_json) (value-begin_array depth ts some)
+    ∙ converted_array (items (value (depth - 1)) (length ts) ts) ∙ ap (parse_map array) e
+
+-- no value begins so
+pub none_begins : (next : Option declared.Token) (depth : ℕ) (old new : List Token) → Yields old next new
+    → begins_none next ≡ true → converted of_json (value depth old) ≡ None
+none_begins None depth old new e h = ap (converted of_json) (ap (value depth) e.0 ∙ value_is depth [])
+none_begins (Some token.BeginObject) depth old new e h = absurd (cc)
+none_begins (Some token.EndObject) depth old new e h = ap (converted of_json) (ap (value depth) e ∙ value_is depth _)
+none_begins (Some token.BeginArray) depth old new e h = absurd (cc)
+none_begins (Some token.EndArray) depth old new e h = ap (converted of_json) (ap (value depth) e ∙ value_is depth _)
+none_begins (Some (token.Key s)) depth old new e h = ap (converted of_json) (ap (value depth) e ∙ value_is depth _)
+none_begins (Some (token.String s)) depth old new e h = absurd (cc)
+none_begins (Some (token.Number s)) depth old new e h = absurd (cc)
+none_begins (Some (token.Bool b)) depth old new e h = absurd (cc)
+none_begins (Some token.Null) depth old new e h = absurd (cc)
+none_begins (Some token.Bad) depth old new e h = ap (converted of_json) (ap (value depth) e ∙ value_is depth _)
+
 pub string_read : (depth : ℕ) (s : List ℕ) (r : List Token) → value depth (Token.string s ∷ r) ≡ Some (json.string s, r)
 string_read depth s r = value_is depth _
 
@@ -97,8 +181,7 @@ number_read depth s r = value_is depth _
 
 -- ---- the whole text
 
-abbrev pub whole : Option (json.Json × List Token) → Option Data
-whole o = option_and_then of_json (option_and_then (λ p. if_last p.0 p.1) o)
-
-pub whole_read : (o : Option (json.Json × List Token)) (d : Data) → converted of_json o ≡ Some (d, []) → whole o ≡ Some d
-whole_read o d e = let j = converted_some of_json o d [] e in ap whole j.1 ∙ j.2
+pub ended_map : {A B : Type 0} (f : A → B) (o : Option (A × List Token)) → ended o ≡ None → ended (parse_map f o) ≡ None
+ended_map f None e = refl
+ended_map f (Some (a, [])) e = absurd (cc)
+ended_map f (Some (a, t ∷ ts)) e = refl

@@ -1,28 +1,25 @@
 -- What a script has beside its steps, from its tokens.
-use Rattle.std.proofs.Common.{◌≡◌, ℕ, ◌-◌, ◌≤◌, List, [], ◌∷◌, length, true, Option, Some, None, Result, Ok, Err}
+use Rattle.std.proofs.Common.{◌≡◌, ℕ, ◌+◌, ◌-◌, ◌≤◌, List, [], ◌∷◌, length, true, Option, Some, None, Result, Ok, Err}
 use Rattle.std.proofs.Common.{codes, inl, inr, refl, ap, sym, ◌∙◌, arith}
-use Rattle.std.specs.Prelude.{Bool, IfSome, IfOk, IsTrue, nat_le}
-use Rattle.std.proofs.lemmas.Bool.Decides.{nat_tests}
+use Rattle.std.specs.Prelude.{IfSome}
 use Rattle.json.specs.Token.{Token, key, begin_array, begin_object, end_object}
-use Rattle.json.specs.Json.{parse_map, members, value}
+use Rattle.json.specs.Json.{parse_map, items, members, value}
 use Rattle.json.proofs.Grammar.{value-begin_object}
 use Rattle.serde_json.specs.Data.{Data, array, object, Items, Members, no_members, put}
-use Rattle.serde_json.specs.Read.{of_json, of_members, converted}
+use Rattle.serde_json.specs.Read.{of_json, of_items, converted}
 use Rattle.cyc_types.specs.declared.refusal.Refusal.{Refusal}
 use Rattle.cyc_script.specs.declared.step.Step.{Step}
 use Rattle.cyc_script.specs.declared.unread.Unread.{Unread}
 use Rattle.cyc_script.specs.declared.unread.Unread.TheVariants.{Refused, Unusual}
-use Rattle.cyc_script.specs.Limits.{most_cpus, most_steps}
-use Rattle.cyc_script.specs.Script.{Content, number_between, is_key, has_keys, cpus_of, ceiling_of, values_of, within_limit, content_of}
+use Rattle.cyc_script.specs.Limits.{most_cpus}
+use Rattle.cyc_script.specs.Script.{Content, number_between, is_key, has_keys, cpus_of, ceiling_of, values_of}
+use Rattle.cyc_script.specs.Script.{within_limit, content_of, formed, parsed}
 use Rattle.cyc_script.specs.Steps.{first_context, steps_of}
-use Rattle.cyc_script.specs.Tokens.{Begins, BeginsItems, HasContent, HasSteps, Heads, Refuses}
-use Rattle.cyc_script.specs.Words.{list_of}
-use Rattle.cyc_script.proofs.Grammar.{array_read, converted_object, member_read, members_over, shorter}
-
-pub if_all : {E : Type 0} (r : Result Bool E) (P Q : Type 0) → (P → Q) → IfOk r (λ all. IsTrue all → P)
-    → IfOk r (λ all. IsTrue all → Q)
-if_all (Ok all) P Q f p = λ h. f (p h)
-if_all (Err e) P Q f p = tt
+use Rattle.cyc_script.specs.Tokens.{Begins, BeginsItems, HasContent, HasSteps, Heads, IsNoJson, Refuses, data_in, ended}
+use Rattle.cyc_script.specs.Tokens.{content_in, members_on, script_data}
+use Rattle.cyc_script.specs.Words.{list_of, ◌>>=◌}
+use Rattle.cyc_script.proofs.Grammar.{array_none, array_read, converted_object, ended_map, member_none, member_read, members_over}
+use Rattle.cyc_script.proofs.Grammar.{shorter}
 
 -- ---- a number
 
@@ -35,67 +32,78 @@ number_here old new rest name most d (Some n) is begins e = (d, rest, is, begins
 
 -- ---- an object
 
-module _ (inside : List Token) (ds : Items) (rest : List Token) (e : BeginsItems 125 inside ds (end_object ∷ rest)) where
-  items_here : Begins 126 (begin_array ∷ inside) (array ds) (end_object ∷ rest)
-  items_here = array_read 126 inside (end_object ∷ rest) ds (omega arith) e
+-- members before the steps, and what they say
+module _ (inside : List Token) (before : Members) (turns : ℕ) (enough : length inside + 2 ≤ turns) where
+  steps_on : (ds : Items) (rest : List Token) → BeginsItems 125 inside ds rest
+      → members_on turns (key (codes "steps") ∷ begin_array ∷ inside) before
+      ≡ members_on (turns - 1) rest (put (codes "steps") (array ds) before)
+  steps_on ds rest e = member_read (value 126) before turns (codes "steps") (key (codes "steps") ∷ begin_array ∷ inside)
+      (begin_array ∷ inside) rest (array ds) (omega (arith, enough)) refl (array_read 126 inside rest ds (omega arith) e)
 
   -- the last member is the steps
-  last_member : (old : Members) (n : ℕ) → length (key (codes "steps") ∷ begin_array ∷ inside) ≤ n
-      → converted (λ ms. of_members ms old) (members (value 126) n (key (codes "steps") ∷ begin_array ∷ inside))
-      ≡ Some (put (codes "steps") (array ds) old, rest)
-  last_member old n enough =
-      let less = shorter 126 (begin_array ∷ inside) (end_object ∷ rest) (array ds) items_here in
-      member_read (value 126) old n (codes "steps") (key (codes "steps") ∷ begin_array ∷ inside) (begin_array ∷ inside)
-      (end_object ∷ rest) (array ds) (omega arith) refl items_here
-      ∙ members_over (value 126) (put (codes "steps") (array ds) old) (n - 1) (end_object ∷ rest) rest (omega (arith, less)) refl
+  steps_last : (ds : Items) → BeginsItems 125 inside ds (end_object ∷ [])
+      → members_on turns (key (codes "steps") ∷ begin_array ∷ inside) before ≡ Some (put (codes "steps") (array ds) before, [])
+  steps_last ds e = steps_on ds (end_object ∷ []) e
+      ∙ members_over (value 126) (put (codes "steps") (array ds) before) (turns - 1) (end_object ∷ []) []
+      (omega (arith, enough)) refl
 
-  whole_object : (ts : List Token) (ms : Members)
-      → converted (λ ms. of_members ms no_members) (members (value 126) (length ts) ts) ≡ Some (ms, rest)
-      → Begins 127 (begin_object ∷ ts) (object ms) rest
-  whole_object ts ms read = ap (converted of_json) (value-begin_object 127 ts (omega arith))
-      ∙ converted_object (members (value 126) (length ts) ts) ∙ ap (parse_map object) read
+  steps_never : (read : Option (Items × List Token)) → converted of_items (items (value 125) (length inside) inside) ≡ read
+      → IsNoJson read → ended (members_on turns (key (codes "steps") ∷ begin_array ∷ inside) before) ≡ None
+  steps_never None is never = ap ended (member_none (value 126) before turns (codes "steps")
+      (key (codes "steps") ∷ begin_array ∷ inside) (begin_array ∷ inside) refl (array_none 126 inside (omega arith) is))
+  steps_never (Some (ds, rest)) is never = ap ended (steps_on ds rest is)
+      ∙ never (turns - 1) (put (codes "steps") (array ds) before)
 
-  -- two members, and then the steps
-  two_before : (j k : List ℕ) (ts more : List Token) (d c : Data) → Begins 126 ts d (key k ∷ more)
-      → Begins 126 more c (key (codes "steps") ∷ begin_array ∷ inside)
-      → Begins 127 (begin_object ∷ key j ∷ ts) (object (put (codes "steps") (array ds) (put k c (put j d no_members)))) rest
-  two_before j k ts more d c begins next =
-      let all = key j ∷ ts in
-      let less = shorter 126 ts (key k ∷ more) d begins in
-      let lesser = shorter 126 more (key (codes "steps") ∷ begin_array ∷ inside) c next in
-      let first = put j d no_members in
-      let read = member_read (value 126) no_members (length all) j all ts _ d (omega arith) refl begins
-      ∙ member_read (value 126) first (length all - 1) k (key k ∷ more) more _ c (omega (arith, less)) refl next
-      ∙ last_member (put k c first) (length all - 1 - 1) (omega (arith, less, lesser)) in
-      whole_object all _ read
+-- a first member
+first_read : (k : List ℕ) (ts more : List Token) (d : Data) → Begins 126 ts d more
+    → converted of_json (value 127 (begin_object ∷ key k ∷ ts))
+    ≡ parse_map object (members_on (length ts) more (put k d no_members))
+first_read k ts more d begins =
+    let all = key k ∷ ts in
+    let turns : length all - 1 ≡ length ts = omega arith in
+    let read = member_read (value 126) no_members (length all) k all ts more d (omega arith) refl begins in
+    ap (converted of_json) (value-begin_object 127 all (omega arith)) ∙ converted_object (members (value 126) (length all) all)
+    ∙ ap (parse_map object) (read ∙ ap (λ n. members_on n more (put k d no_members)) turns)
+
+-- and a second one
+second_read : (j k : List ℕ) (ts more rest : List Token) (d c : Data) → Begins 126 ts d (key k ∷ more) → Begins 126 more c rest
+    → converted of_json (value 127 (begin_object ∷ key j ∷ ts))
+    ≡ parse_map object (members_on (length ts - 1) rest (put k c (put j d no_members)))
+second_read j k ts more rest d c begins next =
+    let less = shorter 126 ts (key k ∷ more) d begins in
+    let first = put j d no_members in
+    first_read j ts (key k ∷ more) d begins ∙ ap (parse_map object)
+    (member_read (value 126) first (length ts) k (key k ∷ more) more rest c (omega (arith, less)) refl next)
 
 pub without_ceiling : (ts inside : List Token) (cpus : ℕ) (d : Data)
     → Begins 126 ts d (key (codes "steps") ∷ begin_array ∷ inside) → number_between 1 most_cpus d ≡ Some cpus
     → Heads (begin_object ∷ key (codes "cpus") ∷ ts) inside cpus 4294967295
 unfolding has_keys is_key cpus_of ceiling_of values_of
-without_ceiling ts inside cpus d begins between = λ ds rest e.
-    let all = key (codes "cpus") ∷ ts in
+without_ceiling ts inside cpus d begins between =
     let less = shorter 126 ts (key (codes "steps") ∷ begin_array ∷ inside) d begins in
-    let first = put (codes "cpus") d no_members in
-    let read = member_read (value 126) no_members (length all) (codes "cpus") all ts _ d (omega arith) refl begins
-    ∙ last_member inside ds rest e first (length all - 1) (omega (arith, less)) in
-    (object (put (codes "steps") (array ds) first), whole_object inside ds rest e all _ read, refl, between, refl, refl)
+    (_, _, omega (arith, less), first_read (codes "cpus") ts _ d begins, λ ds. (refl, between, refl, refl))
 
 pub with_ceiling : (ts more inside : List Token) (cpus ceiling : ℕ) (d c : Data)
     → Begins 126 ts d (key (codes "ceiling") ∷ more) → number_between 1 most_cpus d ≡ Some cpus
     → Begins 126 more c (key (codes "steps") ∷ begin_array ∷ inside) → number_between 1 4294967295 c ≡ Some ceiling
     → Heads (begin_object ∷ key (codes "cpus") ∷ ts) inside cpus ceiling
 unfolding has_keys is_key cpus_of ceiling_of values_of
-with_ceiling ts more inside cpus ceiling d c begins between next calls = λ ds rest e.
-    (_, two_before inside ds rest e (codes "cpus") (codes "ceiling") ts more d c begins next, refl, between, calls, refl)
+with_ceiling ts more inside cpus ceiling d c begins between next calls =
+    let less = shorter 126 ts (key (codes "ceiling") ∷ more) d begins in
+    let lesser = shorter 126 more (key (codes "steps") ∷ begin_array ∷ inside) c next in
+    let read = second_read (codes "cpus") (codes "ceiling") ts more _ d c begins next in
+    (_, _, omega (arith, less, lesser), read, λ ds. (refl, between, calls, refl))
 
 pub ceiling_first : (ts more inside : List Token) (cpus ceiling : ℕ) (d c : Data)
     → Begins 126 ts c (key (codes "cpus") ∷ more) → number_between 1 4294967295 c ≡ Some ceiling
     → Begins 126 more d (key (codes "steps") ∷ begin_array ∷ inside) → number_between 1 most_cpus d ≡ Some cpus
     → Heads (begin_object ∷ key (codes "ceiling") ∷ ts) inside cpus ceiling
 unfolding has_keys is_key cpus_of ceiling_of values_of
-ceiling_first ts more inside cpus ceiling d c begins calls next between = λ ds rest e.
-    (_, two_before inside ds rest e (codes "ceiling") (codes "cpus") ts more c d begins next, refl, between, calls, refl)
+ceiling_first ts more inside cpus ceiling d c begins calls next between =
+    let less = shorter 126 ts (key (codes "cpus") ∷ more) c begins in
+    let lesser = shorter 126 more (key (codes "steps") ∷ begin_array ∷ inside) d next in
+    let read = second_read (codes "ceiling") (codes "cpus") ts more _ c d begins next in
+    (_, _, omega (arith, less, lesser), read, λ ds. (refl, between, calls, refl))
 
 -- ---- the script
 
@@ -104,24 +112,47 @@ abbrev made : ℕ → ℕ → Result (List Step × List (List ℕ)) Refusal → 
 made cpus ceiling (Ok read) = Ok (record { cpus = cpus; ceiling = ceiling; names = read.1; steps = read.0 })
 made cpus ceiling (Err refusal) = Err refusal
 
-content_made : (d : Data) (cpus ceiling : ℕ) (values : List Data) (read : Result (List Step × List (List ℕ)) Refusal)
-    → has_keys d ≡ true → cpus_of d ≡ Some cpus → ceiling_of d ≡ Some ceiling → values_of d ≡ within_limit values
-    → length values ≤ most_steps → steps_of [] first_context values ≡ read → content_of d ≡ made cpus ceiling read
-unfolding content_of
-content_made d cpus ceiling values (Ok read) keys c g v few e =
-    let fits : nat_le (length values) most_steps ≡ true = grind (arith, nat_tests) in
-    rw (keys, c, g, v, fits, e) refl
-content_made d cpus ceiling values (Err refusal) keys c g v few e =
-    let fits : nat_le (length values) most_steps ≡ true = grind (arith, nat_tests) in
-    rw (keys, c, g, v, fits, e) refl
+module _ (d : Data) (cpus ceiling : ℕ) (keys : has_keys d ≡ true) (c : cpus_of d ≡ Some cpus)
+    (g : ceiling_of d ≡ Some ceiling) where
+  content_read : (values : List Data) (read : Result (List Step × List (List ℕ)) Refusal) → values_of d ≡ Some values
+      → steps_of [] first_context values ≡ read → content_of d ≡ made cpus ceiling read
+  unfolding content_of
+  content_read values (Ok read) v e = rw (keys, c, g, v, e) refl
+  content_read values (Err refusal) v e = rw (keys, c, g, v, e) refl
+
+  content_made : (limited : Option (List Data)) → values_of d ≡ limited
+      → content_of d ≡ made cpus ceiling (formed limited >>= steps_of [] first_context)
+  unfolding content_of
+  content_made None v = rw (keys, c, g, v) refl
+  content_made (Some values) v = content_read values (steps_of [] first_context values) v refl
+
+values_are : (limited : Option (List Data)) (read : List Step × List (List ℕ))
+    → formed limited >>= steps_of [] first_context ≡ Ok read → (values : List Data) × (steps_of [] first_context values ≡ Ok read)
+values_are None read e = absurd (cc)
+values_are (Some values) read e = (values, e)
+
+-- steps that were read are those of some values
+pub steps_read : (tokens : List Token) (read : List Step × List (List ℕ)) → HasSteps tokens (Ok read)
+    → (values : List Data) × (steps_of [] first_context values ≡ Ok read)
+steps_read tokens read (inl has) = values_are (within_limit (list_of has.0)) read has.2
+steps_read tokens read (inr none) = let never = none.1 in absurd (cc)
 
 module _ (tokens inside : List Token) (cpus ceiling : ℕ) (heads : Heads tokens inside cpus ceiling) where
   -- the head and the steps make the script
   pub has_content : (read : Result (List Step × List (List ℕ)) Refusal) → HasSteps inside read
       → HasContent tokens (made cpus ceiling read)
-  has_content read has =
-      let head = heads has.0 [] has.1 in
-      (head.0, head.1, content_made head.0 cpus ceiling (list_of has.0) read head.2 head.3 head.4 head.5 has.2 has.3)
+  has_content read (inl has) =
+      let ds = has.0 in
+      let head = heads.4 ds in
+      let last = steps_last inside heads.0 heads.1 heads.2 ds has.1 in
+      let is : data_in tokens ≡ Some (script_data heads.0 ds) = ap ended (heads.3 ∙ ap (parse_map object) last) in
+      ap (λ d. content_in (parsed d)) is
+      ∙ content_made (script_data heads.0 ds) cpus ceiling head.0 head.1 head.2 (within_limit (list_of ds)) head.3
+      ∙ ap (made cpus ceiling) has.2
+  has_content read (inr none) =
+      let never = steps_never inside heads.0 heads.1 heads.2 _ refl none.0 in
+      let is : data_in tokens ≡ None = ap ended heads.3 ∙ ended_map object _ never in
+      ap (λ d. content_in (parsed d)) is ∙ ap (made cpus ceiling) (sym none.1)
 
   -- what refuses the steps refuses the script
   pub refused : (unread : Unread) → Refuses (HasSteps inside) unread → Refuses (HasContent tokens) unread

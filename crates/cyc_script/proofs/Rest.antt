@@ -1,9 +1,13 @@
 -- The steps that are left, counted whatever they say.
-use Rattle.std.proofs.Common.{◌≡◌, ℕ, ◌+◌, List, [], ◌∷◌, length, Option, Some, None, refl, ap, arith}
-use Rattle.std.specs.Prelude.{option_map}
+use Rattle.std.proofs.Common.{◌≡◌, ℕ, zero, suc, ◌+◌, ◌-◌, ◌<◌, ◌≤◌, List, [], ◌∷◌, length, Option, Some, None, true, false}
+use Rattle.std.proofs.Common.{refl, ap, sym, subst, arith}
+use Rattle.std.specs.Prelude.{Bool, ◌&&◌, nat_lt, option_map}
+use Rattle.std.specs.Bool.{MatchBool}
+use Rattle.std.proofs.lemmas.Bool.Decides.{nat_tests}
 use Rattle.json.specs.Token.{Token}
 use Rattle.json.specs.Json.{parse_map}
 use Rattle.serde_json.specs.Data.{Data, Items, no_items, item}
+use Rattle.cyc_script.specs.Tokens.{IsNoJson, NeverEnds}
 use Rattle.cyc_script.specs.Words.{list_of}
 
 -- how many steps there are, where so many were counted and the items are left
@@ -34,3 +38,26 @@ pub all_counted : (count : ℕ) (read : Option (Items × List Token)) (k : ℕ) 
     → counted count read ≡ Some (k, r) → (ds : Items) × (read ≡ Some (ds, r)) × (count + length (list_of ds) ≡ k)
 all_counted count None k r e = absurd (cc)
 all_counted count (Some p) k r e = (p.0, ap (λ rest. Some (p.0, rest)) (ap left_over e), ap count_of e)
+
+-- whether those counted are at most so many, of which so many are left
+abbrev pub Counts : ℕ → Bool → ℕ → ℕ → Type 0
+Counts most few left count = MatchBool few (count + left ≡ most) (most < count)
+
+pub one_counts : (most left next count : ℕ) (few : Bool) → Counts most few left count → next ≡ left - 1
+    → Counts most (few && nat_lt 0 left) next (count + 1)
+one_counts most zero next count true counts is = omega (arith, counts)
+one_counts most (suc left) next count true counts is =
+    let some : nat_lt 0 (suc left) ≡ true = grind (arith, nat_tests) in
+    rw some (omega (arith, counts, is))
+one_counts most left next count false counts is = omega (arith, counts)
+
+pub all_counts : (most left count length : ℕ) (few : Bool) → Counts most few left count → 0 + length ≡ count
+    → MatchBool few (length ≤ most) (most < length)
+all_counts most left count length true counts is = omega (arith, counts, is)
+all_counts most left count length false counts is = omega (arith, counts, is)
+
+pub counted_no_json : (before count : ℕ) (read left : Option (Items × List Token)) → counted before read ≡ counted count left
+    → IsNoJson left → IsNoJson read
+counted_no_json before count None left same never = tt
+counted_no_json before count (Some p) None same never = absurd (cc)
+counted_no_json before count (Some p) (Some q) same never = subst NeverEnds (sym (ap left_over same)) never

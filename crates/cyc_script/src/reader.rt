@@ -3,7 +3,6 @@
 ghost use Rattle.std.specs.Prelude.{◌≡◌, ◌≤◌, ◌<◌, ◌^◌, [], length, map, option_map, string_bytes, Ok, IfOk, IfSome, true};
 ghost use Rattle.std.specs.List.{list_all};
 ghost use Rattle.std.specs.BTreeMap.{keys};
-ghost use Rattle.serde_json.specs.Data.{Data};
 ghost use Rattle.serde_json.specs.View.{view};
 ghost use Rattle.cyc_script.specs.Answers.{Answers};
 ghost use Rattle.cyc_script.specs.WellFormed.{IsWellFormed};
@@ -12,7 +11,7 @@ ghost use Rattle.cyc_script.specs.Parts.{data_of};
 ghost use Rattle.cyc_script.specs.Script.{content, number_between, cpus_in, cpus_of, ceiling_of, within_limit, values_of, is_key};
 ghost use Rattle.cyc_script.specs.Script.{has_keys, content_of, json_of, script_of};
 ghost use Rattle.cyc_script.specs.Steps.{first_context, steps_of};
-ghost use Rattle.cyc_script.specs.Tokens.{Tells};
+ghost use Rattle.cyc_script.specs.Tokens.{Tells, content_in};
 
 use crate::context::Context;
 use crate::names::Names;
@@ -173,11 +172,11 @@ fn json(alloc: Global, bytes: &[u8]) -> Result<Value, Refusal>
 /// The script of bytes whose tokens are read straight.
 #[tactic(auto, using(crate::proofs::Lists::is_utf8_text), unfolding(crate::specs::Script::json_of))]
 fn script_of_tokens(alloc: Global, bytes: &[u8]) -> Result<Script, Unread>
-    ensures { Tells (λ wanted. (d : Data) × (json_of bytes.now ≡ Ok d) × (content_of d ≡ wanted)) content result }
+    ensures { Tells (λ wanted. content_in (json_of bytes.now) ≡ wanted) content result }
 {
     match str::from_utf8(bytes) {
         Ok(text) => tokens::script(alloc, text),
-        Err(_) => Err(Unread::Unusual),
+        Err(_) => Err(Unread::Refused(Refusal::ScriptSyntax)),
     }
 }
 

@@ -1,15 +1,16 @@
 //! A script, read straight from the tokens of its text.
 
 ghost use Rattle.std.specs.Prelude.{◌≡◌, ℕ, ◌<◌, ◌≤◌, ◌^◌, List, ◌∷◌, [], length, map, string_bytes};
-ghost use Rattle.std.specs.Prelude.{Some, Ok, IfOk, IfSome, OnSome, IsTrue, codes};
+ghost use Rattle.std.specs.Prelude.{Some, None, IfOk, IfErr, OnOk, IfSome, IsTrue, true, codes};
 ghost use Rattle.json.specs.Token as token;
+ghost use Rattle.json.specs.Json.{items, value};
 ghost use Rattle.serde_json.specs.Data.{Data};
-ghost use Rattle.serde_json.specs.Read.{read};
+ghost use Rattle.serde_json.specs.Read.{converted, of_items, of_json, read};
 ghost use Rattle.cyc_script.specs.Limits.{most_steps, most_cpus};
 ghost use Rattle.cyc_script.specs.Parts.{data_of};
-ghost use Rattle.cyc_script.specs.Script.{content, content_of, number_between};
-ghost use Rattle.cyc_script.specs.Tokens.{Begins, BeginsItems, HasContent, HasMoreSteps, HasSteps, Heads, Tells};
-ghost use Rattle.cyc_script.specs.Tokens.{items_of_parts, step_data};
+ghost use Rattle.cyc_script.specs.Script.{content, number_between, parsed};
+ghost use Rattle.cyc_script.specs.Tokens.{Begins, BeginsItems, Denies, HasContent, HasNoRest, HasRest, HasSteps, Heads};
+ghost use Rattle.cyc_script.specs.Tokens.{NeverEnds, Tells, begins_none, content_in, items_of_parts, step_data};
 ghost use Rattle.cyc_script.specs.WellFormed.{IsWellFormed};
 
 use crate::cause::Cause;
@@ -24,81 +25,119 @@ use crate::whole::whole;
 use crate::words;
 use cyc_types::{Ceiling, Refusal};
 use json::{Reader, Scratch, Token};
-use std::alloc::{AllocError, Global};
+use std::alloc::Global;
 
-/// The next part of a step, where it is a text or a whole number.
+/// Why a step is not read on with this token, or with the end of the tokens: where no value begins so, the text is no JSON.
+fn stops_at(next: Option<Token<'_>>) -> Unread
+    ensures { Denies (begins_none next.entry ≡ true) result }
+{
+    const NO_JSON: Unread = Unread::Refused(Refusal::ScriptSyntax);
+    match next {
+        None => NO_JSON,
+        Some(Token::EndObject) => NO_JSON,
+        Some(Token::EndArray) => NO_JSON,
+        Some(Token::Key(_)) => NO_JSON,
+        Some(Token::Bad) => NO_JSON,
+        _ => Unread::Unusual,
+    }
+}
+
+/// The next part of a step, which is a text or a whole number.
+fn step_part<'a>(reader: &mut Reader<'a>) -> Result<Part<'a>, Unread>
+    ensures value { IfOk result
+        (λ part. (depth : ℕ) → Begins depth reader.old (data_of part) reader.new) }
+    ensures shorter { OnOk result (length reader.new < length reader.old) }
+    ensures denied { IfErr result
+        (Denies ((depth : ℕ) → converted of_json (value depth reader.old) ≡ None)) }
+{
+    let next = reader.next();
+    match next {
+        Some(Token::String(text)) => Ok(Part::Text(text)),
+        Some(Token::Number(text)) => match whole(text) {
+            Some(number) => Ok(Part::Whole(number)),
+            None => Err(Unread::Unusual),
+        },
+        _ => Err(stops_at(next)),
+    }
+}
+
+/// The next value, where it is a text or a whole number.
 fn next_part<'a>(reader: &mut Reader<'a>) -> Option<Part<'a>>
     ensures value { IfSome result
         (λ part. (depth : ℕ) → Begins depth reader.old (data_of part) reader.new) }
-    ensures shorter { OnSome result (length reader.new < length reader.old) }
 {
-    match reader.next()? {
-        Token::String(text) => Some(Part::Text(text)),
-        Token::Number(text) => Some(Part::Whole(whole(text)?)),
-        _ => None,
+    match step_part(reader) {
+        Ok(part) => Some(part),
+        Err(_) => None,
     }
 }
 
-/// Reads the parts of a step up to the bracket that closes it, where all are texts and whole numbers; else `false`.
-fn read_parts<'a>(reader: &mut Reader<'a>, parts: &mut Vec<Part<'a>>) -> Result<bool, AllocError>
-    ensures value { IfOk result (λ all. IsTrue all
-        → BeginsItems 124 reader.old (items_of_parts parts.new.items) reader.new) }
-    ensures shorter { IfOk result (λ all. IsTrue all → length reader.new < length reader.old) }
+/// Reads the parts of a step up to the bracket that closes it, all of which are texts and whole numbers.
+fn read_parts<'a>(reader: &mut Reader<'a>, parts: &mut Vec<Part<'a>>) -> Result<(), Unread>
+    ensures value { OnOk result (BeginsItems 124 reader.old (items_of_parts parts.new.items) reader.new) }
+    ensures shorter { OnOk result (length reader.new < length reader.old) }
+    ensures denied { IfErr result
+        (Denies (converted of_items (items (value 124) (length reader.old) reader.old) ≡ None)) }
 {
     parts.clear();
     while !reader.take_end_array() {
-        let Some(part) = next_part(reader) else {
-            return Ok(false);
-        };
+        let part = step_part(reader)?;
         parts.push(part)?;
     }
-    Ok(true)
+    Ok(())
 }
 
-/// Reads the parts of the next step, where all are texts and whole numbers; else `false`.
-fn step_parts<'a>(reader: &mut Reader<'a>, parts: &mut Vec<Part<'a>>) -> Result<bool, AllocError>
-    ensures value { IfOk result (λ all. IsTrue all
-        → Begins 125 reader.old (step_data parts.new.items) reader.new) }
-    ensures shorter { IfOk result (λ all. IsTrue all → length reader.new < length reader.old) }
+/// Reads the parts of the next step, all of which are texts and whole numbers.
+fn step_parts<'a>(reader: &mut Reader<'a>, parts: &mut Vec<Part<'a>>) -> Result<(), Unread>
+    ensures value { OnOk result (Begins 125 reader.old (step_data parts.new.items) reader.new) }
+    ensures shorter { OnOk result (length reader.new < length reader.old) }
+    ensures denied { IfErr result (Denies (converted of_json (value 125 reader.old) ≡ None)) }
 {
-    let Some(Token::BeginArray) = reader.next() else {
-        return Ok(false);
-    };
-    read_parts(reader, parts)
-}
-
-/// Whether the brace that closes the script is all that is left.
-fn is_over(reader: &mut Reader<'_>) -> bool
-    ensures { IsTrue result → reader.old ≡ token.end_object ∷ [] }
-{
-    matches!(reader.next(), Some(Token::EndObject)) && reader.next().is_none()
-}
-
-/// Whether steps of texts and whole numbers alone, whatever they say, are all that is left of a script behind so many steps.
-/// `parts` is room for the parts of each.
-fn ends_behind<'a>(
-    reader: &mut Reader<'a>,
-    parts: &mut Vec<Part<'a>>,
-    before: usize,
-) -> Result<bool, AllocError>
-    requires { before ≤ most_steps }
-    ensures { IfOk result (λ ends. IsTrue ends → HasMoreSteps before reader.old) }
-{
-    let mut count = before;
-    while !reader.take_end_array() {
-        if count == MOST_STEPS {
-            return Ok(false);
-        }
-        if !step_parts(reader, parts)? {
-            return Ok(false);
-        }
-        count += 1;
+    let next = reader.next();
+    match next {
+        Some(Token::BeginArray) => read_parts(reader, parts),
+        _ => Err(stops_at(next)),
     }
-    Ok(is_over(reader))
 }
 
-/// The steps up to the end of the script, with the names that they introduce. A faulty step is refused only where all behind it
-/// is of the usual form as well.
+/// The brace that closes the script is all that is left.
+fn end(reader: &mut Reader<'_>) -> Result<(), Unread>
+    ensures over { OnOk result (reader.old ≡ token.end_object ∷ []) }
+    ensures denied { IfErr result (Denies (NeverEnds reader.old)) }
+{
+    match reader.next_key() {
+        Ok(None) => match reader.next() {
+            None => Ok(()),
+            Some(_) => Err(Unread::Refused(Refusal::ScriptSyntax)),
+        },
+        Ok(Some(_)) => Err(Unread::Unusual),
+        Err(_) => Err(Unread::Refused(Refusal::ScriptSyntax)),
+    }
+}
+
+/// Whether the steps that are left up to the end of the script are at most so many. They are of texts and whole numbers alone,
+/// whatever they say. `parts` is room for the parts of each.
+fn rest<'a>(reader: &mut Reader<'a>, parts: &mut Vec<Part<'a>>, most: usize) -> Result<bool, Unread>
+    ensures rest { IfOk result (λ few. HasRest most reader.old few) }
+    ensures denied { IfErr result (Denies (HasNoRest reader.old)) }
+{
+    let mut left = most;
+    let mut few = true;
+    while !reader.take_end_array() {
+        if let Err(unread) = step_parts(reader, parts) {
+            return Err(unread);
+        }
+        few &= left > 0;
+        left = left.saturating_sub(1);
+    }
+    match end(reader) {
+        Ok(()) => Ok(few),
+        Err(unread) => Err(unread),
+    }
+}
+
+/// The steps up to the end of the script, with the names that they introduce. A faulty step, and one too many, is refused only
+/// where all behind it is of the usual form as well.
 fn steps(alloc: Global, reader: &mut Reader<'_>) -> Result<(Vec<Step>, Vec<String>), Unread>
     ensures value { Tells (HasSteps reader.old) (λ read. (read.0.items, map string_bytes read.1.items)) result }
     ensures well_formed { IfOk result (λ read. IsWellFormed read.0.items (length read.1.items)) }
@@ -110,27 +149,24 @@ fn steps(alloc: Global, reader: &mut Reader<'_>) -> Result<(Vec<Step>, Vec<Strin
         moment: 0,
     };
     while !reader.take_end_array() {
+        step_parts(reader, &mut parts)?;
         if steps.len() == MOST_STEPS {
-            return Err(Unread::Unusual);
-        }
-        if !step_parts(reader, &mut parts)? {
-            return Err(Unread::Unusual);
+            rest(reader, &mut parts, 0)?;
+            return Err(Unread::Refused(Refusal::ScriptShape(0)));
         }
         match words::read_step(alloc, &mut context, parts.as_slice()) {
             Ok(step) => steps.push(step)?,
             Err(Cause::Memory) => return Err(Unread::Refused(Refusal::Memory)),
             Err(cause) => {
                 let number = steps.len() + 1;
-                if !ends_behind(reader, &mut parts, number)? {
-                    return Err(Unread::Unusual);
+                if !rest(reader, &mut parts, MOST_STEPS - number)? {
+                    return Err(Unread::Refused(Refusal::ScriptShape(0)));
                 }
                 return Err(Unread::Refused(cause.at(number as u32)));
             }
         }
     }
-    if !is_over(reader) {
-        return Err(Unread::Unusual);
-    }
+    end(reader)?;
     Ok((steps, context.names.into_texts()))
 }
 
@@ -244,9 +280,10 @@ fn script_in(alloc: Global, reader: &mut Reader<'_>) -> Result<Script, Unread>
 }
 
 /// The script of a text that is written as most are: the CPUs, the ceiling before or after them if it has one, and the steps,
-/// with no other value than the texts and whole numbers of steps. Where one of its steps is faulty, the refusal of the first.
+/// with no other value than the texts and whole numbers of steps. Where one of its steps is faulty, the refusal of the first;
+/// where the steps are too many, or it ends as no JSON does, the refusal of that.
 pub(crate) fn script(alloc: Global, text: &str) -> Result<Script, Unread>
-    ensures { Tells (λ wanted. (d : Data) × (read text.now ≡ Some d) × (content_of d ≡ wanted)) content result }
+    ensures { Tells (λ wanted. content_in (parsed (read text.now)) ≡ wanted) content result }
 {
     let mut scratch = Scratch::new(alloc);
     let mut reader = Reader::new(text, &mut scratch)?;
