@@ -13,8 +13,13 @@ fn read(alloc: Global, bytes: &[u8]) -> Result<usize, Refusal> {
     }
 }
 
-// The text of a script of a first step and so many equal ones in all.
-fn text_of_steps(alloc: Global, first: &str, count: u32, step: &str) -> Result<String, AllocError> {
+// The text of a script of a first step and so many equal ones in all, up to the bracket that closes them.
+fn begun_with_steps(
+    alloc: Global,
+    first: &str,
+    count: u32,
+    step: &str,
+) -> Result<String, AllocError> {
     let mut text = String::from_str(alloc, "{\"cpus\":1,\"steps\":[")?;
     for n in 0..count {
         if n > 0 {
@@ -22,6 +27,12 @@ fn text_of_steps(alloc: Global, first: &str, count: u32, step: &str) -> Result<S
         }
         text.push_str(if n == 0 { first } else { step })?;
     }
+    Ok(text)
+}
+
+// The text of a script of a first step and so many equal ones in all.
+fn text_of_steps(alloc: Global, first: &str, count: u32, step: &str) -> Result<String, AllocError> {
+    let mut text = begun_with_steps(alloc, first, count, step)?;
     text.push_str("]}")?;
     Ok(text)
 }
@@ -50,6 +61,46 @@ fn too_many_steps_decide_before_a_faulty_one(rt: HostRuntime) {
         read_steps(&rt, FAULTY, 65_537),
         Err(Refusal::ScriptShape(0))
     );
+}
+
+// Reads 65,536 steps, and then these and this end.
+fn read_too_many<R: AllocGlobal + Abort>(rt: &R, last: &str, end: &str) -> Result<usize, Refusal> {
+    const ADVANCE: &str = "[\"advance\",0]";
+    let steps = begun_with_steps(rt.alloc(), ADVANCE, 65_536, ADVANCE).expect(rt, "a text");
+    let text = format!(in rt.alloc(); "{steps},{last}{end}").expect(rt, "a text");
+    read(rt.alloc(), text.as_bytes())
+}
+
+/// The last of too many steps and the end of the text, each with what reading them gives.
+const TOO_MANY: [(&str, &str, Result<usize, Refusal>); 9] = [
+    ("[\"advance\",0]", "]}", Err(Refusal::ScriptShape(0))),
+    ("[\"remove\",\"a\"]", "]}", Err(Refusal::ScriptShape(0))),
+    ("[\"advance\",null]", "]}", Err(Refusal::ScriptShape(0))),
+    (
+        "[\"advance\",0],[\"advance\",0]",
+        "]}",
+        Err(Refusal::ScriptShape(0)),
+    ),
+    (
+        "[\"advance\",0]",
+        "],\"more\":1}",
+        Err(Refusal::ScriptShape(0)),
+    ),
+    ("[\"advance\",0]", "],\"steps\":[]}", Ok(0)),
+    ("[\"advance\",0]", "]", Err(Refusal::ScriptSyntax)),
+    ("[\"advance\",0", "", Err(Refusal::ScriptSyntax)),
+    (
+        "[\"advance\",0],[\"advance\" 0]",
+        "]}",
+        Err(Refusal::ScriptSyntax),
+    ),
+];
+
+#[test]
+fn the_end_of_the_text_decides_before_too_many_steps(rt: HostRuntime) {
+    for (last, end, given) in &TOO_MANY {
+        assert_eq!(rt; read_too_many(&rt, last, end), *given, "at {last}{end}");
+    }
 }
 
 // Reads so many spaces.

@@ -337,3 +337,108 @@ fn the_end_of_the_text_decides_before_a_faulty_step(rt: HostRuntime) {
         assert_eq!(rt; refused, Some(*refusal), "at {text}");
     }
 }
+
+/// Texts with no faulty step, each with its refusal if it is no script: what stands behind the steps decides.
+const ENDS: [(&str, Option<Refusal>); 24] = [
+    (
+        "{\"cpus\":1,\"steps\":[[\"advance\",5],[\"advance\",6}]}",
+        Some(ScriptSyntax),
+    ),
+    (
+        "{\"cpus\":1,\"steps\":[[\"advance\",5],[\"advance\":6]]}",
+        Some(ScriptSyntax),
+    ),
+    (
+        "{\"cpus\":1,\"steps\":[[\"advance\",5],[\"advance\",]]}",
+        Some(ScriptSyntax),
+    ),
+    (
+        "{\"cpus\":1,\"steps\":[[\"advance\",5],[\"advance\",6.]]}",
+        Some(ScriptSyntax),
+    ),
+    (
+        "{\"cpus\":1,\"steps\":[[\"advance\",5],[\"advance\",1e999]]}",
+        Some(ScriptSyntax),
+    ),
+    (
+        "{\"cpus\":1,\"steps\":[[\"advance\",5],[\"advance\",\"\\x\"]]}",
+        Some(ScriptSyntax),
+    ),
+    (
+        "{\"cpus\":1,\"steps\":[[\"advance\",5],\"advance\":6]}",
+        Some(ScriptSyntax),
+    ),
+    (
+        "{\"cpus\":1,\"steps\":[[\"advance\",5]},[\"advance\",6]]}",
+        Some(ScriptSyntax),
+    ),
+    (
+        "{\"cpus\":1,\"steps\":[[\"advance\",5],[\"advance\",6]]]}",
+        Some(ScriptSyntax),
+    ),
+    (
+        "{\"cpus\":1,\"steps\":[[\"advance\",5]],}",
+        Some(ScriptSyntax),
+    ),
+    (
+        "{\"cpus\":1,\"steps\":[[\"advance\",5]],[\"advance\",6]}",
+        Some(ScriptSyntax),
+    ),
+    (
+        "{\"cpus\":1,\"steps\":[[\"advance\",5]],\"more\":}",
+        Some(ScriptSyntax),
+    ),
+    (
+        "{\"cpus\":1,\"steps\":[[\"advance\",5]],\"more\":1",
+        Some(ScriptSyntax),
+    ),
+    (
+        "{\"cpus\":1,\"steps\":[[\"advance\",5]],\"more\":1e999}",
+        Some(ScriptSyntax),
+    ),
+    (
+        "{\"cpus\":1,\"steps\":[[\"advance\",5]]}}",
+        Some(ScriptSyntax),
+    ),
+    (
+        "{\"cpus\":1,\"steps\":[[\"advance\",5]]},",
+        Some(ScriptSyntax),
+    ),
+    (
+        "{\"cpus\":1,\"steps\":[[\"advance\",5]]}\u{0}",
+        Some(ScriptSyntax),
+    ),
+    (
+        "{\"cpus\":1,\"steps\":[[\"advance\",5]],\"more\":\"1\"}",
+        Some(ScriptShape(0)),
+    ),
+    (
+        "{\"cpus\":1,\"steps\":[[\"advance\",5]],\"more\":[{}],\"cpus\":2}",
+        Some(ScriptShape(0)),
+    ),
+    (
+        "{\"cpus\":1,\"steps\":[[\"advance\",5]],\"more\":1,\"more\":null}",
+        Some(ScriptShape(0)),
+    ),
+    (
+        "{\"cpus\":1,\"steps\":[[\"advance\",5]],\"cpus\":\"2\"}",
+        Some(ScriptShape(0)),
+    ),
+    (
+        "{\"cpus\":1,\"steps\":[[\"advance\",5]],\"cpus\":2,\"ceiling\":3}",
+        None,
+    ),
+    (
+        "{\"cpus\":1,\"steps\":[[\"advance\",5]],\"steps\":[]}",
+        None,
+    ),
+    ("{\"cpus\":1,\"steps\":[[\"advance\",5]] \n}\t\r\n ", None),
+];
+
+#[test]
+fn the_end_of_the_text_decides(rt: HostRuntime) {
+    for (text, refusal) in &ENDS {
+        let refused = refusal_of(rt.alloc(), text.as_bytes());
+        assert_eq!(rt; refused, *refusal, "at {text}");
+    }
+}
