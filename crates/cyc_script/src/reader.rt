@@ -169,13 +169,23 @@ fn json(alloc: Global, bytes: &[u8]) -> Result<Value, Refusal>
     })
 }
 
+/// Whether the end of the bytes is like that of a script whose steps come last. One with another value behind them is told by it
+/// before its steps are read in vain: which way a script is read shows in the time alone.
+fn ends_like_steps(bytes: &[u8]) -> bool {
+    match bytes.trim_ascii_end().strip_suffix(b"}") {
+        Some(inside) => inside.trim_ascii_end().ends_with(b"]"),
+        None => true,
+    }
+}
+
 /// The script of bytes whose tokens are read straight.
 #[tactic(auto, using(crate::proofs::Lists::is_utf8_text), unfolding(crate::specs::Script::json_of))]
 fn script_of_tokens(alloc: Global, bytes: &[u8]) -> Result<Script, Unread>
     ensures { Tells (λ wanted. content_in (json_of bytes.now) ≡ wanted) content result }
 {
     match str::from_utf8(bytes) {
-        Ok(text) => tokens::script(alloc, text),
+        Ok(text) if ends_like_steps(bytes) => tokens::script(alloc, text),
+        Ok(_) => Err(Unread::Unusual),
         Err(_) => Err(Unread::Refused(Refusal::ScriptSyntax)),
     }
 }
