@@ -6,7 +6,7 @@ use Rattle.std.proofs.Math.ListN.{set}
 use Rattle.cyc_types.specs.Series.{never}
 use Rattle.cyc_heap.specs.declared.entry.Entry.{Entry}
 use Rattle.cyc_heap.specs.Tournament.{key, entry_at, index_of, slots, last_position, IsPlayed}
-use Rattle.cyc_heap.specs.Order.{IsOrder, IsTournament, first_of}
+use Rattle.cyc_heap.specs.Few.{IsFew, IsTournament, first_of}
 use Rattle.cyc_heap.specs.Heap.{HeapView, expiration_at, with_moment}
 use Rattle.cyc_heap.proofs.Slots.{slot_used}
 use Rattle.cyc_heap.proofs.Views.{IsTop, view_of, within, held, leaf_given, moment_slots, top_used, winner_top, first_top}
@@ -31,10 +31,10 @@ module _ (is_few : Bool) (few : List Entry) (leaves size given : ℕ) (xs : List
   first_held small here =
       let root = root_few is_few few leaves size given xs free room v h is small in
       let filled = some_first few (subst IsSome root some) in
-      let order = h.ordered small in
-      let used = subst (λ (e : Entry). e.moment ≤ never) (here filled) (order.used 0 filled) in (
+      let heap = h.heap small in
+      let used = subst (λ (e : Entry). e.moment ≤ never) (here filled) (heap.used 0 filled) in (
         top_used is_few few leaves size given xs free room v h is x
-            (subst (IsTop leaves xs) (here filled) (first_top few leaves xs order filled)) used,
+            (subst (IsTop leaves xs) (here filled) (first_top few leaves xs heap filled)) used,
         root ∙ first_is few filled ∙ ap (λ (e : Entry). Some (index_of e)) (here filled),
       )
 
@@ -65,16 +65,16 @@ module _ (is_few : Bool) (few : List Entry) (leaves size given : ℕ) (xs : List
 
   pub changed : length ys ≡ length xs → entry_at ys (index_of x) ≡ entry
       → ((i : ℕ) → i < leaves → i ≢ index_of x → entry_at ys i ≡ entry_at xs i)
-      → (is_few ≡ true → IsOrder new leaves ys) → (is_few ≡ false → IsPlayed leaves ys)
+      → (is_few ≡ true → IsFew new leaves ys) → (is_few ≡ false → IsPlayed leaves ys)
       → IsTournament is_few new leaves size given ys free
-  changed long here others ordered played = (let (low, used, _) = held is_few few leaves size given xs free room v h is
+  changed long here others heap played = (let (low, used, _) = held is_few few leaves size given xs free room v h is
       (index_of x)
       (key x) has in
       let inside = within is_few few leaves size given xs free room v h is in
       let known = h.known in
       let wide = h.wide in
       let mine = leaf_given is_few few leaves size given xs free room v h is (index_of x) leaf_low used in
-      after is_few is_few few new leaves size given given xs ys free free (index_of x) entry h long ordered played here
+      after is_few is_few few new leaves size given given xs ys free free (index_of x) entry h long heap played here
       (λ unused. absurd (omega (arith, unused, valid))) others mine
       (omega arith) known
       (moved given xs ys (index_of x) entry (omega (arith, inside, known)) (omega (arith, long, inside, known)) mine here

@@ -1,4 +1,4 @@
--- From few in order to many that play, and back.
+-- From few in a heap to many that play, and back.
 use Rattle.std.proofs.Common.{◌≡◌, ◌≢◌, ℕ, zero, suc, ◌+◌, ◌*◌, ◌<◌, ◌≤◌, ◌⊎◌, inl, inr, true, List, [], ◌∷◌, ◌++◌, length, refl}
 use Rattle.std.proofs.Common.{sym, ap, ◌∙◌}
 use Rattle.std.proofs.Common.{subst, subst₂, arith}
@@ -7,9 +7,10 @@ use Rattle.std.proofs.lemmas.List.{length_push, get_or_push, get_or_append_left}
 use Rattle.cyc_types.specs.Series.{never}
 use Rattle.cyc_heap.specs.declared.entry.Entry.{Entry}
 use Rattle.cyc_heap.specs.Tournament.{nowhere, entry_at, index_of, free_entry, comes, last_position, IsPlayed}
-use Rattle.cyc_heap.specs.Order.{HasNo, StandsIn, HasBareLeaves, IsList, IsOrder}
+use Rattle.cyc_heap.specs.Few.{HasNo, StandsIn, HasBareLeaves, IsHeap, IsFew}
 use Rattle.cyc_heap.proofs.Playing.{winner_at, comes_self, comes_by_moment, least_of_all, any_of_all, one_of_all}
 use Rattle.cyc_heap.proofs.Views.{comes_later}
+use Rattle.cyc_heap.proofs.Moving.{child_low}
 
 -- whether one of the first n has this index
 pub member : (n i : ℕ) (few : List Entry)
@@ -27,7 +28,7 @@ member (suc n) i few = elim (member n i few) [
 ]
 
 -- the leaf of one more has another entry
-module _ (few : List Entry) (n limit : ℕ) (ys zs : List Entry) (e : Entry) (list : IsList few) (low : n < length few)
+module _ (few : List Entry) (n limit : ℕ) (ys zs : List Entry) (e : Entry) (heap : IsHeap few) (low : n < length few)
     (here : entry_at zs (index_of (entry_at few n)) ≡ e)
     (others : (i : ℕ) → i < limit → i ≢ index_of (entry_at few n) → entry_at zs i ≡ entry_at ys i) where
   pub here_more : (wanted : ℕ → Entry) → wanted n ≡ e → ((p : ℕ) → p < length few → index_of (entry_at few p) < limit)
@@ -36,7 +37,8 @@ module _ (few : List Entry) (n limit : ℕ) (ys zs : List Entry) (e : Entry) (li
   here_more wanted is inside before p within = elim (cases_eq p n) [
     | inl at ↦ ap (λ p. entry_at zs (index_of (entry_at few p))) at ∙ here ∙ sym is ∙ ap wanted (sym at)
     | inr else ↦ (let less : p < n = omega (arith, within, else) in
-        others (index_of (entry_at few p)) (inside p (omega (arith, less, low))) (list.apart p n less low) ∙ before p less)
+        others (index_of (entry_at few p)) (inside p (omega (arith, less, low))) (heap.apart p n (omega (arith, less, low)) low
+        (λ e. absurd (omega (arith, e, less)))) ∙ before p less)
   ]
 
   pub others_more : (ws : List Entry)
@@ -46,7 +48,7 @@ module _ (few : List Entry) (n limit : ℕ) (ys zs : List Entry) (e : Entry) (li
       others i within (λ e. none n (omega arith) (sym e)) ∙ same i within (λ p less. none p (omega (arith, less)))
 
 -- the few play
-module _ (few : List Entry) (leaves : ℕ) (xs ys : List Entry) (h : IsOrder few leaves xs) (bare : HasBareLeaves leaves xs)
+module _ (few : List Entry) (leaves : ℕ) (xs ys : List Entry) (h : IsFew few leaves xs) (bare : HasBareLeaves leaves xs)
     (long_xs : length xs + 1 ≡ 2 * leaves) (long : length ys ≡ length xs)
     (free : (p : ℕ) → p < length few → entry_at ys (index_of (entry_at few p)) ≡ free_entry)
     (others : (i : ℕ) → i < length xs → HasNo i few → entry_at ys i ≡ entry_at xs i) where
@@ -80,7 +82,8 @@ module _ (few : List Entry) (leaves : ℕ) (xs ys : List Entry) (h : IsOrder few
 pub record IsDrawn (leaves : ℕ) (xs : List Entry) (few : List Entry) (ys : List Entry) : Type 0 where
   pub long : length ys ≡ length xs
   pub played : IsPlayed leaves ys
-  pub list : IsList few
+  pub rising : (p q : ℕ) → p < q → q < length few → comes (entry_at few p) (entry_at few q) ≡ true
+  pub heap : IsHeap few
   pub low : (p : ℕ) → p < length few → index_of (entry_at few p) < leaves
   pub own : StandsIn xs few
   pub used : (p : ℕ) → p < length few → (entry_at few p).moment ≤ never
@@ -92,9 +95,10 @@ pub drawn_none : (leaves : ℕ) (xs few : List Entry) → few ≡ [] → IsPlaye
 drawn_none leaves xs few none played = let l = ap length none in record {
   long = refl;
   played = played;
-  list = record {
-    rising = λ p q less low. absurd (omega (arith, low, l));
-    apart = λ p q less low. absurd (omega (arith, low, l));
+  rising = λ p q _ low. absurd (omega (arith, low, l));
+  heap = record {
+    rising = λ a c _ low. absurd (omega (arith, low, l));
+    apart = λ p q low _ _. absurd (omega (arith, low, l));
   };
   low = λ p low. absurd (omega (arith, low, l));
   own = λ p low. absurd (omega (arith, low, l));
@@ -154,13 +158,20 @@ module _ (leaves : ℕ) (xs few ys : List Entry) (h : IsDrawn leaves xs few ys) 
       let (i, low, at, leaf, index, none) = winner in
       let off : (p : ℕ) → p < length few → index_of (entry_at few p) ≢ index_of r = λ p within e. none p within (e ∙ index) in
       let l = length_push few r in
+      let rises = pairs (λ a b. comes a b ≡ true) h.rising
+      (λ p within. subst (λ e. comes (entry_at few p) e ≡ true) at (h.later p i within low)) in
+      let differ = pairs (λ a b. index_of a ≢ index_of b)
+      (λ p q less within. h.heap.apart p q (omega (arith, less, within)) within (λ e. absurd (omega (arith, e, less)))) off in
       record {
         long = long ∙ h.long;
         played = played;
-        list = record {
-          rising = pairs (λ a b. comes a b ≡ true) h.list.rising
-              (λ p within. subst (λ e. comes (entry_at few p) e ≡ true) at (h.later p i within low));
-          apart = pairs (λ a b. index_of a ≢ index_of b) h.list.apart off;
+        rising = rises;
+        heap = record {
+          rising = λ a c is. rises a c (child_low a c is);
+          apart = λ p q low_p low_q ne. elim (cases_lt p q) [
+            | inl less ↦ differ p q less low_q
+            | inr more ↦ λ e. differ q p (omega (arith, more, ne)) low_p (sym e)
+          ];
         };
         low = each (λ e. index_of e < leaves) h.low winner_low;
         own = each (λ e. entry_at xs (index_of e) ≡ e) h.own (ap (entry_at xs) index ∙ leaf);
@@ -201,9 +212,9 @@ module _ (leaves : ℕ) (xs few ys zs : List Entry) (h : IsDrawn leaves xs few y
     ]
 
     pub drawn_order : length xs + 1 ≡ 2 * leaves → length zs ≡ length ys
-        → ((i : ℕ) → leaves ≤ i → i < length ys → entry_at zs i ≡ entry_at ys i) → IsOrder few leaves zs
+        → ((i : ℕ) → leaves ≤ i → i < length ys → entry_at zs i ≡ entry_at ys i) → IsFew few leaves zs
     drawn_order long same_length games = let l = h.long in record {
-      list = h.list;
+      heap = h.heap;
       low = h.low;
       own = here;
       used = h.used;

@@ -4,6 +4,6 @@ pub mod Views
 pub mod Listed
 pub mod Growing
 pub mod Moving
-pub mod Ordering
+pub mod Settling
 pub mod Drawing
 pub mod Changing

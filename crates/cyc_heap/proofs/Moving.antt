@@ -1,17 +1,62 @@
--- An entry of a list moves into the hole beside it.
-use Rattle.std.proofs.Common.{◌≡◌, ◌≢◌, ℕ, ◌<◌, ◌⊎◌, inl, inr, true, List, length, refl, sym, ap, ◌∙◌, subst₂, arith}
+-- An entry of a heap moves into the hole above or below it, and an entry fills the hole.
+use Rattle.std.proofs.Common.{◌≡◌, ◌≢◌, ℕ, zero, suc, ◌+◌, ◌-◌, ◌*◌, ◌/◌, ◌%◌, ◌<◌, inl, inr, true, List, [], ◌∷◌, ◌++◌}
+use Rattle.std.proofs.Common.{length, refl, sym, ap, ◌∙◌, subst, subst₂, arith}
 use Rattle.std.proofs.Math.ListN.{set}
-use Rattle.std.proofs.lemmas.Bool.{cases_eq}
-use Rattle.std.proofs.lemmas.List.{length-set, get_or-set_same, get_or-set_other}
+use Rattle.std.proofs.lemmas.Bool.{cases_eq, cases_lt}
+use Rattle.std.proofs.lemmas.List.{length-set, length_push, get_or-set_same, get_or-set_other, get_or_append_left, get_or_push}
 use Rattle.cyc_heap.specs.declared.entry.Entry.{Entry}
 use Rattle.cyc_heap.specs.Tournament.{nowhere, entry_at, index_of, comes}
-use Rattle.cyc_heap.specs.Order.{IsList, IsListBut}
+use Rattle.cyc_heap.specs.Few.{IsChild, IsHeap, IsHeapBut, IsBelow, IsSame, IsFilled, IsWithout}
+use Rattle.cyc_heap.proofs.Playing.{comes_self, comes_trans}
 
--- the entries but for the hole are those of the old list but for its place
-pub record IsSame (place : ℕ) (old : List Entry) (hole : ℕ) (few : List Entry) : Type 0 where
-  pub long : length few ≡ length old
-  pub from : (p : ℕ) → p < length few → p ≢ hole → (q : ℕ) × (q < length old) × (q ≢ place) × (entry_at few p ≡ entry_at old q)
-  pub to : (q : ℕ) → q < length old → q ≢ place → (p : ℕ) × (p < length few) × (p ≢ hole) × (entry_at few p ≡ entry_at old q)
+pub child_low : (a c : ℕ) → IsChild a c → a < c
+child_low a c (inl h) = omega (arith, h)
+child_low a c (inr h) = omega (arith, h)
+
+pub one_parent : (a b c : ℕ) → IsChild a c → IsChild b c → a ≡ b
+one_parent a b c (inl h) (inl k) = omega (arith, h, k)
+one_parent a b c (inl h) (inr k) = omega (arith, h, k)
+one_parent a b c (inr h) (inl k) = omega (arith, h, k)
+one_parent a b c (inr h) (inr k) = omega (arith, h, k)
+
+-- each place but the first has one above it
+pub parent : (c : ℕ) → 0 < c → IsChild ((c - 1) / 2) c
+parent c some = elim (cases_lt ((c - 1) % 2) 1)
+    [ inl even ↦ inl (omega (arith, even, some)) | inr odd ↦ inr (omega (arith, odd, some)) ]
+
+both : (a b c d : Entry) → a ≡ c → b ≡ d → comes c d ≡ true → comes a b ≡ true
+both a b c d e k h = subst₂ (λ x y. comes x y ≡ true) (sym e) (sym k) h
+
+-- the child that comes first comes before both
+pub first_of_both : (place m : ℕ) (few : List Entry) → comes (entry_at few m) (entry_at few (2 * place + 1)) ≡ true
+    → (2 * place + 2 < length few → comes (entry_at few m) (entry_at few (2 * place + 2)) ≡ true)
+    → (c : ℕ) → IsChild place c → c < length few → comes (entry_at few m) (entry_at few c) ≡ true
+first_of_both place m few left right c (inl eq) low = subst (λ c. comes (entry_at few m) (entry_at few c) ≡ true) (sym eq) left
+first_of_both place m few left right c (inr eq) low =
+    subst (λ c. comes (entry_at few m) (entry_at few c) ≡ true) (sym eq) (right (omega (arith, eq, low)))
+
+-- the first comes before all
+pub first_least : (few : List Entry) → IsHeap few → (p : ℕ) → p < length few → comes (entry_at few 0) (entry_at few p) ≡ true
+first_least few h p low = to p (suc p) low (omega arith)
+  where
+    to : (p bound : ℕ) → p < length few → p < bound → comes (entry_at few 0) (entry_at few p) ≡ true
+    to p zero low near = absurd (omega (arith, near))
+    to zero (suc bound) low near = comes_self (entry_at few 0)
+    to (suc q) (suc bound) low near =
+        let above : IsChild ((suc q - 1) / 2) (suc q) = parent (suc q) (omega arith) in
+        let l = child_low ((suc q - 1) / 2) (suc q) above in
+        comes_trans (entry_at few 0) (entry_at few ((suc q - 1) / 2)) (entry_at few (suc q))
+        (to ((suc q - 1) / 2) bound (omega (arith, l, low)) (omega (arith, l, near)))
+        (h.rising ((suc q - 1) / 2) (suc q) above low)
+
+-- any place may become the hole
+pub hole_made : (place : ℕ) (few : List Entry) → IsHeap few → place < length few → IsHeapBut place few
+hole_made place few h low = record {
+  rising = λ a c is low_c _ _. h.rising a c is low_c;
+  bridge = λ a c is_place is_c low_c. comes_trans (entry_at few a) (entry_at few place) (entry_at few c)
+      (h.rising a place is_place low) (h.rising place c is_c low_c);
+  apart = λ p q low_p low_q _ _ off. h.apart p q low_p low_q off;
+}
 
 pub same_self : (place : ℕ) (few : List Entry) → IsSame place few place few
 same_self place few = record {
@@ -20,8 +65,7 @@ same_self place few = record {
   to = λ q low off. (q, low, off, refl);
 }
 
-module _ (few : List Entry) (hole next : ℕ) (within : next < length few) (in_hole : hole < length few) (off : next ≢ hole)
-    (below : (p : ℕ) → p < hole → p ≢ next → p < next) (above : (q : ℕ) → hole < q → q ≢ next → next < q) where
+module _ (few : List Entry) (hole next : ℕ) (within : next < length few) (in_hole : hole < length few) (off : next ≢ hole) where
   abbrev pub moved : List Entry
   moved = set few hole (entry_at few next)
 
@@ -36,38 +80,15 @@ module _ (few : List Entry) (hole next : ℕ) (within : next < length few) (in_h
 
   -- where the entry at p of the new list stood
   was : (p : ℕ) → p < length moved → p ≢ next → (q : ℕ) × (q < length few) × (q ≢ hole) × (entry_at moved p ≡ entry_at few q)
-      × (((p ≡ hole) × (q ≡ next)) ⊎ ((p ≢ hole) × (q ≡ p)))
   was p low apart = let l = moved_long in elim (cases_eq p hole) [
-    | inl is ↦ (next, within, off, ap (entry_at moved) is ∙ here, inl (is, refl))
-    | inr else ↦ (p, omega (arith, low, l), else, other p else, inr (else, refl))
+    | inl is ↦ (next, within, off, ap (entry_at moved) is ∙ here)
+    | inr else ↦ (p, omega (arith, low, l), else, other p else)
   ]
-
-  keeps : (R : Entry → Entry → Type 0)
-      → ((p q : ℕ) → p < q → q < length few → p ≢ hole → q ≢ hole → R (entry_at few p) (entry_at few q))
-      → (p q : ℕ) → p < q → q < length moved → p ≢ next → q ≢ next → R (entry_at moved p) (entry_at moved q)
-  keeps R h p q less low a b =
-      let l = moved_long in
-      elim (cases_eq p hole) [
-        | inl is ↦ subst₂ R (sym (ap (entry_at moved) is ∙ here)) (sym (other q (λ e. absurd (omega (arith, e, is, less)))))
-            (h next q (above q (omega (arith, is, less)) b) (omega (arith, low, l)) off (λ e. absurd (omega
-            (arith, e, is, less))))
-        | inr else ↦ elim (cases_eq q hole) [
-          | inl is ↦ subst₂ R (sym (other p else)) (sym (ap (entry_at moved) is ∙ here))
-              (h p next (below p (omega (arith, is, less)) a) within else off)
-          | inr far ↦ subst₂ R (sym (other p else)) (sym (other q far)) (h p q less (omega (arith, low, l)) else far)
-        ]
-      ]
-
-  pub list_after : IsListBut hole few → IsListBut next moved
-  list_after h = record {
-    rising = keeps (λ a b. comes a b ≡ true) h.rising;
-    apart = keeps (λ a b. index_of a ≢ index_of b) h.apart;
-  }
 
   pub same_after : (place : ℕ) (old : List Entry) → IsSame place old hole few → IsSame place old next moved
   same_after place old h = record {
     long = moved_long ∙ h.long;
-    from = λ p low apart. (let (q, within, far, is, _) = was p low apart in
+    from = λ p low apart. (let (q, within, far, is) = was p low apart in
         let (k, inside, out, at) = h.from q within far in (k, inside, out, is ∙ at));
     to = λ k inside out. (let (q, within, far, at) = h.to k inside out in
         let l = moved_long in
@@ -76,6 +97,81 @@ module _ (few : List Entry) (hole next : ℕ) (within : next < length few) (in_h
           | inr else ↦ (q, omega (arith, within, l), else, other q far ∙ at)
         ]);
   }
+
+  module _ (h : IsHeapBut hole few) where
+    apart_after : (p q : ℕ) → p < length moved → q < length moved → p ≢ next → q ≢ next → p ≢ q
+        → index_of (entry_at moved p) ≢ index_of (entry_at moved q)
+    apart_after p q low_p low_q a b ne = let l = moved_long in elim (cases_eq p hole) [
+      | inl is ↦ elim (cases_eq q hole) [
+        | inl at ↦ absurd (ne (is ∙ sym at))
+        | inr far ↦ subst₂ (λ a b. index_of a ≢ index_of b) (sym (ap (entry_at moved) is ∙ here)) (sym (other q far))
+            (h.apart next q within (omega (arith, low_q, l)) off far (λ e. b (sym e)))
+      ]
+      | inr else ↦ elim (cases_eq q hole) [
+        | inl at ↦ subst₂ (λ a b. index_of a ≢ index_of b) (sym (other p else)) (sym (ap (entry_at moved) at ∙ here))
+            (h.apart p next (omega (arith, low_p, l)) within else off a)
+        | inr far ↦ subst₂ (λ a b. index_of a ≢ index_of b) (sym (other p else)) (sym (other q far))
+            (h.apart p q (omega (arith, low_p, l)) (omega (arith, low_q, l)) else far ne)
+      ]
+    ]
+
+    -- the hole goes down to the child that comes first
+    pub heap_down : IsChild hole next
+        → ((c : ℕ) → IsChild hole c → c < length few → comes (entry_at few next) (entry_at few c) ≡ true) → IsHeapBut next moved
+    heap_down child least =
+        let l = moved_long in
+        let down = child_low hole next child in
+        record {
+          rising = λ a c is low_c not_a not_c. let low_a = child_low a c is in elim (cases_eq a hole) [
+            | inl at ↦ both (entry_at moved a) (entry_at moved c) (entry_at few next) (entry_at few c)
+                (ap (entry_at moved) at ∙ here) (other c (λ q. absurd (omega (arith, q, at, low_a))))
+                (least c (subst (λ x. IsChild x c) at is) (omega (arith, low_c, l)))
+            | inr apart ↦ elim (cases_eq c hole) [
+              | inl at ↦ both (entry_at moved a) (entry_at moved c) (entry_at few a) (entry_at few next)
+                  (other a apart) (ap (entry_at moved) at ∙ here) (h.bridge a next (subst (IsChild a) at is) child within)
+              | inr far ↦ both (entry_at moved a) (entry_at moved c) (entry_at few a) (entry_at few c) (other a apart) (other c far)
+                  (h.rising a c is (omega (arith, low_c, l)) apart far)
+            ]
+          ];
+          bridge = λ a c is_next is_c low_c.
+              let at : a ≡ hole = one_parent a hole next is_next child in
+              let lower = child_low next c is_c in
+              both (entry_at moved a) (entry_at moved c) (entry_at few next) (entry_at few c) (ap (entry_at moved) at ∙ here)
+              (other c (λ q. absurd (omega (arith, q, lower, down))))
+              (h.rising next c is_c (omega (arith, low_c, l)) off (λ q. absurd (omega (arith, q, lower, down))));
+          apart = apart_after;
+        }
+
+    -- the hole goes up
+    pub heap_up : IsChild next hole → IsHeapBut next moved
+    heap_up child =
+        let l = moved_long in
+        let down = child_low next hole child in
+        record {
+          rising = λ a c is low_c not_a not_c. let low_a = child_low a c is in elim (cases_eq a hole) [
+            | inl at ↦ both (entry_at moved a) (entry_at moved c) (entry_at few next) (entry_at few c)
+                (ap (entry_at moved) at ∙ here) (other c (λ q. absurd (omega (arith, q, at, low_a))))
+                (h.bridge next c child (subst (λ x. IsChild x c) at is) (omega (arith, low_c, l)))
+            | inr apart ↦ elim (cases_eq c hole) [
+              | inl at ↦ absurd (not_a (one_parent a next hole (subst (IsChild a) at is) child))
+              | inr far ↦ both (entry_at moved a) (entry_at moved c) (entry_at few a) (entry_at few c) (other a apart) (other c far)
+                  (h.rising a c is (omega (arith, low_c, l)) apart far)
+            ]
+          ];
+          bridge = λ a c is_next is_c low_c.
+              let top = child_low a next is_next in
+              let first : comes (entry_at few a) (entry_at few next) ≡ true
+              = h.rising a next is_next within (λ q. absurd (omega (arith, q, top, down))) off in
+              elim (cases_eq c hole) [
+                | inl at ↦ both (entry_at moved a) (entry_at moved c) (entry_at few a) (entry_at few next)
+                    (other a (λ q. absurd (omega (arith, q, top, down)))) (ap (entry_at moved) at ∙ here) first
+                | inr far ↦ both (entry_at moved a) (entry_at moved c) (entry_at few a) (entry_at few c)
+                    (other a (λ q. absurd (omega (arith, q, top, down)))) (other c far)
+                    (comes_trans (entry_at few a) (entry_at few next) (entry_at few c) first
+                    (h.rising next c is_c (omega (arith, low_c, l)) off far))
+              ];
+          apart = apart_after;
+        }
 
 -- the hole is filled
 module _ (few : List Entry) (hole : ℕ) (e : Entry) (in_hole : hole < length few) where
@@ -91,37 +187,111 @@ module _ (few : List Entry) (hole : ℕ) (e : Entry) (in_hole : hole < length fe
   at_other : (p : ℕ) → p ≢ hole → entry_at full p ≡ entry_at few p
   at_other p off = get_or-set_other few hole p e nowhere off
 
-  fills : (R : Entry → Entry → Type 0)
-      → ((p q : ℕ) → p < q → q < length few → p ≢ hole → q ≢ hole → R (entry_at few p) (entry_at few q))
-      → ((p : ℕ) → p < hole → R (entry_at few p) e) → ((p : ℕ) → hole < p → p < length few → R e (entry_at few p))
-      → (p q : ℕ) → p < q → q < length full → R (entry_at full p) (entry_at full q)
-  fills R h before behind p q less low = let l = long in elim (cases_eq p hole) [
-    | inl is ↦ subst₂ R (sym (ap (entry_at full) is ∙ at_hole)) (sym (at_other q (λ e. absurd (omega (arith, e, is, less)))))
-        (behind q (omega (arith, is, less)) (omega (arith, low, l)))
-    | inr else ↦ elim (cases_eq q hole) [
-      | inl is ↦ subst₂ R (sym (at_other p else)) (sym (ap (entry_at full) is ∙ at_hole)) (before p (omega (arith, is, less)))
-      | inr far ↦ subst₂ R (sym (at_other p else)) (sym (at_other q far)) (h p q less (omega (arith, low, l)) else far)
-    ]
-  ]
+  pub filled_heap : IsHeapBut hole few → IsBelow e hole few
+      → ((c : ℕ) → IsChild hole c → c < length few → comes e (entry_at few c) ≡ true)
+      → ((p : ℕ) → p < length few → p ≢ hole → index_of (entry_at few p) ≢ index_of e) → IsHeap full
+  filled_heap h below above apart =
+      let l = long in
+      record {
+        rising = λ a c is low_c. let low_a = child_low a c is in elim (cases_eq a hole) [
+          | inl at ↦ both (entry_at full a) (entry_at full c) e (entry_at few c) (ap (entry_at full) at ∙ at_hole)
+              (at_other c (λ q. absurd (omega (arith, q, at, low_a))))
+              (above c (subst (λ x. IsChild x c) at is) (omega (arith, low_c, l)))
+          | inr off ↦ elim (cases_eq c hole) [
+            | inl at ↦ both (entry_at full a) (entry_at full c) (entry_at few a) e (at_other a off)
+                (ap (entry_at full) at ∙ at_hole) (below a (subst (IsChild a) at is))
+            | inr far ↦ both (entry_at full a) (entry_at full c) (entry_at few a) (entry_at few c) (at_other a off) (at_other c far)
+                (h.rising a c is (omega (arith, low_c, l)) off far)
+          ]
+        ];
+        apart = λ p q low_p low_q ne. elim (cases_eq p hole) [
+          | inl is ↦ elim (cases_eq q hole) [
+            | inl at ↦ absurd (ne (is ∙ sym at))
+            | inr far ↦ subst₂ (λ a b. index_of a ≢ index_of b) (sym (ap (entry_at full) is ∙ at_hole)) (sym (at_other q far))
+                (λ s. apart q (omega (arith, low_q, l)) far (sym s))
+          ]
+          | inr else ↦ elim (cases_eq q hole) [
+            | inl at ↦ subst₂ (λ a b. index_of a ≢ index_of b) (sym (at_other p else)) (sym (ap (entry_at full) at ∙ at_hole))
+                (apart p (omega (arith, low_p, l)) else)
+            | inr far ↦ subst₂ (λ a b. index_of a ≢ index_of b) (sym (at_other p else)) (sym (at_other q far))
+                (h.apart p q (omega (arith, low_p, l)) (omega (arith, low_q, l)) else far ne)
+          ]
+        ];
+      }
 
-  pub filled : IsListBut hole few → ((p : ℕ) → p < hole → comes (entry_at few p) e ≡ true)
-      → ((p : ℕ) → hole < p → p < length few → comes e (entry_at few p) ≡ true)
-      → ((p : ℕ) → p < length few → p ≢ hole → index_of (entry_at few p) ≢ index_of e) → IsList full
-  filled h before behind apart = record {
-    rising = fills (λ a b. comes a b ≡ true) h.rising before behind;
-    apart = fills (λ a b. index_of a ≢ index_of b) h.apart
-        (λ p less. apart p (omega (arith, less, in_hole)) (λ e. absurd (omega (arith, e, less))))
-        (λ p more low q. apart p low (λ e. absurd (omega (arith, e, more))) (sym q));
+  pub filled_is : (place : ℕ) (old : List Entry) → IsSame place old hole few → IsFilled place old e full
+  filled_is place old h = let l = long in record {
+    long = long ∙ h.long;
+    here = (hole, omega (arith, in_hole, l), at_hole);
+    from = λ p low. elim (cases_eq p hole) [
+      | inl is ↦ inl (ap (entry_at full) is ∙ at_hole)
+      | inr off ↦ inr (let (q, within, out, at) = h.from p (omega (arith, low, l)) off in (q, within, out, at_other p off ∙ at))
+    ];
+    to = λ q within out. (let (p, low, off, at) = h.to q within out in (p, omega (arith, low, l), at_other p off ∙ at));
   }
 
-  pub filled_from : (place : ℕ) (old : List Entry) → IsSame place old hole few → (p : ℕ) → p < length full
-      → (entry_at full p ≡ e) ⊎ ((q : ℕ) × (q < length old) × (q ≢ place) × (entry_at full p ≡ entry_at old q))
-  filled_from place old h p low = let l = long in elim (cases_eq p hole) [
-    | inl is ↦ inl (ap (entry_at full) is ∙ at_hole)
-    | inr off ↦ inr (let (q, within, out, at) = h.from p (omega (arith, low, l)) off in (q, within, out, at_other p off ∙ at))
-  ]
+-- the hole was moved, and then filled
+pub moved_filled : (place : ℕ) (old : List Entry) (hole : ℕ) (few : List Entry) (e : Entry) (new : List Entry)
+    → IsSame place old hole few → IsFilled hole few e new → IsFilled place old e new
+moved_filled place old hole few e new s f = record {
+  long = f.long ∙ s.long;
+  here = f.here;
+  from = λ p low. elim (f.from p low) [
+    | inl is ↦ inl is
+    | inr (q, within, off, at) ↦ inr (let (k, inside, out, is) = s.from q within off in (k, inside, out, at ∙ is))
+  ];
+  to = λ k inside out. (let (q, within, off, is) = s.to k inside out in
+      let (p, low, at) = f.to q within off in (p, low, at ∙ is));
+}
 
-  pub filled_to : (place : ℕ) (old : List Entry) → IsSame place old hole few → (q : ℕ) → q < length old → q ≢ place
-      → (p : ℕ) × (p < length full) × (entry_at full p ≡ entry_at old q)
-  filled_to place old h q within out = (let (p, low, off, at) = h.to q within out in
-      let l = long in (p, omega (arith, low, l), at_other p off ∙ at))
+-- the indexes of the others are as they were
+pub apart_moved : (place : ℕ) (old : List Entry) (hole : ℕ) (few : List Entry) (e : Entry) → IsSame place old hole few
+    → ((p : ℕ) → p < length old → p ≢ place → index_of (entry_at old p) ≢ index_of e)
+    → (p : ℕ) → p < length few → p ≢ hole → index_of (entry_at few p) ≢ index_of e
+apart_moved place old hole few e s apart p within off =
+    let (q, inside, out, at) = s.from p within off in λ same. apart q inside out (ap index_of (sym at) ∙ same)
+
+-- the last is taken off
+module _ (few : List Entry) (last : Entry) (h : IsHeap (few ++ last ∷ [])) where
+  stays : (p : ℕ) → p < length few → entry_at (few ++ last ∷ []) p ≡ entry_at few p
+  stays p low = get_or_append_left few (last ∷ []) nowhere p low
+
+  ends : entry_at (few ++ last ∷ []) (length few) ≡ last
+  ends = get_or_push few last nowhere (length few) refl
+
+  pub shorter : IsHeap few
+  shorter = let l = length_push few last in record {
+    rising = λ a c is low. (let low_a = child_low a c is in
+        subst₂ (λ a b. comes a b ≡ true) (stays a (omega (arith, low_a, low))) (stays c low)
+        (h.rising a c is (omega (arith, low, l))));
+    apart = λ p q low_p low_q ne. subst₂ (λ a b. index_of a ≢ index_of b) (stays p low_p) (stays q low_q)
+        (h.apart p q (omega (arith, low_p, l)) (omega (arith, low_q, l)) ne);
+  }
+
+  pub off_last : (p : ℕ) → p < length few → index_of (entry_at few p) ≢ index_of last
+  off_last p low = let l = length_push few last in
+      subst₂ (λ a b. index_of a ≢ index_of b) (stays p low) ends
+      (h.apart p (length few) (omega (arith, low, l)) (omega (arith, l)) (λ e. absurd (omega (arith, e, low))))
+
+  -- it was the one to take out
+  pub without_last : (place : ℕ) → place ≡ length few → IsWithout place (few ++ last ∷ []) few
+  without_last place is = let l = length_push few last in record {
+    from = λ p low. (p, omega (arith, low, l), (λ e. absurd (omega (arith, e, low, is))), sym (stays p low));
+    to = λ q low off. let inside : q < length few = omega (arith, low, l, off, is) in (q, inside, sym (stays q inside));
+  }
+
+  -- it fills the place of the one to take out
+  pub without_moved : (place : ℕ) (new : List Entry) → place < length few → IsFilled place few last new
+      → IsWithout place (few ++ last ∷ []) new
+  without_moved place new low f = let l = length_push few last in record {
+    from = λ p within. elim (f.from p within) [
+      | inl is ↦ (length few, omega (arith, l), (λ e. absurd (omega (arith, e, low))), is ∙ sym ends)
+      | inr (q, inside, off, at) ↦ (q, omega (arith, inside, l), off, at ∙ sym (stays q inside))
+    ];
+    to = λ q within off. elim (cases_lt q (length few)) [
+      | inl inside ↦ (let (p, low, at) = f.to q inside off in (p, low, at ∙ sym (stays q inside)))
+      | inr past ↦ (let (p, low, is) = f.here in
+          let at : q ≡ length few = omega (arith, within, l, past) in
+          (p, low, is ∙ sym (ap (entry_at (few ++ last ∷ [])) at ∙ ends)))
+    ];
+  }

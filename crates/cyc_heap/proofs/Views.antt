@@ -3,7 +3,7 @@ use Rattle.std.proofs.Common.{◌≡◌, ℕ, suc, ◌+◌, ◌-◌, ◌/◌, �
 use Rattle.std.proofs.Common.{[], ◌∷◌, ◌++◌, length, get_or, replicate, Option, Some, None}
 use Rattle.std.proofs.Common.{IsSome, is_some, option_map, cond, count_by, ltb, refl, sym, ap, ◌∙◌, subst, arith}
 use Rattle.std.proofs.Math.ListN.{set}
-use Rattle.std.proofs.lemmas.Bool.{cases_eq, cases_lt, lt-ltb, le-ltb, cond-true, cond-false}
+use Rattle.std.proofs.lemmas.Bool.{cases_lt, lt-ltb, le-ltb, cond-true, cond-false}
 use Rattle.std.proofs.lemmas.Bool.Decides.{nat_tests}
 use Rattle.std.proofs.lemmas.List.{get_or_past}
 use Rattle.std.proofs.lemmas.List.Sums.{sum_by-set}
@@ -12,10 +12,11 @@ use Rattle.cyc_types.specs.Series.{never}
 use Rattle.cyc_types.specs.Expirations.{Expiration, is_before}
 use Rattle.cyc_heap.specs.declared.entry.Entry.{Entry}
 use Rattle.cyc_heap.specs.Tournament.{key, entry_at, index_of, slot, slots, comes, last_position, winner_of, IsPlayed}
-use Rattle.cyc_heap.specs.Order.{IsOrder, IsTournament, first_of, root_of}
+use Rattle.cyc_heap.specs.Few.{IsFew, IsTournament, first_of, root_of}
 use Rattle.cyc_heap.specs.Heap.{HeapView, size_of, len_of, expiration_at, at_moment, with_moment, IsLeast}
 use Rattle.cyc_heap.proofs.Slots.{length-slots, slots_at, slot_used, slot_free, slots_more, count_with_free}
-use Rattle.cyc_heap.proofs.Playing.{comes_self, comes_by_moment, least_of_all, one_of_all}
+use Rattle.cyc_heap.proofs.Playing.{comes_by_moment, least_of_all, one_of_all}
+use Rattle.cyc_heap.proofs.Moving.{first_least}
 
 abbrev pub view_of : Bool → List Entry → ℕ → ℕ → List Entry → ℕ → HeapView
 view_of is_few few leaves size xs room = record { slots = slots size xs; root = root_of is_few few leaves xs; room = room }
@@ -95,18 +96,14 @@ winner_top leaves xs played some = record {
   before = least_of_all leaves xs played;
 }
 
-pub first_top : (few : List Entry) (leaves : ℕ) (xs : List Entry) → IsOrder few leaves xs → 0 < length few
+pub first_top : (few : List Entry) (leaves : ℕ) (xs : List Entry) → IsFew few leaves xs → 0 < length few
     → IsTop leaves xs (entry_at few 0)
 first_top few leaves xs h some = record {
   one = (index_of (entry_at few 0), h.low 0 some, h.own 0 some);
   before = λ k low. elim (cases_lt never (entry_at xs k).moment) [
     | inl unused ↦ (let used = h.used 0 some in comes_by_moment (entry_at few 0) (entry_at xs k) (omega (arith, used, unused)))
     | inr used ↦ (let (p, at, _, is) = h.all k low used in
-        elim (cases_eq p 0) [
-          | inl first ↦ subst (λ e. comes (entry_at few 0) e ≡ true) (ap (entry_at few) (sym first) ∙ is) (comes_self
-              (entry_at few 0))
-          | inr later ↦ subst (λ e. comes (entry_at few 0) e ≡ true) is (h.list.rising 0 p (omega (arith, later)) at)
-        ])
+        subst (λ e. comes (entry_at few 0) e ≡ true) is (first_least few h.heap p at))
   ];
 }
 
@@ -221,7 +218,7 @@ module _ (is_few : Bool) (few : List Entry) (leaves size given : ℕ) (xs : List
   pub few_none : is_few ≡ true → length few ≡ 0 → (k : ℕ) → k < leaves → never < (entry_at xs k).moment
   few_none small none k low = elim (cases_lt never (entry_at xs k).moment) [
     | inl unused ↦ unused
-    | inr used ↦ absurd (let (p, at, _, _) = (h.ordered small).all k low used in omega (arith, at, none))
+    | inr used ↦ absurd (let (p, at, _, _) = (h.heap small).all k low used in omega (arith, at, none))
   ]
 
   -- what callers see at the root

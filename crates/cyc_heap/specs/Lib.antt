@@ -1,3 +1,3 @@
 pub mod Heap
 pub mod Tournament
-pub mod Order
+pub mod Few

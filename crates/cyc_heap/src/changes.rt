@@ -1,13 +1,13 @@
-//! A change of one leaf: few expirations are put in order, and for many the games are played again.
+//! A change of one leaf: few expirations are sifted, and for many the games are played again.
 
 ghost use Rattle.std.specs.Prelude.{◌≡◌, ◌≢◌, ◌<◌, ◌≤◌, ◌+◌, ◌*◌, ℕ, length, vec_capacity, true, false};
 ghost use Rattle.cyc_types.specs.Limits.{cyclics};
 ghost use Rattle.cyc_types.specs.Series.{never};
 ghost use Rattle.cyc_heap.specs.Tournament.{entry_at, index_of, free_entry, IsPlayed};
-ghost use Rattle.cyc_heap.specs.Order.{IsOrder};
+ghost use Rattle.cyc_heap.specs.Few.{IsFew};
 
 use crate::entry::Entry;
-use crate::few::{find, put, put_first};
+use crate::few::{find, put, put_first, take_out};
 use crate::games::enter;
 use cyc_types::Index;
 
@@ -27,12 +27,12 @@ pub(crate) fn change(
     requires valid { entry.moment ≤ never }
     requires used { (entry_at entries.old.items index).moment ≤ never }
     requires played { is_few ≡ false → IsPlayed leaves entries.old.items }
-    requires order { is_few ≡ true → IsOrder few.old.items leaves entries.old.items }
+    requires heap { is_few ≡ true → IsFew few.old.items leaves entries.old.items }
     ensures long { length entries.new.items ≡ length entries.old.items }
     ensures here { entry_at entries.new.items index ≡ entry }
     ensures others { (i : ℕ) → i < leaves → i ≢ index → entry_at entries.new.items i ≡ entry_at entries.old.items i }
     ensures played { is_few ≡ false → IsPlayed leaves entries.new.items }
-    ensures order { is_few ≡ true → IsOrder few.new.items leaves entries.new.items }
+    ensures heap { is_few ≡ true → IsFew few.new.items leaves entries.new.items }
     ensures room { vec_capacity entries.new ≡ vec_capacity entries.old }
     ensures few_room { vec_capacity few.new ≡ vec_capacity few.old }
 {
@@ -61,11 +61,11 @@ pub(crate) fn lower_first(
     requires some { 0 < length few.old.items }
     requires own { index_of entry ≡ index_of (entry_at few.old.items 0) }
     requires valid { entry.moment ≤ never }
-    requires order { IsOrder few.old.items leaves entries.old.items }
+    requires heap { IsFew few.old.items leaves entries.old.items }
     ensures long { length entries.new.items ≡ length entries.old.items }
     ensures here { entry_at entries.new.items (index_of entry) ≡ entry }
     ensures others { (i : ℕ) → i < leaves → i ≢ index_of entry → entry_at entries.new.items i ≡ entry_at entries.old.items i }
-    ensures order { IsOrder few.new.items leaves entries.new.items }
+    ensures heap { IsFew few.new.items leaves entries.new.items }
     ensures room { vec_capacity entries.new ≡ vec_capacity entries.old }
     ensures few_room { vec_capacity few.new ≡ vec_capacity few.old }
 {
@@ -94,12 +94,12 @@ pub(crate) fn add(
     requires free { never < (entry_at entries.old.items index).moment }
     requires space { is_few ≡ true → length few.old.items < vec_capacity few.old }
     requires played { is_few ≡ false → IsPlayed leaves entries.old.items }
-    requires order { is_few ≡ true → IsOrder few.old.items leaves entries.old.items }
+    requires heap { is_few ≡ true → IsFew few.old.items leaves entries.old.items }
     ensures long { length entries.new.items ≡ length entries.old.items }
     ensures here { entry_at entries.new.items index ≡ entry }
     ensures others { (i : ℕ) → i < leaves → i ≢ index → entry_at entries.new.items i ≡ entry_at entries.old.items i }
     ensures played { is_few ≡ false → IsPlayed leaves entries.new.items }
-    ensures order { is_few ≡ true → IsOrder few.new.items leaves entries.new.items }
+    ensures heap { is_few ≡ true → IsFew few.new.items leaves entries.new.items }
     ensures room { vec_capacity entries.new ≡ vec_capacity entries.old }
     ensures few_room { vec_capacity few.new ≡ vec_capacity few.old }
 {
@@ -133,19 +133,19 @@ pub(crate) fn take(
     requires index { index < leaves }
     requires used { (entry_at entries.old.items index).moment ≤ never }
     requires played { is_few ≡ false → IsPlayed leaves entries.old.items }
-    requires order { is_few ≡ true → IsOrder few.old.items leaves entries.old.items }
+    requires heap { is_few ≡ true → IsFew few.old.items leaves entries.old.items }
     ensures long { length entries.new.items ≡ length entries.old.items }
     ensures here { entry_at entries.new.items index ≡ free_entry }
     ensures others { (i : ℕ) → i < leaves → i ≢ index → entry_at entries.new.items i ≡ entry_at entries.old.items i }
     ensures played { is_few ≡ false → IsPlayed leaves entries.new.items }
-    ensures order { is_few ≡ true → IsOrder few.new.items leaves entries.new.items }
+    ensures heap { is_few ≡ true → IsFew few.new.items leaves entries.new.items }
     ensures room { vec_capacity entries.new ≡ vec_capacity entries.old }
     ensures few_room { vec_capacity few.new ≡ vec_capacity few.old }
 {
     let position = usize::from(index.number());
     if is_few {
         let place = find(few.as_slice(), index);
-        few.remove(place);
+        take_out(few, place);
         entries[position] = Entry::free();
     } else {
         enter(entries, leaves, position, Entry::free());

@@ -7,10 +7,10 @@ ghost use Rattle.cyc_types.specs.Limits.{cyclics};
 ghost use Rattle.cyc_types.specs.declared.refusal.Refusal.TheVariants.{Memory};
 ghost use Rattle.cyc_types.specs.Series.{never};
 ghost use Rattle.cyc_heap.specs.Tournament.{key, index_of, entry_at, free_entry, IsPlayed};
-ghost use Rattle.cyc_heap.specs.Order.{most_in_order, HasBareLeaves, IsBlank, IsOrder};
+ghost use Rattle.cyc_heap.specs.Few.{most_few, HasBareLeaves, IsBlank, IsFew};
 ghost use Rattle.cyc_heap.specs.Heap.{HeapView, new_heap, size_of, len_of, expiration_at, with_moment, pair_of, IsEmpty, IsLeast};
 
-use crate::between::{MOST_IN_ORDER, in_order_at_most, order_few, play_few};
+use crate::between::{MOST_FEW, draw_few, play_few};
 use crate::changes::{add, change, lower_first, take};
 use crate::entry::Entry;
 use crate::games::{enter, play_all};
@@ -21,9 +21,9 @@ use std::marker::Model;
 /// The expirations of one CPU's cyclics by their indexes, with the least at hand (`cyp_heap` of sys/cyclic_impl.h).
 /// The size is the number of indexes; of equal moments the smaller id expires first (our own rule).
 ///
-/// Few expirations stand in order, 4 to 12 of them, and more are a tournament, both in position of the kernel's heap (our own): a
-/// change of any expiration moves it among the few, or plays the games above its index again, at most eight. An insertion or a
-/// removal that leads from the one to the other plays as many for each of the few.
+/// Up to 16 expirations are a heap in an array, as the kernel's, and more are a tournament (our own): a change of any expiration sifts
+/// it among the few, or plays the games above its index again, at most eight. An insertion or a removal that leads from the one to the
+/// other plays as many for each of the few.
 #[derive(Drop)]
 pub struct ExpiryHeap {
     /// The leaves, and after them the winner of each game.
@@ -39,9 +39,9 @@ pub struct ExpiryHeap {
     leaves: usize,
     /// The size for which memory was taken.
     room: usize,
-    /// The expirations in order, while they are few. Then the games are as if all leaves were free.
+    /// The expirations as a heap, while they are few. Then the games are as if all leaves were free.
     few: Vec<Entry>,
-    /// Whether they are few. More than `in_order_at_most` play, until no more than three quarters of so many are left.
+    /// Whether they are few. More than `MOST_FEW` play, until no more than three quarters of so many are left.
     is_few: bool,
 }
 
@@ -49,7 +49,7 @@ impl Model for ExpiryHeap {
     ghost use Rattle.std.specs.Prelude.{suc, ◌*◌, ◌≤◌, vec_capacity};
     ghost use Rattle.cyc_heap.specs.Heap.{HeapView};
     ghost use Rattle.cyc_heap.specs.Tournament.{slots};
-    ghost use Rattle.cyc_heap.specs.Order.{most_in_order, IsTournament, root_of};
+    ghost use Rattle.cyc_heap.specs.Few.{most_few, IsTournament, root_of};
 
     ghost Value = { HeapView };
 
@@ -61,7 +61,7 @@ impl Model for ExpiryHeap {
     } };
 
     ghost invariant = { λ h. IsTournament h.is_few h.few.items h.leaves h.size h.given h.entries.items h.free.items × (h.size ≤ h.room)
-        × (2 * h.room ≤ suc (vec_capacity h.entries)) × (h.room ≤ vec_capacity h.free) × (most_in_order ≤ vec_capacity h.few) };
+        × (2 * h.room ≤ suc (vec_capacity h.entries)) × (h.room ≤ vec_capacity h.free) × (most_few ≤ vec_capacity h.few) };
 }
 
 impl ExpiryHeap {
@@ -72,7 +72,7 @@ impl ExpiryHeap {
     {
         let mut entries = Vec::with_capacity(alloc, 1)?;
         let free = Vec::with_capacity(alloc, 1)?;
-        let few = Vec::with_capacity(alloc, MOST_IN_ORDER)?;
+        let few = Vec::with_capacity(alloc, MOST_FEW)?;
         add_free(&mut entries, 1);
         Ok(ExpiryHeap {
             entries,
@@ -282,32 +282,32 @@ impl ExpiryHeap {
     }
 }
 
-/// Where the few are as many as may stand in order, they play from now on. Says whether they are few, so that there is room for one
+/// Where the few are as many as may be few, they play from now on. Says whether they are few, so that there is room for one
 /// more.
 fn make_room(few: &[Entry], entries: &mut Vec<Entry>, is_few: bool, leaves: usize) -> bool
     requires most { leaves ≤ cyclics }
     requires long { length entries.old.items + 1 ≡ 2 * leaves }
     requires played { is_few ≡ false → IsPlayed leaves entries.old.items }
-    requires ordered { is_few ≡ true → IsOrder few.now leaves entries.old.items }
+    requires heap { is_few ≡ true → IsFew few.now leaves entries.old.items }
     requires bare { HasBareLeaves leaves entries.old.items }
     ensures long { length entries.new.items ≡ length entries.old.items }
     ensures kept { (i : ℕ) → i < leaves → entry_at entries.new.items i ≡ entry_at entries.old.items i }
     ensures played { result ≡ false → IsPlayed leaves entries.new.items }
-    ensures ordered { result ≡ true → IsOrder few.now leaves entries.new.items }
-    ensures space { result ≡ true → length few.now < most_in_order }
+    ensures heap { result ≡ true → IsFew few.now leaves entries.new.items }
+    ensures space { result ≡ true → length few.now < most_few }
     ensures room { vec_capacity entries.new ≡ vec_capacity entries.old }
 {
     if !is_few {
         return false;
     }
-    if few.len() < in_order_at_most(leaves) {
+    if few.len() < MOST_FEW {
         return true;
     }
     play_few(few, entries, leaves);
     false
 }
 
-/// Whether they are few, now that so many are left. Where they were many and few are left, these are put in order.
+/// Whether they are few, now that so many are left. Where they were many and few are left, these are a heap from now on.
 fn is_few_now(
     few: &mut Vec<Entry>,
     entries: &mut Vec<Entry>,
@@ -319,14 +319,14 @@ fn is_few_now(
     requires most { leaves ≤ cyclics }
     requires long { length entries.old.items + 1 ≡ 2 * leaves }
     requires played { is_few ≡ false → IsPlayed leaves entries.old.items }
-    requires ordered { is_few ≡ true → IsOrder few.old.items leaves entries.old.items }
+    requires heap { is_few ≡ true → IsFew few.old.items leaves entries.old.items }
     requires own { (i : ℕ) → i < leaves → (entry_at entries.old.items i).moment ≤ never → index_of (entry_at entries.old.items i) ≡ i }
     requires bare { HasBareLeaves leaves entries.old.items }
-    requires space { most_in_order ≤ vec_capacity few.old }
+    requires space { most_few ≤ vec_capacity few.old }
     ensures long { length entries.new.items ≡ length entries.old.items }
     ensures kept { (i : ℕ) → i < leaves → entry_at entries.new.items i ≡ entry_at entries.old.items i }
     ensures played { result ≡ false → IsPlayed leaves entries.new.items }
-    ensures ordered { result ≡ true → IsOrder few.new.items leaves entries.new.items }
+    ensures heap { result ≡ true → IsFew few.new.items leaves entries.new.items }
     ensures room { vec_capacity entries.new ≡ vec_capacity entries.old }
     ensures few_room { vec_capacity few.new ≡ vec_capacity few.old }
 {
@@ -334,10 +334,10 @@ fn is_few_now(
         return true;
     }
     // so much fewer that the way there and back isn't gone at each call
-    if len > in_order_at_most(leaves) / 4 * 3 {
+    if len > MOST_FEW / 4 * 3 {
         return false;
     }
-    order_few(few, entries, leaves)
+    draw_few(few, entries, leaves)
 }
 
 /// The index that is given next: the last of those that are free again, or else the smallest that was never given.
@@ -358,7 +358,7 @@ fn next_index(free: &mut Vec<Index>, given: &mut usize) -> Index
 }
 
 /// Makes the leaves at least as many as this size, and says how many there are. Where they are too few they become twice as many, if
-/// the memory is there, and all games are played anew, or are blank while few stand in order. Takes no memory.
+/// the memory is there, and all games are played anew, or are blank while they are few. Takes no memory.
 fn lay_out(entries: &mut Vec<Entry>, is_few: bool, leaves: usize, size: usize) -> usize
     requires some { 0 < leaves }
     requires few { leaves ≤ cyclics }

@@ -1,4 +1,4 @@
-//! The expirations of one CPU's cyclics, few in order and more in a tournament: the least expiration is at hand, and each is
+//! The expirations of one CPU's cyclics, few in a heap and more in a tournament: the least expiration is at hand, and each is
 //! found by its cyclic's index.
 #![tactic(auto)]
 

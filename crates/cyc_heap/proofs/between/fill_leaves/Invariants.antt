@@ -1,5 +1,5 @@
 use Rattle.std.proofs.Common.{◌≡◌, ◌≢◌, ℕ, ◌<◌, length, vec_capacity}
-use Rattle.cyc_heap.specs.Tournament.{entry_at, index_of, free_entry}
+use Rattle.cyc_heap.specs.Tournament.{entry_at, index_of}
 use Rattle.cyc_heap.proofs.between.fill_leaves.Given as goal
 
 abbrev pub invariant-loop-entry : goal.invariant-loop-entry

@@ -3,11 +3,18 @@ use Rattle.std.proofs.Math.ListN.{set}
 use Rattle.std.proofs.lemmas.List.{length-set, get_or-set_same, get_or-set_other}
 use Rattle.cyc_heap.specs.declared.entry.Entry.{Entry}
 use Rattle.cyc_heap.specs.Tournament.{nowhere, entry_at, index_of}
-use Rattle.cyc_heap.proofs.Ordering.{opened, settled}
+use Rattle.cyc_heap.proofs.Moving.{hole_made}
+use Rattle.cyc_heap.proofs.Settling.{opened, settled}
 use Rattle.cyc_heap.proofs.changes.change.Goals as goal
 
-pub returns-then-is_few-clause-order : goal.returns-then-is_few-clause-order
-returns-then-is_few-clause-order c = λ is. (
+pub put-requires-clause-heap : goal.put-requires-clause-heap
+put-requires-clause-heap c =
+    let v = c.as_slice.ensures.value in
+    hole_made c.find-place.result c.args.few.now.items (c.requires.heap c.if-is_few.true).heap
+    (subst (λ l. c.find-place.result < length l) v c.find-place.ensures.low)
+
+pub returns-then-is_few-clause-heap : goal.returns-then-is_few-clause-heap
+returns-then-is_few-clause-heap c = λ is. (
     let xs = c.args.entries.now.items in
     let e : Entry = record { moment = c.args.entry.moment; word = c.args.entry.word } in
     let r = c.requires in
@@ -20,9 +27,9 @@ returns-then-is_few-clause-order c = λ is. (
     let s = c.put.ensures in
     let few = c.args.few.now.items in
     settled c.find-place.result c.args.index few c.args.leaves xs (set xs c.from-position.result e) e
-    (opened few c.args.leaves xs (r.order is) c.find-place.result c.args.index place_low place_here)
+    (opened few c.args.leaves xs (r.heap is) c.find-place.result c.args.index place_low place_here)
     low
     (ap (entry_at (set xs c.from-position.result e)) (sym at)
     ∙ get_or-set_same xs c.from-position.result e nowhere (omega (arith, long, low, at)))
     (λ i off. get_or-set_other xs c.from-position.result i e nowhere (λ q. off (q ∙ at))) (length-set xs c.from-position.result e)
-    c.put.new.few.items r.own r.valid s.list s.here s.from s.to)
+    c.put.new.few.items r.own r.valid s.heap s.filled)

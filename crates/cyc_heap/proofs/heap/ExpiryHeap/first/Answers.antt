@@ -5,7 +5,7 @@ use Rattle.std.proofs.lemmas.List.{get_or_default}
 use Rattle.cyc_types.specs.Series.{never}
 use Rattle.cyc_heap.specs.declared.entry.Entry.{Entry}
 use Rattle.cyc_heap.specs.Tournament.{nowhere, key, index_of, entry_at}
-use Rattle.cyc_heap.specs.Order.{first_of}
+use Rattle.cyc_heap.specs.Few.{first_of}
 use Rattle.cyc_heap.specs.Heap.{IsEmpty, IsLeast}
 use Rattle.cyc_heap.proofs.Views.{IsTop, all_free, winner_none, few_none, top_least, winner_top, first_top, root_many, root_few}
 use Rattle.cyc_heap.proofs.Views.{winner_used, winner_free}
@@ -51,7 +51,7 @@ returns-then-self-clause-free c =
     let is = c.copied.ensures ∙ c.first.ensures.value ∙ ap (λ l. slice_get l 0) c.deref.ensures.value in
     let wanted : Entry → Type 0 = λ e. never < e.moment → IsEmpty c.args.self.now × (c.args.self.now.root ≡ None) in
     subst (λ o. IfSome o wanted) (sym is) (if_some i.few.items wanted (λ some _ unused.
-    absurd (let used = (h.ordered small).used 0 some in omega (arith, used, unused))))
+    absurd (let used = (h.heap small).used 0 some in omega (arith, used, unused))))
 
 pub returns-then-self-clause-used : goal.returns-then-self-clause-used
 returns-then-self-clause-used c =
@@ -63,7 +63,7 @@ returns-then-self-clause-used c =
     × (c.args.self.now.root ≡ Some (index_of e)) in
     subst (λ o. IfSome o wanted) (sym is) (if_some i.few.items wanted (λ some first used. (
       top_least i.is_few i.few.items i.leaves i.size i.given i.entries.items i.free.items i.room c.args.self.now h c.self.view_is
-          (entry_at i.few.items 0) (first_top i.few.items i.leaves i.entries.items (h.ordered small) some) used,
+          (entry_at i.few.items 0) (first_top i.few.items i.leaves i.entries.items (h.heap small) some) used,
       root_few i.is_few i.few.items i.leaves i.size i.given i.entries.items i.free.items i.room c.args.self.now h c.self.view_is
           small ∙ first,
     )))

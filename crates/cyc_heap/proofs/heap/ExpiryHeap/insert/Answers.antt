@@ -81,7 +81,7 @@ invariant_of-self c =
     let few_cap = c.self.invariant.4 in (
       after i.is_few c.make_room-self-inside.result i.few.items c.add.new.few.items i.leaves i.size i.given x.new.given
           i.entries.items
-          c.add.new.entries.items i.free.items x.new.free.items x.result c.new-entry.result h length_is f.order f.played f.here
+          c.add.new.entries.items i.free.items x.new.free.items x.result c.new-entry.result h length_is f.heap f.played f.here
           (λ unused. absurd (let valid = c.new-entry.ensures.valid in omega (arith, unused, valid))) others low more known
           (next_used i.is_few i.few.items i.leaves i.size i.given i.entries.items i.free.items x.result x.new.given
           x.new.free.items h

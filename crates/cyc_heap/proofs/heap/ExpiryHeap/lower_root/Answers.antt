@@ -33,7 +33,7 @@ invariant_of-self c =
           has
           c.lower_first.new.few.items c.lower_first.new.entries.items c.nanoseconds.result c.nanoseconds.ensures.valid f.long
           f.here
-          f.others (λ _. f.order) (λ many. absurd (false≢true (sym many ∙ small))),
+          f.others (λ _. f.heap) (λ many. absurd (false≢true (sym many ∙ small))),
       c.self.invariant.1,
       omega (arith, room, cap),
       c.self.invariant.3,

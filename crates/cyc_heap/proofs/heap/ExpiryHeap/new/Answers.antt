@@ -4,11 +4,11 @@ use Rattle.cyc_types.specs.Series.{never}
 use Rattle.cyc_types.specs.Expirations.{Expiration}
 use Rattle.cyc_heap.specs.declared.entry.Entry.{Entry}
 use Rattle.cyc_heap.specs.Tournament.{entry_at, slots, IsListed}
-use Rattle.cyc_heap.specs.Order.{first_of}
+use Rattle.cyc_heap.specs.Few.{first_of}
 use Rattle.cyc_heap.specs.Heap.{HeapView, new_heap}
 use Rattle.cyc_heap.proofs.Slots.{slots_more}
 use Rattle.cyc_heap.proofs.Growing.{none_listed}
-use Rattle.cyc_heap.proofs.Ordering.{no_few}
+use Rattle.cyc_heap.proofs.Settling.{no_few}
 use Rattle.cyc_heap.proofs.heap.ExpiryHeap.new.Goals as goal
 
 pub invariant_of-result : goal.invariant_of-result
@@ -28,7 +28,7 @@ invariant_of-result c =
         long = omega (arith, one);
         wide = omega arith;
         known = omega arith;
-        ordered = λ _. no_few c.in_ok-few.few.items 1 c.add_free.new.entries.items c.in_ok-few.ensures.items
+        heap = λ _. no_few c.in_ok-few.few.items 1 c.add_free.new.entries.items c.in_ok-few.ensures.items
             (λ i low. unused i low) (λ p past low. absurd (omega (arith, past, low, one)));
         played = λ no. absurd (false≢true (sym no));
         bare = λ i low _. f.unused i (omega (arith, none)) low;

@@ -52,7 +52,7 @@ invariant_of-self c =
     let few_cap = c.self.invariant.4 in
     let few_after = g.few_room in (
       after i.is_few c.is_few_now-self-inside.result i.few.items now.few.items i.leaves i.size i.given i.given i.entries.items
-          now.entries.items i.free.items c.push_reserved.new.self.items c.args.index free_entry h long g.ordered g.played here
+          now.entries.items i.free.items c.push_reserved.new.self.items c.args.index free_entry h long g.heap g.played here
           (λ _. refl) others mine (omega arith) known
           (subst (λ f. IsListed i.given now.entries.items f) (sym c.push_reserved.ensures.items)
           (freed i.given i.entries.items now.entries.items c.args.index free_entry (omega (arith, inside, known))

@@ -53,7 +53,7 @@ invariant_of-self c =
     let few_cap = c.self.invariant.4 in (
       after i.is_few i.is_few i.few.items c.change.new.few.items i.leaves i.size i.given i.given i.entries.items
           c.change.new.entries.items i.free.items i.free.items c.index-index.result e h
-          f.long f.order f.played f.here (λ unused. absurd (let valid = c.nanoseconds.ensures.valid in omega
+          f.long f.heap f.played f.here (λ unused. absurd (let valid = c.nanoseconds.ensures.valid in omega
           (arith, unused, valid))) f.others (omega (arith, mine, at)) (omega arith) known
           (moved i.given i.entries.items c.change.new.entries.items c.index-index.result e (omega (arith, inside, known))
           (omega (arith, long, inside, known)) (omega (arith, mine, at)) f.here

@@ -4,11 +4,11 @@ use Rattle.std.proofs.lemmas.List.{append-nil}
 use Rattle.cyc_types.specs.Expirations.{Expiration}
 use Rattle.cyc_heap.specs.declared.entry.Entry.{Entry}
 use Rattle.cyc_heap.specs.Tournament.{slots, winner_of}
-use Rattle.cyc_heap.specs.Order.{first_of}
+use Rattle.cyc_heap.specs.Few.{first_of}
 use Rattle.cyc_heap.specs.Heap.{HeapView, size_of}
 use Rattle.cyc_heap.proofs.Slots.{slots_kept, slots_more}
 use Rattle.cyc_heap.proofs.Views.{within, size_is, few_or_many, root_many, root_few}
-use Rattle.cyc_heap.proofs.Ordering.{wider}
+use Rattle.cyc_heap.proofs.Settling.{wider}
 use Rattle.cyc_heap.proofs.Growing.{kept_listed, same_root}
 use Rattle.cyc_heap.proofs.heap.ExpiryHeap.widen.Goals as goal
 
@@ -34,11 +34,11 @@ invariant_of-self c =
         long = omega (arith, long);
         wide = f.size;
         known = omega (arith, known, larger);
-        ordered = λ small. wider i.few.items i.leaves c.lay_out-self-inside.result i.entries.items
+        heap = λ small. wider i.few.items i.leaves c.lay_out-self-inside.result i.entries.items
             c.lay_out-self-inside.new.entries.items
-            (h.ordered small) f.more f.kept (λ k past low. let m = ap (λ (e : Entry). e.moment) (f.unused k past low) in omega
+            (h.heap small) f.more f.kept (λ k past low. let m = ap (λ (e : Entry). e.moment) (f.unused k past low) in omega
             (arith, m))
-            (f.blank small (h.ordered small).blank);
+            (f.blank small (h.heap small).blank);
         played = λ many. f.played many (h.played many);
         bare = λ k low none. elim (cases_lt k i.leaves) [
           | inl before ↦ (let same = f.kept k before in

@@ -1,6 +1,6 @@
 use Rattle.std.proofs.Common.{◌≡◌, length, vec_capacity}
 use Rattle.cyc_heap.proofs.Drawing.{IsDrawn}
-use Rattle.cyc_heap.proofs.between.order_few.Given as goal
+use Rattle.cyc_heap.proofs.between.draw_few.Given as goal
 
 abbrev pub invariant-loop-count : goal.invariant-loop-count
 invariant-loop-count l = record {

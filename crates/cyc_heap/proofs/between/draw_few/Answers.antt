@@ -5,9 +5,9 @@ use Rattle.std.proofs.lemmas.List.{length_push, get_or_default}
 use Rattle.cyc_types.specs.Series.{never}
 use Rattle.cyc_heap.specs.declared.entry.Entry.{Entry}
 use Rattle.cyc_heap.specs.Tournament.{nowhere, entry_at, index_of}
-use Rattle.cyc_heap.specs.Order.{StandsIn, HasNo}
+use Rattle.cyc_heap.specs.Few.{StandsIn, HasNo}
 use Rattle.cyc_heap.proofs.Drawing.{IsDrawn, winner_low, drawn_more, kept_drawn, drawn_order}
-use Rattle.cyc_heap.proofs.between.order_few.Goals as goal
+use Rattle.cyc_heap.proofs.between.draw_few.Goals as goal
 
 unused_of : (o : Option ℕ) (m : ℕ) → is_some o ≡ false → IfNone o (never < m) → never < m
 unused_of None m none h = h
@@ -29,8 +29,8 @@ returns-then-is_none-clause-kept c =
     (subst (StandsIn zs) few f.here)
     (λ i low none. f.others i (omega (arith, low, long, all)) (subst (HasNo i) (sym few) none))
 
-pub returns-then-is_none-clause-ordered : goal.returns-then-is_none-clause-ordered
-returns-then-is_none-clause-ordered c = λ _. (
+pub returns-then-is_none-clause-heap : goal.returns-then-is_none-clause-heap
+returns-then-is_none-clause-heap c = λ _. (
     let d = c.loop-count.invariant.drawn in
     let f = c.fill_leaves.ensures in
     let few = c.as_slice.ensures.value in

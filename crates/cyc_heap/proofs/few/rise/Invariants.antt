@@ -1,0 +1,13 @@
+use Rattle.std.proofs.Common.{◌<◌, length}
+use Rattle.cyc_heap.specs.Few.{IsHeapBut, IsSame}
+use Rattle.cyc_heap.proofs.few.rise.Given as goal
+
+abbrev pub invariant-loop-hole : goal.invariant-loop-hole
+invariant-loop-hole l = record {
+  low : l.hole < length l.few;
+  heap : IsHeapBut l.hole l.few;
+  same : IsSame l.fn.place l.fn.few l.hole l.few;
+}
+
+abbrev pub decreases-loop-hole : goal.decreases-loop-hole
+decreases-loop-hole l = l.hole

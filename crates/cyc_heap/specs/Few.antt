@@ -1,0 +1,99 @@
+-- Few expirations as a heap in an array (`cyp_heap` of sys/cyclic_impl.h), each with an index of its own.
+use Rattle.std.specs.Prelude.{◌≡◌, ◌≢◌, ℕ, suc, ◌+◌, ◌*◌, ◌<◌, ◌≤◌, ◌⊎◌, Bool, true, false, List, [], ◌∷◌, length, Option, Some, None}
+use Rattle.std.specs.Prelude.{if◌then◌else◌}
+use Rattle.cyc_types.specs.Limits.{cyclics}
+use Rattle.cyc_types.specs.Series.{never}
+use Rattle.cyc_heap.specs.declared.entry.Entry.{Entry}
+use Rattle.cyc_heap.specs.Tournament.{entry_at, index_of, free_entry, comes, winner_of, IsPlayed, IsListed}
+
+-- the most that are ever few (our own)
+abbrev pub most_few : ℕ
+most_few = 16
+
+-- c is one of the two places below a (`CYC_HEAP_LEFT` and `CYC_HEAP_RIGHT` of sys/cyclic_impl.h)
+abbrev pub IsChild : ℕ → ℕ → Type 0
+IsChild a c = (c ≡ 2 * a + 1) ⊎ (c ≡ 2 * a + 2)
+
+-- none comes before the one above it, and no two have one index
+pub record IsHeap (few : List Entry) : Type 0 where
+  pub rising : (a c : ℕ) → IsChild a c → c < length few → comes (entry_at few a) (entry_at few c) ≡ true
+  pub apart : (p q : ℕ) → p < length few → q < length few → p ≢ q → index_of (entry_at few p) ≢ index_of (entry_at few q)
+
+-- the same, but for this place, above and below which they are in order too
+pub record IsHeapBut (hole : ℕ) (few : List Entry) : Type 0 where
+  pub rising : (a c : ℕ) → IsChild a c → c < length few → a ≢ hole → c ≢ hole → comes (entry_at few a) (entry_at few c) ≡ true
+  pub bridge : (a c : ℕ) → IsChild a hole → IsChild hole c → c < length few → comes (entry_at few a) (entry_at few c) ≡ true
+  pub apart : (p q : ℕ) → p < length few → q < length few → p ≢ hole → q ≢ hole → p ≢ q
+      → index_of (entry_at few p) ≢ index_of (entry_at few q)
+
+-- the entry above this place doesn't come after this one
+abbrev pub IsBelow : Entry → ℕ → List Entry → Type 0
+IsBelow e place few = (a : ℕ) → IsChild a place → comes (entry_at few a) e ≡ true
+
+-- the entries but for the hole are the old ones but for that of this place
+pub record IsSame (place : ℕ) (old : List Entry) (hole : ℕ) (few : List Entry) : Type 0 where
+  pub long : length few ≡ length old
+  pub from : (p : ℕ) → p < length few → p ≢ hole → (q : ℕ) × (q < length old) × (q ≢ place) × (entry_at few p ≡ entry_at old q)
+  pub to : (q : ℕ) → q < length old → q ≢ place → (p : ℕ) × (p < length few) × (p ≢ hole) × (entry_at few p ≡ entry_at old q)
+
+-- the entries are this one, and the old ones but for that of this place
+pub record IsFilled (place : ℕ) (old : List Entry) (e : Entry) (few : List Entry) : Type 0 where
+  pub long : length few ≡ length old
+  pub here : (p : ℕ) × (p < length few) × (entry_at few p ≡ e)
+  pub from : (p : ℕ) → p < length few
+      → (entry_at few p ≡ e) ⊎ ((q : ℕ) × (q < length old) × (q ≢ place) × (entry_at few p ≡ entry_at old q))
+  pub to : (q : ℕ) → q < length old → q ≢ place → (p : ℕ) × (p < length few) × (entry_at few p ≡ entry_at old q)
+
+-- the entries are the old ones but for that of this place
+pub record IsWithout (place : ℕ) (old few : List Entry) : Type 0 where
+  pub from : (p : ℕ) → p < length few → (q : ℕ) × (q < length old) × (q ≢ place) × (entry_at few p ≡ entry_at old q)
+  pub to : (q : ℕ) → q < length old → q ≢ place → (p : ℕ) × (p < length few) × (entry_at few p ≡ entry_at old q)
+
+-- none of them has this index
+abbrev pub HasNo : ℕ → List Entry → Type 0
+HasNo i few = (p : ℕ) → p < length few → index_of (entry_at few p) ≢ i
+
+-- each of them stands in the leaf of its index
+abbrev pub StandsIn : List Entry → List Entry → Type 0
+StandsIn entries few = (p : ℕ) → p < length few → entry_at entries (index_of (entry_at few p)) ≡ entry_at few p
+
+-- all games are as if all leaves were free
+abbrev pub IsBlank : ℕ → List Entry → Type 0
+IsBlank leaves entries = (p : ℕ) → leaves ≤ p → p < length entries → entry_at entries p ≡ free_entry
+
+-- they are the leaves that have a moment, and these play no games
+pub record IsFew (few : List Entry) (leaves : ℕ) (entries : List Entry) : Type 0 where
+  pub heap : IsHeap few
+  pub low : (p : ℕ) → p < length few → index_of (entry_at few p) < leaves
+  pub own : StandsIn entries few
+  pub used : (p : ℕ) → p < length few → (entry_at few p).moment ≤ never
+  pub all : (i : ℕ) → i < leaves → (entry_at entries i).moment ≤ never
+      → (p : ℕ) × (p < length few) × (index_of (entry_at few p) ≡ i) × (entry_at few p ≡ entry_at entries i)
+  pub blank : IsBlank leaves entries
+
+-- a leaf with no moment is the free entry
+abbrev pub HasBareLeaves : ℕ → List Entry → Type 0
+HasBareLeaves leaves entries = (i : ℕ) → i < leaves → never < (entry_at entries i).moment → entry_at entries i ≡ free_entry
+
+-- the index of the first
+abbrev pub first_of : List Entry → Option ℕ
+first_of [] = None
+first_of (e ∷ es) = Some (index_of e)
+
+-- the index at the root: of the first where they are few, and of the last winner else
+abbrev pub root_of : Bool → List Entry → ℕ → List Entry → Option ℕ
+root_of is_few few leaves entries = (if is_few then first_of few else winner_of leaves entries)
+
+-- with so many leaves and indexes, of which so many were ever given: few are a heap, and many have played
+pub record IsTournament (is_few : Bool) (few : List Entry) (leaves size given : ℕ) (entries : List Entry)
+    (free : List ℕ) : Type 0 where
+  pub some : 0 < leaves
+  pub at_most : leaves ≤ cyclics
+  pub long : suc (length entries) ≡ 2 * leaves
+  pub wide : size ≤ leaves
+  pub known : given ≤ size
+  pub heap : is_few ≡ true → IsFew few leaves entries
+  pub played : is_few ≡ false → IsPlayed leaves entries
+  pub bare : HasBareLeaves leaves entries
+  pub listed : IsListed given entries free
+  pub unused : (i : ℕ) → given ≤ i → i < leaves → never < (entry_at entries i).moment
