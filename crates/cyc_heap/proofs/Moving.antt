@@ -129,8 +129,8 @@ module _ (few : List Entry) (hole next : ℕ) (within : next < length few) (in_h
             | inr apart ↦ elim (cases_eq c hole) [
               | inl at ↦ both (entry_at moved a) (entry_at moved c) (entry_at few a) (entry_at few next)
                   (other a apart) (ap (entry_at moved) at ∙ here) (h.bridge a next (subst (IsChild a) at is) child within)
-              | inr far ↦ both (entry_at moved a) (entry_at moved c) (entry_at few a) (entry_at few c) (other a apart) (other c far)
-                  (h.rising a c is (omega (arith, low_c, l)) apart far)
+              | inr far ↦ both (entry_at moved a) (entry_at moved c) (entry_at few a) (entry_at few c) (other a apart)
+                  (other c far) (h.rising a c is (omega (arith, low_c, l)) apart far)
             ]
           ];
           bridge = λ a c is_next is_c low_c.
@@ -154,8 +154,8 @@ module _ (few : List Entry) (hole next : ℕ) (within : next < length few) (in_h
                 (h.bridge next c child (subst (λ x. IsChild x c) at is) (omega (arith, low_c, l)))
             | inr apart ↦ elim (cases_eq c hole) [
               | inl at ↦ absurd (not_a (one_parent a next hole (subst (IsChild a) at is) child))
-              | inr far ↦ both (entry_at moved a) (entry_at moved c) (entry_at few a) (entry_at few c) (other a apart) (other c far)
-                  (h.rising a c is (omega (arith, low_c, l)) apart far)
+              | inr far ↦ both (entry_at moved a) (entry_at moved c) (entry_at few a) (entry_at few c) (other a apart)
+                  (other c far) (h.rising a c is (omega (arith, low_c, l)) apart far)
             ]
           ];
           bridge = λ a c is_next is_c low_c.
@@ -200,8 +200,8 @@ module _ (few : List Entry) (hole : ℕ) (e : Entry) (in_hole : hole < length fe
           | inr off ↦ elim (cases_eq c hole) [
             | inl at ↦ both (entry_at full a) (entry_at full c) (entry_at few a) e (at_other a off)
                 (ap (entry_at full) at ∙ at_hole) (below a (subst (IsChild a) at is))
-            | inr far ↦ both (entry_at full a) (entry_at full c) (entry_at few a) (entry_at few c) (at_other a off) (at_other c far)
-                (h.rising a c is (omega (arith, low_c, l)) off far)
+            | inr far ↦ both (entry_at full a) (entry_at full c) (entry_at few a) (entry_at few c) (at_other a off)
+                (at_other c far) (h.rising a c is (omega (arith, low_c, l)) off far)
           ]
         ];
         apart = λ p q low_p low_q ne. elim (cases_eq p hole) [

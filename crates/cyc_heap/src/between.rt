@@ -1,5 +1,5 @@
-//! From few in a heap to many that play, and back. Either way plays at most eight games for each of the few, however many leaves there
-//! are: while they are few, the games are as if all leaves were free.
+//! From few in a heap to many that play, and back. Either way plays at most eight games for each of the few, however many
+//! leaves there are: while they are few, the games are as if all leaves were free.
 
 ghost use Rattle.std.specs.Prelude.{◌≡◌, ◌≢◌, ◌<◌, ◌≤◌, ◌+◌, ◌*◌, ℕ, length, vec_capacity, true, false};
 ghost use Rattle.cyc_types.specs.Limits.{cyclics};
@@ -10,13 +10,13 @@ ghost use Rattle.cyc_heap.specs.Few.{most_few, HasNo, StandsIn, HasBareLeaves, I
 use crate::entry::Entry;
 use crate::games::enter;
 
-/// The most expirations that are few. More of them are worth their games, of which each change plays as many as there are halvings of
-/// the leaves.
+/// The most expirations that are few. More of them are worth their games, of which each change plays as many as there are
+/// halvings of the leaves.
 pub(crate) const MOST_FEW: usize = 16;
 
 /// Sets the leaves of the few free, and plays no game.
 fn free_leaves(few: &[Entry], entries: &mut Vec<Entry>)
-    requires list { IsHeap few.now }
+    requires heap { IsHeap few.now }
     requires low { (p : ℕ) → p < length few.now → index_of (entry_at few.now p) < length entries.old.items }
     ensures long { length entries.new.items ≡ length entries.old.items }
     ensures free { (p : ℕ) → p < length few.now → entry_at entries.new.items (index_of (entry_at few.now p)) ≡ free_entry }
@@ -31,7 +31,7 @@ fn free_leaves(few: &[Entry], entries: &mut Vec<Entry>)
 
 /// Puts the few into their leaves, and plays no game.
 fn fill_leaves(few: &[Entry], entries: &mut Vec<Entry>)
-    requires list { IsHeap few.now }
+    requires heap { IsHeap few.now }
     requires low { (p : ℕ) → p < length few.now → index_of (entry_at few.now p) < length entries.old.items }
     ensures long { length entries.new.items ≡ length entries.old.items }
     ensures here { StandsIn entries.new.items few.now }
@@ -48,7 +48,7 @@ fn fill_leaves(few: &[Entry], entries: &mut Vec<Entry>)
 fn enter_all(few: &[Entry], entries: &mut Vec<Entry>, leaves: usize)
     requires few { leaves ≤ cyclics }
     requires long { length entries.old.items + 1 ≡ 2 * leaves }
-    requires list { IsHeap few.now }
+    requires heap { IsHeap few.now }
     requires low { (p : ℕ) → p < length few.now → index_of (entry_at few.now p) < leaves }
     requires played { IsPlayed leaves entries.old.items }
     ensures long { length entries.new.items ≡ length entries.old.items }

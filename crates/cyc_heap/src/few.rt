@@ -1,5 +1,5 @@
-//! Few expirations as a heap in an array. Which of a few comes next mostly repeats itself, so the branches of a sift are foretold,
-//! where a game waits for what it compares.
+//! Few expirations as a heap in an array. Which of a few comes next mostly repeats itself, so the branches of a sift are
+//! foretold, where a game waits for what it compares.
 
 ghost use Rattle.std.specs.Prelude.{◌≡◌, ◌≢◌, ◌≤◌, ◌⊎◌, ℕ, ◌+◌, ◌*◌, ◌<◌, length, vec_capacity, true};
 ghost use Rattle.cyc_heap.specs.Tournament.{entry_at, index_of, comes};

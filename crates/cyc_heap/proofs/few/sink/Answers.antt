@@ -74,7 +74,8 @@ returns-clause-heap c =
     (apart_moved c.args.place c.args.few.now hole xs c.args.entry h.same c.requires.apart)
   where
     -- nothing stands below the last places
-    leaf : (p : ℕ) → IsChild c.loop-hole.hole p → p < length c.loop-hole.few → length c.loop-hole.few ≤ 2 * c.loop-hole.hole + 1 → ⊥
+    leaf : (p : ℕ) → IsChild c.loop-hole.hole p → p < length c.loop-hole.few
+        → length c.loop-hole.few ≤ 2 * c.loop-hole.hole + 1 → ⊥
     leaf p (inl eq) low past = omega (arith, eq, low, past)
     leaf p (inr eq) low past = omega (arith, eq, low, past)
 
