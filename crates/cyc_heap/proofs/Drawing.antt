@@ -1,5 +1,6 @@
 -- From few in a heap to many that play, and back.
-use Rattle.std.proofs.Common.{◌≡◌, ◌≢◌, ℕ, zero, suc, ◌+◌, ◌*◌, ◌<◌, ◌≤◌, ◌⊎◌, inl, inr, true, List, [], ◌∷◌, ◌++◌, length, refl}
+use Rattle.std.proofs.Common.{◌≡◌, ◌≢◌, ℕ, suc, ◌+◌, ◌*◌, ◌<◌, ◌≤◌, inl, inr, true, false, List, [], ◌∷◌, ◌++◌, length, take, refl}
+use Rattle.std.proofs.Common.{replicate}
 use Rattle.std.proofs.Common.{sym, ap, ◌∙◌}
 use Rattle.std.proofs.Common.{subst, subst₂, arith}
 use Rattle.std.proofs.lemmas.Bool.{cases_eq, cases_lt}
@@ -7,25 +8,11 @@ use Rattle.std.proofs.lemmas.List.{length_push, get_or_push, get_or_append_left}
 use Rattle.cyc_types.specs.Series.{never}
 use Rattle.cyc_heap.specs.declared.entry.Entry.{Entry}
 use Rattle.cyc_heap.specs.Tournament.{nowhere, entry_at, index_of, free_entry, comes, last_position, IsPlayed}
-use Rattle.cyc_heap.specs.Few.{HasNo, StandsIn, HasBareLeaves, IsHeap, IsFew}
+use Rattle.cyc_heap.specs.Few.{spread, shown, HasNo, StandsIn, HasBareLeaves, IsHeap, IsFew, IsFreeBehind, IsTree}
 use Rattle.cyc_heap.proofs.Playing.{winner_at, comes_self, comes_by_moment, least_of_all, any_of_all, one_of_all}
 use Rattle.cyc_heap.proofs.Views.{comes_later}
 use Rattle.cyc_heap.proofs.Moving.{child_low}
-
--- whether one of the first n has this index
-pub member : (n i : ℕ) (few : List Entry)
-    → ((p : ℕ) × (p < n) × (index_of (entry_at few p) ≡ i)) ⊎ ((p : ℕ) → p < n → index_of (entry_at few p) ≢ i)
-member zero i few = inr (λ p low. absurd (omega (arith, low)))
-member (suc n) i few = elim (member n i few) [
-  | inl (p, low, is) ↦ inl (p, omega (arith, low), is)
-  | inr none ↦ elim (cases_eq (index_of (entry_at few n)) i) [
-    | inl is ↦ inl (n, omega arith, is)
-    | inr off ↦ inr (λ p low. elim (cases_eq p n) [
-      | inl at ↦ subst (λ p. index_of (entry_at few p) ≢ i) (sym at) off
-      | inr else ↦ none p (omega (arith, low, else))
-    ])
-  ]
-]
+use Rattle.cyc_heap.proofs.Spreading.{member, stands, free_else, few_tree, many_tree}
 
 -- the leaf of one more has another entry
 module _ (few : List Entry) (n limit : ℕ) (ys zs : List Entry) (e : Entry) (heap : IsHeap few) (low : n < length few)
@@ -46,37 +33,6 @@ module _ (few : List Entry) (n limit : ℕ) (ys zs : List Entry) (e : Entry) (he
       → (i : ℕ) → i < limit → ((p : ℕ) → p < n + 1 → index_of (entry_at few p) ≢ i) → entry_at zs i ≡ entry_at ws i
   others_more ws same i within none =
       others i within (λ e. none n (omega arith) (sym e)) ∙ same i within (λ p less. none p (omega (arith, less)))
-
--- the few play
-module _ (few : List Entry) (leaves : ℕ) (xs ys : List Entry) (h : IsFew few leaves xs) (bare : HasBareLeaves leaves xs)
-    (long_xs : length xs + 1 ≡ 2 * leaves) (long : length ys ≡ length xs)
-    (free : (p : ℕ) → p < length few → entry_at ys (index_of (entry_at few p)) ≡ free_entry)
-    (others : (i : ℕ) → i < length xs → HasNo i few → entry_at ys i ≡ entry_at xs i) where
-  all_free : (p : ℕ) → p < length xs → entry_at ys p ≡ free_entry
-  all_free p low = elim (cases_lt p leaves) [
-    | inr past ↦ others p low (λ q within e. absurd (let m = h.low q within in omega (arith, m, e, past))) ∙ h.blank p past low
-    | inl leaf ↦ elim (member (length few) p few) [
-      | inl (q, within, is) ↦ ap (entry_at ys) (sym is) ∙ free q within
-      | inr none ↦ others p low none ∙ elim (cases_lt never (entry_at xs p).moment) [
-        | inl unused ↦ bare p leaf unused
-        | inr used ↦ absurd (let (q, within, is, _) = h.all p leaf used in none q within is)
-      ]
-    ]
-  ]
-
-  pub played_free : IsPlayed leaves ys
-  played_free g within = winner_at free_entry free_entry free_entry (entry_at ys (leaves + g)) (entry_at ys (2 * g))
-      (entry_at ys (2 * g + 1)) (all_free (leaves + g) (omega (arith, within, long_xs)))
-      (all_free (2 * g) (omega (arith, within, long_xs))) (all_free (2 * g + 1) (omega (arith, within, long_xs)))
-      (record { one = inl refl; left = comes_self free_entry; right = comes_self free_entry })
-
-  pub kept_playing : (zs : List Entry) → StandsIn zs few
-      → ((i : ℕ) → i < leaves → HasNo i few → entry_at zs i ≡ entry_at ys i)
-      → (i : ℕ) → i < leaves → entry_at zs i ≡ entry_at xs i
-  kept_playing zs here same i low = elim (member (length few) i few) [
-    | inl (p, within, is) ↦ ap (entry_at zs) (sym is) ∙ here p within ∙ sym (h.own p within) ∙ ap (entry_at xs) is
-    | inr none ↦ same i low none ∙ others i (omega (arith, low, long_xs)) none
-  ]
 
 -- of the leaves of xs, these few were taken out one by one, and ys is left
 pub record IsDrawn (leaves : ℕ) (xs : List Entry) (few : List Entry) (ys : List Entry) : Type 0 where
@@ -200,29 +156,73 @@ module _ (leaves : ℕ) (xs few ys zs : List Entry) (h : IsDrawn leaves xs few y
     | inr none ↦ others i low none ∙ h.rest i low none
   ]
 
-  module _ (some : 0 < leaves) (bare : HasBareLeaves leaves xs) (unused : never < (entry_at ys
-      (last_position leaves)).moment) where
-    bare_now : (i : ℕ) → i < leaves → entry_at ys i ≡ free_entry
-    bare_now i low = elim (member (length few) i few) [
-      | inl (p, within, is) ↦ ap (entry_at ys) (sym is) ∙ h.gone p within
-      | inr none ↦ (let same = h.rest i low none in
-          let m = ap (λ (e : Entry). e.moment) same in
-          let after = comes_later (entry_at ys (last_position leaves)) (entry_at ys i) (least_of_all leaves ys h.played i low) in
-          same ∙ bare i low (omega (arith, m, after, unused)))
+-- all were taken out
+module _ (leaves : ℕ) (xs few ys : List Entry) (h : IsDrawn leaves xs few ys) (some : 0 < leaves)
+    (long_xs : suc (length xs) ≡ 2 * leaves) (bare : HasBareLeaves leaves xs)
+    (unused : never < (entry_at ys (last_position leaves)).moment) where
+  bare_now : (i : ℕ) → i < leaves → entry_at ys i ≡ free_entry
+  bare_now i low = elim (member (length few) i few) [
+    | inl (p, within, is) ↦ ap (entry_at ys) (sym is) ∙ h.gone p within
+    | inr none ↦ (let same = h.rest i low none in
+        let m = ap (λ (e : Entry). e.moment) same in
+        let after = comes_later (entry_at ys (last_position leaves)) (entry_at ys i) (least_of_all leaves ys h.played i low) in
+        same ∙ bare i low (omega (arith, m, after, unused)))
+  ]
+
+  pub all_gone : IsFreeBehind 0 ys
+  all_gone p _ low = let l = h.long in
+      let (i, leaf, same) = any_of_all leaves ys h.played p (omega (arith, low, l, long_xs)) some in same ∙ bare_now i leaf
+
+  -- they stand in front
+  module _ (zs : List Entry) (long : length zs ≡ length ys) (within : length few ≤ length zs) (front : take (length few) zs ≡ few)
+      (behind : IsFreeBehind (length few) zs) where
+    wide : leaves ≤ length zs
+    wide = let l = h.long in omega (arith, l, long_xs, long)
+
+    pub front_tree : IsTree true (length few) leaves zs
+    front_tree = few_tree (length few) leaves zs (let l = h.long in omega (arith, l, long_xs, long)) within
+        (subst IsHeap (sym front) h.heap)
+        (subst (λ few. (p : ℕ) → p < length few → index_of (entry_at few p) < leaves) (sym front) h.low)
+        (subst (λ (few : List Entry). (p : ℕ) → p < length few → (entry_at few p).moment ≤ never) (sym front) h.used) behind
+
+    pub front_kept : (i : ℕ) → i < leaves → entry_at (shown true (length few) zs) i ≡ entry_at xs i
+    front_kept i low = ap (λ l. entry_at (spread l (replicate (length zs) free_entry)) i) front ∙ elim (member (length few) i few) [
+      | inl (p, at, is) ↦ ap (entry_at (spread few (replicate (length zs) free_entry))) (sym is)
+          ∙ stands few leaves (length zs) h.heap h.low h.used wide p at ∙ sym (h.own p at) ∙ ap (entry_at xs) is
+      | inr none ↦ (let w = wide in
+          free_else few leaves (length zs) h.heap h.low h.used wide i (omega (arith, low, w)) none
+          ∙ sym (bare_now i low) ∙ h.rest i low none)
     ]
 
-    pub drawn_order : length xs + 1 ≡ 2 * leaves → length zs ≡ length ys
-        → ((i : ℕ) → leaves ≤ i → i < length ys → entry_at zs i ≡ entry_at ys i) → IsFew few leaves zs
-    drawn_order long same_length games = let l = h.long in record {
-      heap = h.heap;
-      low = h.low;
-      own = here;
-      used = h.used;
-      all = λ i low has. elim (member (length few) i few) [
-        | inl (p, within, is) ↦ (p, within, is, sym (here p within) ∙ ap (entry_at zs) is)
-        | inr none ↦ absurd (let m = ap (λ (e : Entry). e.moment) (others i low none ∙ bare_now i low) in omega (arith, m, has))
-      ];
-      blank = λ p past low. games p past (omega (arith, low, same_length))
-          ∙ (let (i, leaf, same) = any_of_all leaves ys h.played p (omega (arith, low, same_length, l, long)) some in
-          same ∙ bare_now i leaf);
-    }
+-- the few play
+module _ (held leaves : ℕ) (es ys zs : List Entry) (t : IsTree true held leaves es) (long : length ys ≡ length es)
+    (free : IsFreeBehind 0 ys) where
+  pub played_free : IsPlayed leaves ys
+  played_free g within = let l = t.long in
+      winner_at free_entry free_entry free_entry (entry_at ys (leaves + g)) (entry_at ys (2 * g))
+      (entry_at ys (2 * g + 1)) (free (leaves + g) (omega arith) (omega (arith, within, l, long)))
+      (free (2 * g) (omega arith) (omega (arith, within, l, long))) (free (2 * g + 1) (omega arith) (omega (arith, within, l, long)))
+      (record { one = inl refl; left = comes_self free_entry; right = comes_self free_entry })
+
+  module _ (long_after : length zs ≡ length ys) (here : StandsIn zs (take held es)) (played : IsPlayed leaves zs)
+      (others : (i : ℕ) → i < leaves → HasNo i (take held es) → entry_at zs i ≡ entry_at ys i) where
+    f : IsFew (take held es) leaves (shown true held es)
+    f = t.heap refl
+
+    free_now : (i : ℕ) → i < leaves → HasNo i (take held es) → entry_at zs i ≡ free_entry
+    free_now i low none = let l = t.long in others i low none ∙ free i (omega arith) (omega (arith, low, l, long))
+
+    pub kept_playing : (i : ℕ) → i < leaves → entry_at zs i ≡ entry_at (shown true held es) i
+    kept_playing i low = elim (member (length (take held es)) i (take held es)) [
+      | inl (p, at, is) ↦ ap (entry_at zs) (sym is) ∙ here p at ∙ sym (f.own p at) ∙ ap (entry_at (shown true held es)) is
+      | inr none ↦ (let l = t.long in free_now i low none
+          ∙ sym (free_else (take held es) leaves (length es) f.heap f.low f.used (omega (arith, l)) i (omega (arith, low, l)) none))
+    ]
+
+    pub playing_tree : IsTree false 0 leaves zs
+    playing_tree = many_tree leaves zs (let l = t.long in omega (arith, l, long, long_after)) played
+        (λ i low unused. elim (member (length (take held es)) i (take held es)) [
+          | inl (p, at, is) ↦ absurd (let m = ap (λ (e : Entry). e.moment) (sym (ap (entry_at zs) is) ∙ here p at) in
+              let u = f.used p at in omega (arith, m, u, unused))
+          | inr none ↦ free_now i low none
+        ])

@@ -4,6 +4,9 @@ pub mod Views
 pub mod Listed
 pub mod Growing
 pub mod Moving
-pub mod Settling
+pub mod Spreading
+pub mod Sifting
 pub mod Drawing
 pub mod Changing
+pub mod Fronts
+pub mod Widening

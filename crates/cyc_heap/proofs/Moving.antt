@@ -1,12 +1,12 @@
 -- An entry of a heap moves into the hole above or below it, and an entry fills the hole.
-use Rattle.std.proofs.Common.{◌≡◌, ◌≢◌, ℕ, zero, suc, ◌+◌, ◌-◌, ◌*◌, ◌/◌, ◌%◌, ◌<◌, inl, inr, true, List, [], ◌∷◌, ◌++◌}
+use Rattle.std.proofs.Common.{◌≡◌, ◌≢◌, ℕ, zero, suc, ◌+◌, ◌-◌, ◌*◌, ◌/◌, ◌%◌, ◌<◌, inl, inr, true, List}
 use Rattle.std.proofs.Common.{length, refl, sym, ap, ◌∙◌, subst, subst₂, arith}
 use Rattle.std.proofs.Math.ListN.{set}
 use Rattle.std.proofs.lemmas.Bool.{cases_eq, cases_lt}
-use Rattle.std.proofs.lemmas.List.{length-set, length_push, get_or-set_same, get_or-set_other, get_or_append_left, get_or_push}
+use Rattle.std.proofs.lemmas.List.{length-set, get_or-set_same, get_or-set_other}
 use Rattle.cyc_heap.specs.declared.entry.Entry.{Entry}
 use Rattle.cyc_heap.specs.Tournament.{nowhere, entry_at, index_of, comes}
-use Rattle.cyc_heap.specs.Few.{IsChild, IsHeap, IsHeapBut, IsBelow, IsSame, IsFilled, IsWithout}
+use Rattle.cyc_heap.specs.Few.{IsChild, IsHeap, IsHeapBut, IsBelow, IsSame, IsFilled}
 use Rattle.cyc_heap.proofs.Playing.{comes_self, comes_trans}
 
 pub child_low : (a c : ℕ) → IsChild a c → a < c
@@ -250,48 +250,3 @@ pub apart_moved : (place : ℕ) (old : List Entry) (hole : ℕ) (few : List Entr
     → (p : ℕ) → p < length few → p ≢ hole → index_of (entry_at few p) ≢ index_of e
 apart_moved place old hole few e s apart p within off =
     let (q, inside, out, at) = s.from p within off in λ same. apart q inside out (ap index_of (sym at) ∙ same)
-
--- the last is taken off
-module _ (few : List Entry) (last : Entry) (h : IsHeap (few ++ last ∷ [])) where
-  stays : (p : ℕ) → p < length few → entry_at (few ++ last ∷ []) p ≡ entry_at few p
-  stays p low = get_or_append_left few (last ∷ []) nowhere p low
-
-  ends : entry_at (few ++ last ∷ []) (length few) ≡ last
-  ends = get_or_push few last nowhere (length few) refl
-
-  pub shorter : IsHeap few
-  shorter = let l = length_push few last in record {
-    rising = λ a c is low. (let low_a = child_low a c is in
-        subst₂ (λ a b. comes a b ≡ true) (stays a (omega (arith, low_a, low))) (stays c low)
-        (h.rising a c is (omega (arith, low, l))));
-    apart = λ p q low_p low_q ne. subst₂ (λ a b. index_of a ≢ index_of b) (stays p low_p) (stays q low_q)
-        (h.apart p q (omega (arith, low_p, l)) (omega (arith, low_q, l)) ne);
-  }
-
-  pub off_last : (p : ℕ) → p < length few → index_of (entry_at few p) ≢ index_of last
-  off_last p low = let l = length_push few last in
-      subst₂ (λ a b. index_of a ≢ index_of b) (stays p low) ends
-      (h.apart p (length few) (omega (arith, low, l)) (omega (arith, l)) (λ e. absurd (omega (arith, e, low))))
-
-  -- it was the one to take out
-  pub without_last : (place : ℕ) → place ≡ length few → IsWithout place (few ++ last ∷ []) few
-  without_last place is = let l = length_push few last in record {
-    from = λ p low. (p, omega (arith, low, l), (λ e. absurd (omega (arith, e, low, is))), sym (stays p low));
-    to = λ q low off. let inside : q < length few = omega (arith, low, l, off, is) in (q, inside, sym (stays q inside));
-  }
-
-  -- it fills the place of the one to take out
-  pub without_moved : (place : ℕ) (new : List Entry) → place < length few → IsFilled place few last new
-      → IsWithout place (few ++ last ∷ []) new
-  without_moved place new low f = let l = length_push few last in record {
-    from = λ p within. elim (f.from p within) [
-      | inl is ↦ (length few, omega (arith, l), (λ e. absurd (omega (arith, e, low))), is ∙ sym ends)
-      | inr (q, inside, off, at) ↦ (q, omega (arith, inside, l), off, at ∙ sym (stays q inside))
-    ];
-    to = λ q within off. elim (cases_lt q (length few)) [
-      | inl inside ↦ (let (p, low, at) = f.to q inside off in (p, low, at ∙ sym (stays q inside)))
-      | inr past ↦ (let (p, low, is) = f.here in
-          let at : q ≡ length few = omega (arith, within, l, past) in
-          (p, low, is ∙ sym (ap (entry_at (few ++ last ∷ [])) at ∙ ends)))
-    ];
-  }

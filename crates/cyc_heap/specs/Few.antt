@@ -1,10 +1,11 @@
 -- Few expirations as a heap in an array (`cyp_heap` of sys/cyclic_impl.h), each with an index of its own.
 use Rattle.std.specs.Prelude.{◌≡◌, ◌≢◌, ℕ, suc, ◌+◌, ◌*◌, ◌<◌, ◌≤◌, ◌⊎◌, Bool, true, false, List, [], ◌∷◌, length, Option, Some}
-use Rattle.std.specs.Prelude.{None, if◌then◌else◌}
+use Rattle.std.specs.Prelude.{None, if◌then◌else◌, take, replicate, slice_set}
 use Rattle.cyc_types.specs.Limits.{cyclics}
 use Rattle.cyc_types.specs.Series.{never}
 use Rattle.cyc_heap.specs.declared.entry.Entry.{Entry}
-use Rattle.cyc_heap.specs.Tournament.{entry_at, index_of, free_entry, comes, winner_of, IsPlayed, IsListed}
+use Rattle.cyc_heap.specs.Tournament.{entry_at, index_of, free_entry, comes, last_position, winner_of, IsPlayed}
+use Rattle.cyc_heap.specs.Tournament.{IsListed}
 
 -- the most that are ever few (our own)
 abbrev pub most_few : ℕ
@@ -44,16 +45,11 @@ pub record IsFilled (place : ℕ) (old : List Entry) (e : Entry) (few : List Ent
       → (entry_at few p ≡ e) ⊎ ((q : ℕ) × (q < length old) × (q ≢ place) × (entry_at few p ≡ entry_at old q))
   pub to : (q : ℕ) → q < length old → q ≢ place → (p : ℕ) × (p < length few) × (entry_at few p ≡ entry_at old q)
 
--- the entries are the old ones but for that of this place
-pub record IsWithout (place : ℕ) (old few : List Entry) : Type 0 where
-  pub from : (p : ℕ) → p < length few → (q : ℕ) × (q < length old) × (q ≢ place) × (entry_at few p ≡ entry_at old q)
-  pub to : (q : ℕ) → q < length old → q ≢ place → (p : ℕ) × (p < length few) × (entry_at few p ≡ entry_at old q)
-
 -- none of them has this index
 abbrev pub HasNo : ℕ → List Entry → Type 0
 HasNo i few = (p : ℕ) → p < length few → index_of (entry_at few p) ≢ i
 
--- each of them stands in the leaf of its index
+-- each of them is the leaf of its index
 abbrev pub StandsIn : List Entry → List Entry → Type 0
 StandsIn entries few = (p : ℕ) → p < length few → entry_at entries (index_of (entry_at few p)) ≡ entry_at few p
 
@@ -84,6 +80,39 @@ first_of (e ∷ es) = Some (index_of e)
 abbrev pub root_of : Bool → List Entry → ℕ → List Entry → Option ℕ
 root_of is_few few leaves entries = (if is_few then first_of few else winner_of leaves entries)
 
+-- these entries, with each of the few in the leaf of its index
+unfoldable pub spread : List Entry → List Entry → List Entry
+spread [] entries = entries
+spread (e ∷ few) entries = slice_set (spread few entries) (index_of e) e
+
+-- what the leaves have: where they are few, so many stand in front, each as if in its leaf, and all others are free
+abbrev pub shown : Bool → ℕ → List Entry → List Entry
+shown is_few held entries =
+    (if is_few then spread (take held entries) (replicate (length entries) free_entry) else entries)
+
+-- behind so many stand free entries
+abbrev pub IsFreeBehind : ℕ → List Entry → Type 0
+IsFreeBehind held entries = (p : ℕ) → held ≤ p → p < length entries → entry_at entries p ≡ free_entry
+
+-- where the least expiration stands: in front where they are few, and as the last winner else
+abbrev pub root_position : Bool → ℕ → ℕ
+root_position is_few leaves = (if is_few then 0 else last_position leaves)
+
+-- what stands in the entries: few as a heap in front, or leaves that have played
+pub record IsTree (is_few : Bool) (held leaves : ℕ) (entries : List Entry) : Type 0 where
+  pub long : suc (length entries) ≡ 2 * leaves
+  pub within : held ≤ length entries
+  pub heap : is_few ≡ true → IsFew (take held entries) leaves (shown is_few held entries)
+  pub behind : is_few ≡ true → IsFreeBehind held entries
+  pub played : is_few ≡ false → IsPlayed leaves (shown is_few held entries)
+  pub bare : HasBareLeaves leaves (shown is_few held entries)
+
+-- these leaves have another entry for this index, and no other is changed
+pub record IsChanged (leaves x : ℕ) (e : Entry) (xs ys : List Entry) : Type 0 where
+  pub long : length ys ≡ length xs
+  pub here : entry_at ys x ≡ e
+  pub others : (i : ℕ) → i < leaves → i ≢ x → entry_at ys i ≡ entry_at xs i
+
 -- with so many leaves and indexes, of which so many were ever given: few are a heap, and many have played
 pub record IsTournament (is_few : Bool) (few : List Entry) (leaves size given : ℕ) (entries : List Entry)
     (free : List ℕ) : Type 0 where
@@ -97,3 +126,11 @@ pub record IsTournament (is_few : Bool) (few : List Entry) (leaves size given : 
   pub bare : HasBareLeaves leaves entries
   pub listed : IsListed given entries free
   pub unused : (i : ℕ) → given ≤ i → i < leaves → never < (entry_at entries i).moment
+
+-- how many stand in front, with so many indexes given, and where the least expiration stands
+pub record IsFront (is_few : Bool) (held root leaves given : ℕ) (entries : List Entry) (free : List ℕ) : Type 0 where
+  pub first : root ≡ root_position is_few leaves
+  pub used : is_few ≡ true → held + length free ≤ given
+  pub most : is_few ≡ true → held ≤ most_few
+  pub none : is_few ≡ false → held ≡ 0
+  pub behind : is_few ≡ true → IsFreeBehind held entries

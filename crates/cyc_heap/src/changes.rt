@@ -1,153 +1,195 @@
 //! A change of one leaf: few expirations are sifted, and for many the games are played again.
 
-ghost use Rattle.std.specs.Prelude.{◌≡◌, ◌≢◌, ◌<◌, ◌≤◌, ◌+◌, ◌*◌, ℕ, length, vec_capacity, true, false};
+ghost use Rattle.std.specs.Prelude.{◌≡◌, ◌≢◌, ◌<◌, ◌≤◌, ◌+◌, ◌-◌, ◌*◌, ℕ, length, vec_capacity, true, false};
 ghost use Rattle.cyc_types.specs.Limits.{cyclics};
 ghost use Rattle.cyc_types.specs.Series.{never};
-ghost use Rattle.cyc_heap.specs.Tournament.{entry_at, index_of, free_entry, IsPlayed};
-ghost use Rattle.cyc_heap.specs.Few.{IsFew};
+ghost use Rattle.cyc_heap.specs.Tournament.{entry_at, index_of, free_entry};
+ghost use Rattle.cyc_heap.specs.Few.{shown, IsTree, IsChanged};
 
 use crate::entry::Entry;
-use crate::few::{find, put, put_first, take_out};
+use crate::few::{find, put, put_first};
 use crate::games::enter;
-use cyc_types::Index;
+use cyc_types::{Index, Moment};
 
-/// The expiration of an index becomes this one.
-pub(crate) fn change(
-    few: &mut Vec<Entry>,
-    entries: &mut Vec<Entry>,
-    is_few: bool,
-    leaves: usize,
-    index: Index,
-    entry: Entry,
-)
-    requires leaves { leaves ≤ cyclics }
-    requires long { length entries.old.items + 1 ≡ 2 * leaves }
-    requires index { index < leaves }
-    requires own { index_of entry ≡ index }
-    requires valid { entry.moment ≤ never }
-    requires used { (entry_at entries.old.items index).moment ≤ never }
-    requires played { is_few ≡ false → IsPlayed leaves entries.old.items }
-    requires heap { is_few ≡ true → IsFew few.old.items leaves entries.old.items }
-    ensures long { length entries.new.items ≡ length entries.old.items }
-    ensures here { entry_at entries.new.items index ≡ entry }
-    ensures others { (i : ℕ) → i < leaves → i ≢ index → entry_at entries.new.items i ≡ entry_at entries.old.items i }
-    ensures played { is_few ≡ false → IsPlayed leaves entries.new.items }
-    ensures heap { is_few ≡ true → IsFew few.new.items leaves entries.new.items }
-    ensures room { vec_capacity entries.new ≡ vec_capacity entries.old }
-    ensures few_room { vec_capacity few.new ≡ vec_capacity few.old }
+/// The entry with another moment.
+fn at_moment(entry: &Entry, moment: Moment) -> Entry
+    ensures value { result ≡ record entry.now { moment = moment } }
+    ensures valid { moment ≤ never }
 {
-    let position = usize::from(index.number());
-    if is_few {
-        let place = find(few.as_slice(), index);
-        entries[position] = Entry {
-            moment: entry.moment,
-            word: entry.word,
-        };
-        put(few, place, entry);
-    } else {
-        enter(entries, leaves, position, entry);
-    }
-}
-
-/// The first of few has this entry, of the same index.
-#[inline(always)]
-pub(crate) fn lower_first(
-    few: &mut Vec<Entry>,
-    entries: &mut Vec<Entry>,
-    leaves: usize,
-    entry: Entry,
-)
-    requires long { length entries.old.items + 1 ≡ 2 * leaves }
-    requires some { 0 < length few.old.items }
-    requires own { index_of entry ≡ index_of (entry_at few.old.items 0) }
-    requires valid { entry.moment ≤ never }
-    requires heap { IsFew few.old.items leaves entries.old.items }
-    ensures long { length entries.new.items ≡ length entries.old.items }
-    ensures here { entry_at entries.new.items (index_of entry) ≡ entry }
-    ensures others { (i : ℕ) → i < leaves → i ≢ index_of entry → entry_at entries.new.items i ≡ entry_at entries.old.items i }
-    ensures heap { IsFew few.new.items leaves entries.new.items }
-    ensures room { vec_capacity entries.new ≡ vec_capacity entries.old }
-    ensures few_room { vec_capacity few.new ≡ vec_capacity few.old }
-{
-    let position = usize::from(entry.index().number());
-    entries[position] = Entry {
-        moment: entry.moment,
+    Entry {
+        moment: moment.nanoseconds(),
         word: entry.word,
-    };
-    put_first(few, entry);
+    }
 }
 
-/// An index that was free has this expiration.
-pub(crate) fn add(
-    few: &mut Vec<Entry>,
+/// The first of few has another moment.
+#[inline(always)]
+pub(crate) fn lower_first(entries: &mut Vec<Entry>, held: usize, leaves: usize, moment: Moment)
+    requires leaves { leaves ≤ cyclics }
+    requires some { 0 < held }
+    requires tree { IsTree true held leaves entries.old.items }
+    ensures tree { IsTree true held leaves entries.new.items }
+    ensures changed { IsChanged leaves (index_of (entry_at entries.old.items 0)) (record (entry_at entries.old.items 0) { moment = moment })
+        (shown true held entries.old.items) (shown true held entries.new.items) }
+    ensures valid { moment ≤ never }
+    ensures room { vec_capacity entries.new ≡ vec_capacity entries.old }
+{
+    let entry = at_moment(&entries[0], moment);
+    put_first(entries, held, entry);
+}
+
+/// One of the few has another moment.
+fn change_few(entries: &mut Vec<Entry>, held: usize, leaves: usize, index: Index, moment: Moment)
+    requires leaves { leaves ≤ cyclics }
+    requires index { index < leaves }
+    requires used { (entry_at (shown true held entries.old.items) index).moment ≤ never }
+    requires tree { IsTree true held leaves entries.old.items }
+    ensures tree { IsTree true held leaves entries.new.items }
+    ensures changed { IsChanged leaves index (record (entry_at (shown true held entries.old.items) index) { moment = moment })
+        (shown true held entries.old.items) (shown true held entries.new.items) }
+    ensures valid { moment ≤ never }
+    ensures room { vec_capacity entries.new ≡ vec_capacity entries.old }
+{
+    let place = find(&entries.as_slice()[..held], index).unwrap();
+    let entry = at_moment(&entries[place], moment);
+    put(entries, held, place, entry);
+}
+
+/// One of many has another moment.
+pub(crate) fn change_many(entries: &mut Vec<Entry>, leaves: usize, index: Index, moment: Moment)
+    requires leaves { leaves ≤ cyclics }
+    requires index { index < leaves }
+    requires tree { IsTree false 0 leaves entries.old.items }
+    ensures tree { IsTree false 0 leaves entries.new.items }
+    ensures changed { IsChanged leaves index (record (entry_at entries.old.items index) { moment = moment })
+        entries.old.items entries.new.items }
+    ensures valid { moment ≤ never }
+    ensures room { vec_capacity entries.new ≡ vec_capacity entries.old }
+{
+    let position = usize::from(index.number());
+    let entry = at_moment(&entries[position], moment);
+    enter(entries, leaves, position, entry);
+}
+
+/// The expiration of this index has another moment.
+pub(crate) fn change(
     entries: &mut Vec<Entry>,
     is_few: bool,
+    held: usize,
     leaves: usize,
     index: Index,
-    entry: Entry,
+    moment: Moment,
 )
     requires leaves { leaves ≤ cyclics }
-    requires long { length entries.old.items + 1 ≡ 2 * leaves }
+    requires index { index < leaves }
+    requires used { (entry_at (shown is_few held entries.old.items) index).moment ≤ never }
+    requires many { is_few ≡ false → held ≡ 0 }
+    requires tree { IsTree is_few held leaves entries.old.items }
+    ensures tree { IsTree is_few held leaves entries.new.items }
+    ensures changed { IsChanged leaves index (record (entry_at (shown is_few held entries.old.items) index) { moment = moment })
+        (shown is_few held entries.old.items) (shown is_few held entries.new.items) }
+    ensures valid { moment ≤ never }
+    ensures room { vec_capacity entries.new ≡ vec_capacity entries.old }
+{
+    if is_few {
+        change_few(entries, held, leaves, index, moment);
+    } else {
+        change_many(entries, leaves, index, moment);
+    }
+}
+
+/// An index that was free has this expiration, where they are few.
+fn add_few(entries: &mut Vec<Entry>, held: usize, leaves: usize, index: Index, entry: Entry)
+    requires leaves { leaves ≤ cyclics }
     requires index { index < leaves }
     requires own { index_of entry ≡ index }
     requires valid { entry.moment ≤ never }
-    requires free { never < (entry_at entries.old.items index).moment }
-    requires space { is_few ≡ true → length few.old.items < vec_capacity few.old }
-    requires played { is_few ≡ false → IsPlayed leaves entries.old.items }
-    requires heap { is_few ≡ true → IsFew few.old.items leaves entries.old.items }
-    ensures long { length entries.new.items ≡ length entries.old.items }
-    ensures here { entry_at entries.new.items index ≡ entry }
-    ensures others { (i : ℕ) → i < leaves → i ≢ index → entry_at entries.new.items i ≡ entry_at entries.old.items i }
-    ensures played { is_few ≡ false → IsPlayed leaves entries.new.items }
-    ensures heap { is_few ≡ true → IsFew few.new.items leaves entries.new.items }
+    requires free { never < (entry_at (shown true held entries.old.items) index).moment }
+    requires space { held < length entries.old.items }
+    requires tree { IsTree true held leaves entries.old.items }
+    ensures tree { IsTree true (held + 1) leaves entries.new.items }
+    ensures changed { IsChanged leaves index entry (shown true held entries.old.items) (shown true (held + 1) entries.new.items) }
     ensures room { vec_capacity entries.new ≡ vec_capacity entries.old }
-    ensures few_room { vec_capacity few.new ≡ vec_capacity few.old }
 {
-    let position = usize::from(index.number());
+    put(entries, held + 1, held, entry);
+}
+
+/// An index that was free has this expiration. Says how many stand in front.
+pub(crate) fn add(
+    entries: &mut Vec<Entry>,
+    is_few: bool,
+    held: usize,
+    leaves: usize,
+    index: Index,
+    entry: Entry,
+) -> usize
+    requires leaves { leaves ≤ cyclics }
+    requires index { index < leaves }
+    requires own { index_of entry ≡ index }
+    requires valid { entry.moment ≤ never }
+    requires free { never < (entry_at (shown is_few held entries.old.items) index).moment }
+    requires space { held < length entries.old.items }
+    requires many { is_few ≡ false → held ≡ 0 }
+    requires tree { IsTree is_few held leaves entries.old.items }
+    ensures tree { IsTree is_few result leaves entries.new.items }
+    ensures changed { IsChanged leaves index entry (shown is_few held entries.old.items) (shown is_few result entries.new.items) }
+    ensures few { is_few ≡ true → result ≡ held + 1 }
+    ensures many { is_few ≡ false → result ≡ 0 }
+    ensures room { vec_capacity entries.new ≡ vec_capacity entries.old }
+{
     if is_few {
-        let place = few.len();
-        entries[position] = Entry {
-            moment: entry.moment,
-            word: entry.word,
-        };
-        few.push_reserved(Entry {
-            moment: entry.moment,
-            word: entry.word,
-        });
-        put(few, place, entry);
-    } else {
-        enter(entries, leaves, position, entry);
+        add_few(entries, held, leaves, index, entry);
+        return held + 1;
+    }
+    let position = usize::from(index.number());
+    enter(entries, leaves, position, entry);
+    0
+}
+
+/// The index is free from now on, where they are few: the last of them is put into its place (`cyclic_remove_here`).
+fn take_few(entries: &mut Vec<Entry>, held: usize, leaves: usize, index: Index)
+    requires leaves { leaves ≤ cyclics }
+    requires index { index < leaves }
+    requires used { (entry_at (shown true held entries.old.items) index).moment ≤ never }
+    requires tree { IsTree true held leaves entries.old.items }
+    ensures some { 0 < held }
+    ensures tree { IsTree true (held - 1) leaves entries.new.items }
+    ensures changed { IsChanged leaves index free_entry (shown true held entries.old.items) (shown true (held - 1) entries.new.items) }
+    ensures room { vec_capacity entries.new ≡ vec_capacity entries.old }
+{
+    let place = find(&entries.as_slice()[..held], index).unwrap();
+    let last = held - 1;
+    let moved = entries[last];
+    entries[last] = Entry::free();
+    if place < last {
+        put(entries, last, place, moved);
     }
 }
 
-/// The index is free from now on.
+/// The index is free from now on. Says how many stand in front.
 pub(crate) fn take(
-    few: &mut Vec<Entry>,
     entries: &mut Vec<Entry>,
     is_few: bool,
+    held: usize,
     leaves: usize,
     index: Index,
-)
+) -> usize
     requires leaves { leaves ≤ cyclics }
-    requires long { length entries.old.items + 1 ≡ 2 * leaves }
     requires index { index < leaves }
-    requires used { (entry_at entries.old.items index).moment ≤ never }
-    requires played { is_few ≡ false → IsPlayed leaves entries.old.items }
-    requires heap { is_few ≡ true → IsFew few.old.items leaves entries.old.items }
-    ensures long { length entries.new.items ≡ length entries.old.items }
-    ensures here { entry_at entries.new.items index ≡ free_entry }
-    ensures others { (i : ℕ) → i < leaves → i ≢ index → entry_at entries.new.items i ≡ entry_at entries.old.items i }
-    ensures played { is_few ≡ false → IsPlayed leaves entries.new.items }
-    ensures heap { is_few ≡ true → IsFew few.new.items leaves entries.new.items }
+    requires used { (entry_at (shown is_few held entries.old.items) index).moment ≤ never }
+    requires many { is_few ≡ false → held ≡ 0 }
+    requires tree { IsTree is_few held leaves entries.old.items }
+    ensures tree { IsTree is_few result leaves entries.new.items }
+    ensures changed { IsChanged leaves index free_entry (shown is_few held entries.old.items) (shown is_few result entries.new.items) }
+    ensures few { is_few ≡ true → result + 1 ≡ held }
+    ensures many { is_few ≡ false → result ≡ 0 }
     ensures room { vec_capacity entries.new ≡ vec_capacity entries.old }
-    ensures few_room { vec_capacity few.new ≡ vec_capacity few.old }
 {
-    let position = usize::from(index.number());
     if is_few {
-        let place = find(few.as_slice(), index);
-        take_out(few, place);
-        entries[position] = Entry::free();
-    } else {
-        enter(entries, leaves, position, Entry::free());
+        take_few(entries, held, leaves, index);
+        return held - 1;
     }
+    let position = usize::from(index.number());
+    enter(entries, leaves, position, Entry::free());
+    0
 }

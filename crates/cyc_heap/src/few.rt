@@ -1,24 +1,24 @@
 //! Few expirations as a heap in an array. Which of a few comes next mostly repeats itself, so the branches of a sift are
 //! foretold, where a game waits for what it compares.
 
-ghost use Rattle.std.specs.Prelude.{◌≡◌, ◌≢◌, ◌≤◌, ◌⊎◌, ℕ, ◌+◌, ◌*◌, ◌<◌, length, vec_capacity, true};
+ghost use Rattle.std.specs.Prelude.{◌≡◌, ◌≢◌, ◌≤◌, ◌⊎◌, ℕ, ◌+◌, ◌*◌, ◌<◌, length, take, drop, vec_capacity, true, IfSome, IfNone};
 ghost use Rattle.cyc_heap.specs.Tournament.{entry_at, index_of, comes};
-ghost use Rattle.cyc_heap.specs.Few.{IsHeap, IsHeapBut, IsBelow, IsSame, IsFilled, IsWithout};
+ghost use Rattle.cyc_heap.specs.Few.{IsHeap, IsHeapBut, IsBelow, IsSame, IsFilled, HasNo};
 
 use crate::entry::Entry;
 use cyc_types::Index;
 
-/// The place of the entry of this index, which is there (the walk of `cyclic_remove_here` and `cyclic_reprogram_here`).
-pub(crate) fn find(few: &[Entry], index: Index) -> usize
-    requires { (p : ℕ) × (p < length few.now) × (index_of (entry_at few.now p) ≡ index) }
-    ensures low { result < length few.now }
-    ensures here { index_of (entry_at few.now result) ≡ index }
+/// The place of the entry of this index, None where there is none (the walk of `cyclic_remove_here` and `cyclic_reprogram_here`).
+pub(crate) fn find(few: &[Entry], index: Index) -> Option<usize>
+    ensures none { IfNone result (HasNo index few.now) }
+    ensures some { IfSome result (λ p. (p < length few.now) × (index_of (entry_at few.now p) ≡ index)) }
 {
-    let mut place = 0;
-    while few[place].index().number() != index.number() {
-        place += 1;
+    for place in 0..few.len() {
+        if few[place].index().number() == index.number() {
+            return Some(place);
+        }
     }
-    place
+    None
 }
 
 /// The place below this one whose entry expires first, of a place that has one below it.
@@ -94,42 +94,35 @@ fn settle(few: &mut [Entry], place: usize, entry: Entry)
     sink(few, hole, entry);
 }
 
-/// The same in a vector.
-pub(crate) fn put(few: &mut Vec<Entry>, place: usize, entry: Entry)
-    requires place { place < length few.old.items }
-    requires heap { IsHeapBut place few.old.items }
-    requires apart { (p : ℕ) → p < length few.old.items → p ≢ place → index_of (entry_at few.old.items p) ≢ index_of entry }
-    ensures heap { IsHeap few.new.items }
-    ensures filled { IsFilled place few.old.items entry few.new.items }
-    ensures room { vec_capacity few.new ≡ vec_capacity few.old }
+/// The same among so many that stand in front.
+pub(crate) fn put(entries: &mut Vec<Entry>, held: usize, place: usize, entry: Entry)
+    requires held { held ≤ length entries.old.items }
+    requires place { place < held }
+    requires heap { IsHeapBut place (take held entries.old.items) }
+    requires apart { (p : ℕ) → p < held → p ≢ place → index_of (entry_at entries.old.items p) ≢ index_of entry }
+    ensures heap { IsHeap (take held entries.new.items) }
+    ensures filled { IsFilled place (take held entries.old.items) entry (take held entries.new.items) }
+    ensures behind { drop held entries.new.items ≡ drop held entries.old.items }
+    ensures long { length entries.new.items ≡ length entries.old.items }
+    ensures room { vec_capacity entries.new ≡ vec_capacity entries.old }
 {
-    settle(few.as_mut_slice(), place, entry);
+    let (front, _behind) = entries.as_mut_slice().split_at_mut(held);
+    settle(front, place, entry);
 }
 
 /// The same in place of the first.
 #[inline(always)]
-pub(crate) fn put_first(few: &mut Vec<Entry>, entry: Entry)
-    requires some { 0 < length few.old.items }
-    requires heap { IsHeapBut 0 few.old.items }
-    requires apart { (p : ℕ) → p < length few.old.items → p ≢ 0 → index_of (entry_at few.old.items p) ≢ index_of entry }
-    ensures heap { IsHeap few.new.items }
-    ensures filled { IsFilled 0 few.old.items entry few.new.items }
-    ensures room { vec_capacity few.new ≡ vec_capacity few.old }
+pub(crate) fn put_first(entries: &mut Vec<Entry>, held: usize, entry: Entry)
+    requires held { held ≤ length entries.old.items }
+    requires some { 0 < held }
+    requires heap { IsHeapBut 0 (take held entries.old.items) }
+    requires apart { (p : ℕ) → p < held → p ≢ 0 → index_of (entry_at entries.old.items p) ≢ index_of entry }
+    ensures heap { IsHeap (take held entries.new.items) }
+    ensures filled { IsFilled 0 (take held entries.old.items) entry (take held entries.new.items) }
+    ensures behind { drop held entries.new.items ≡ drop held entries.old.items }
+    ensures long { length entries.new.items ≡ length entries.old.items }
+    ensures room { vec_capacity entries.new ≡ vec_capacity entries.old }
 {
-    sink(few.as_mut_slice(), 0, entry);
-}
-
-/// Takes out the entry at this place: the last one is put into it (`cyclic_remove_here`).
-pub(crate) fn take_out(few: &mut Vec<Entry>, place: usize)
-    requires place { place < length few.old.items }
-    requires heap { IsHeap few.old.items }
-    ensures heap { IsHeap few.new.items }
-    ensures without { IsWithout place few.old.items few.new.items }
-    ensures room { vec_capacity few.new ≡ vec_capacity few.old }
-{
-    if let Some(last) = few.pop() {
-        if place < few.len() {
-            put(few, place, last);
-        }
-    }
+    let (front, _behind) = entries.as_mut_slice().split_at_mut(held);
+    sink(front, 0, entry);
 }

@@ -7,13 +7,14 @@ ghost use Rattle.cyc_types.specs.Limits.{cyclics};
 ghost use Rattle.cyc_types.specs.declared.refusal.Refusal.TheVariants.{Memory};
 ghost use Rattle.cyc_types.specs.Series.{never};
 ghost use Rattle.cyc_heap.specs.Tournament.{key, index_of, entry_at, free_entry, IsPlayed};
-ghost use Rattle.cyc_heap.specs.Few.{most_few, HasBareLeaves, IsBlank, IsFew};
+ghost use Rattle.cyc_heap.specs.Few.{most_few, root_position, shown, IsTree};
 ghost use Rattle.cyc_heap.specs.Heap.{HeapView, new_heap, size_of, len_of, expiration_at, with_moment, pair_of, IsEmpty, IsLeast};
 
 use crate::between::{MOST_FEW, draw_few, play_few};
-use crate::changes::{add, change, lower_first, take};
+use crate::changes::{add, change, change_many, lower_first, take};
 use crate::entry::Entry;
-use crate::games::{enter, play_all};
+use crate::few::find;
+use crate::games::play_all;
 use cyc_types::{CYCLICS, CyclicId, Index, Moment, Refusal};
 use std::alloc::Global;
 use std::marker::Model;
@@ -21,47 +22,53 @@ use std::marker::Model;
 /// The expirations of one CPU's cyclics by their indexes, with the least at hand (`cyp_heap` of sys/cyclic_impl.h).
 /// The size is the number of indexes; of equal moments the smaller id expires first (our own rule).
 ///
-/// Up to 16 expirations are a heap in an array, as the kernel's, and more are a tournament (our own): a change of any expiration sifts
-/// it among the few, or plays the games above its index again, at most eight. An insertion or a removal that leads from the one to the
-/// other plays as many for each of the few.
+/// Up to 16 expirations are a heap in an array, as the kernel's, and more are a tournament (our own): a change of any
+/// expiration sifts it among the few, or plays the games above its index again, at most eight. An insertion or a removal that
+/// leads from the one to the other plays as many for each of the few.
 #[derive(Drop)]
 pub struct ExpiryHeap {
-    /// The leaves, and after them the winner of each game.
+    /// Few expirations as a heap in front, and free entries behind; or the leaves, and after them the winner of each game.
     entries: Vec<Entry>,
-    /// The indexes that were given and are free again; the last is given first.
-    free: Vec<Index>,
-    /// How many indexes were ever given: the smaller ones. Those above are free too, and the smallest of them is given next where
-    /// none is free again.
-    given: usize,
-    /// The number of indexes.
-    size: usize,
-    /// The number of leaves: one for each index, and some for those to come, so that few calls of `widen` play all games.
-    leaves: usize,
-    /// The size for which memory was taken.
-    room: usize,
-    /// The expirations as a heap, while they are few. Then the games are as if all leaves were free.
-    few: Vec<Entry>,
+    /// Where the least expiration stands: in front, or as the last winner.
+    root: usize,
     /// Whether they are few. More than `MOST_FEW` play, until no more than three quarters of so many are left.
     is_few: bool,
+    /// How many stand in front.
+    held: usize,
+    /// The number of leaves: one for each index, and some for those to come, so that few calls of `widen` play all games.
+    leaves: usize,
+    /// The number of indexes.
+    size: usize,
+    /// The indexes that were given and are free again; the last is given first.
+    free: Vec<Index>,
+    /// How many indexes were ever given: the smaller ones. Those above are free too, and the smallest of them is given next
+    /// where none is free again.
+    given: usize,
+    /// The size for which memory was taken.
+    room: usize,
+    /// Where the few stand on their way to their leaves and back.
+    few: Vec<Entry>,
 }
 
 impl Model for ExpiryHeap {
-    ghost use Rattle.std.specs.Prelude.{suc, ◌*◌, ◌≤◌, vec_capacity};
+    ghost use Rattle.std.specs.Prelude.{suc, ◌*◌, ◌≤◌, vec_capacity, take};
     ghost use Rattle.cyc_heap.specs.Heap.{HeapView};
     ghost use Rattle.cyc_heap.specs.Tournament.{slots};
-    ghost use Rattle.cyc_heap.specs.Few.{most_few, IsTournament, root_of};
+    ghost use Rattle.cyc_heap.specs.Few.{most_few, shown, root_of, IsTournament, IsFront};
 
     ghost Value = { HeapView };
 
     ghost view = { λ h. record {
-      slots = slots h.size h.entries.items;
+      slots = slots h.size (shown h.is_few h.held h.entries.items);
       root =
-          root_of h.is_few h.few.items h.leaves h.entries.items;
+          root_of h.is_few (take h.held h.entries.items) h.leaves (shown h.is_few h.held h.entries.items);
       room = h.room;
     } };
 
-    ghost invariant = { λ h. IsTournament h.is_few h.few.items h.leaves h.size h.given h.entries.items h.free.items × (h.size ≤ h.room)
-        × (2 * h.room ≤ suc (vec_capacity h.entries)) × (h.room ≤ vec_capacity h.free) × (most_few ≤ vec_capacity h.few) };
+    ghost invariant = { λ h. IsTournament h.is_few (take h.held h.entries.items) h.leaves h.size h.given
+        (shown h.is_few h.held h.entries.items) h.free.items × IsFront h.is_few h.held h.root h.leaves h.given h.entries.items h.free.items
+        × (h.size ≤ h.room) × (2 * h.room ≤ suc (vec_capacity h.entries)) × (h.room ≤ vec_capacity h.free)
+        × (most_few ≤ vec_capacity h.few) };
 }
 
 impl ExpiryHeap {
@@ -76,13 +83,15 @@ impl ExpiryHeap {
         add_free(&mut entries, 1);
         Ok(ExpiryHeap {
             entries,
+            root: 0,
+            is_few: true,
+            held: 0,
+            leaves: 1,
+            size: 1,
             free,
             given: 0,
-            size: 1,
-            leaves: 1,
             room: 1,
             few,
-            is_few: true,
         })
     }
 
@@ -116,6 +125,7 @@ impl ExpiryHeap {
     {
         if size > self.size {
             self.leaves = lay_out(&mut self.entries, self.is_few, self.leaves, size);
+            self.root = root_at(self.is_few, self.leaves);
             self.size = size;
         }
     }
@@ -129,17 +139,19 @@ impl ExpiryHeap {
         ensures room { self.new.room ≡ self.old.room }
     {
         self.is_few = make_room(
-            self.few.as_slice(),
-            &mut self.entries,
-            self.is_few,
-            self.leaves,
-        );
-        let index = next_index(&mut self.free, &mut self.given);
-        let entry = Entry::new(moment, id, index);
-        add(
             &mut self.few,
             &mut self.entries,
             self.is_few,
+            &mut self.held,
+            self.leaves,
+        );
+        self.root = root_at(self.is_few, self.leaves);
+        let index = next_index(&mut self.free, &mut self.given);
+        let entry = Entry::new(moment, id, index);
+        self.held = add(
+            &mut self.entries,
+            self.is_few,
+            self.held,
             self.leaves,
             index,
             entry,
@@ -154,9 +166,19 @@ impl ExpiryHeap {
         ensures root { self.now.root ≡ option_map (λ found. found.0) result }
         ensures least { IfSome result (λ found. IsLeast self.now found.0 (record { moment = found.1; id = found.2 })) }
     {
-        let first = self.first()?;
+        let first = self.first();
         let moment = first.moment()?;
         Some((first.index(), moment, first.id()))
+    }
+
+    /// The entry at the root, which may be that of a free index.
+    #[inline(always)]
+    fn first(&self) -> Entry
+        ensures free { never < result.moment → IsEmpty self.now × (self.now.root ≡ None) }
+        ensures used { result.moment ≤ never → IsLeast self.now (index_of result) (key result)
+            × (self.now.root ≡ Some (index_of result)) }
+    {
+        self.entries[self.root]
     }
 
     /// Gives the least expiration another moment (`cyclic_downheap` in `cyclic_fire`).
@@ -166,20 +188,11 @@ impl ExpiryHeap {
         ensures room { self.new.room ≡ self.old.room }
     {
         if self.is_few {
-            let entry = Entry {
-                moment: moment.nanoseconds(),
-                word: self.few[0].word,
-            };
-            lower_first(&mut self.few, &mut self.entries, self.leaves, entry);
+            lower_first(&mut self.entries, self.held, self.leaves, moment);
             return;
         }
-        let root = self.entries[2 * (self.leaves - 1)];
-        let position = usize::from(root.index().number());
-        let entry = Entry {
-            moment: moment.nanoseconds(),
-            word: root.word,
-        };
-        enter(&mut self.entries, self.leaves, position, entry);
+        let index = self.entries[self.root].index();
+        change_many(&mut self.entries, self.leaves, index, moment);
     }
 
     /// Gives the expiration of this index another moment, earlier or later (`cyclic_reprogram_cyclic`).
@@ -188,42 +201,13 @@ impl ExpiryHeap {
         ensures slots { self.new.slots ≡ with_moment self.old.slots index moment }
         ensures room { self.new.room ≡ self.old.room }
     {
-        let held = self.entries[usize::from(index.number())];
-        self.set_moment(held, moment);
-    }
-
-    /// The entry at the root, which may be that of a free index; none where there are no few.
-    #[inline(always)]
-    fn first(&self) -> Option<Entry>
-        ensures none { IfNone result (IsEmpty self.now × (self.now.root ≡ None)) }
-        ensures free { IfSome result (λ e. never < e.moment → IsEmpty self.now × (self.now.root ≡ None)) }
-        ensures used { IfSome result (λ e. e.moment ≤ never → IsLeast self.now (index_of e) (key e)
-            × (self.now.root ≡ Some (index_of e))) }
-    {
-        if self.is_few {
-            return self.few.first().copied();
-        }
-        Some(self.entries[2 * (self.leaves - 1)])
-    }
-
-    /// The expiration that this entry holds has this moment from now on.
-    fn set_moment(&mut self, held: Entry, moment: Moment)
-        requires { expiration_at self.old (index_of held) ≡ Some (key held) }
-        ensures slots { self.new.slots ≡ with_moment self.old.slots (index_of held) moment }
-        ensures room { self.new.room ≡ self.old.room }
-    {
-        let index = held.index();
-        let entry = Entry {
-            moment: moment.nanoseconds(),
-            word: held.word,
-        };
         change(
-            &mut self.few,
             &mut self.entries,
             self.is_few,
+            self.held,
             self.leaves,
             index,
-            entry,
+            moment,
         );
     }
 
@@ -233,10 +217,10 @@ impl ExpiryHeap {
         ensures slots { self.new.slots ≡ slice_set self.old.slots index None }
         ensures room { self.new.room ≡ self.old.room }
     {
-        take(
-            &mut self.few,
+        self.held = take(
             &mut self.entries,
             self.is_few,
+            self.held,
             self.leaves,
             index,
         );
@@ -246,22 +230,38 @@ impl ExpiryHeap {
             &mut self.few,
             &mut self.entries,
             self.is_few,
+            &mut self.held,
             self.leaves,
             len,
         );
+        self.root = root_at(self.is_few, self.leaves);
     }
 
     /// The expiration of this index. None where the index is free or not below the size.
     pub fn at(&self, index: Index) -> Option<(Moment, CyclicId)>
         ensures { result ≡ option_map pair_of (expiration_at self.now index) }
     {
-        let position = usize::from(index.number());
-        if position >= self.size {
-            return None;
-        }
-        let entry = &self.entries[position];
+        let entry = self.leaf(index);
         let moment = entry.moment()?;
         Some((moment, entry.id()))
+    }
+
+    /// The entry of this index, one that is free where there is none.
+    fn leaf(&self, index: Index) -> Entry
+        ensures free { never < result.moment → expiration_at self.now index ≡ None }
+        ensures used { result.moment ≤ never → expiration_at self.now index ≡ Some (key result) }
+    {
+        if self.is_few {
+            return match find(&self.entries.as_slice()[..self.held], index) {
+                Some(place) => self.entries[place],
+                None => Entry::free(),
+            };
+        }
+        let position = usize::from(index.number());
+        if position >= self.size {
+            return Entry::free();
+        }
+        self.entries[position]
     }
 
     /// How many indexes are in use.
@@ -282,51 +282,73 @@ impl ExpiryHeap {
     }
 }
 
+/// Where the least expiration stands.
+fn root_at(is_few: bool, leaves: usize) -> usize
+    requires some { 0 < leaves }
+    requires few { leaves ≤ cyclics }
+    ensures { result ≡ root_position is_few leaves }
+{
+    if is_few { 0 } else { 2 * (leaves - 1) }
+}
+
 /// Where the few are as many as may be few, they play from now on. Says whether they are few, so that there is room for one
 /// more.
-fn make_room(few: &[Entry], entries: &mut Vec<Entry>, is_few: bool, leaves: usize) -> bool
-    requires most { leaves ≤ cyclics }
-    requires long { length entries.old.items + 1 ≡ 2 * leaves }
-    requires played { is_few ≡ false → IsPlayed leaves entries.old.items }
-    requires heap { is_few ≡ true → IsFew few.now leaves entries.old.items }
-    requires bare { HasBareLeaves leaves entries.old.items }
+fn make_room(
+    few: &mut Vec<Entry>,
+    entries: &mut Vec<Entry>,
+    is_few: bool,
+    held: &mut usize,
+    leaves: usize,
+) -> bool
+    requires leaves { leaves ≤ cyclics }
+    requires space { most_few ≤ vec_capacity few.old }
+    requires most { is_few ≡ true → held.old ≤ most_few }
+    requires none { is_few ≡ false → held.old ≡ 0 }
+    requires tree { IsTree is_few held.old leaves entries.old.items }
+    ensures tree { IsTree result held.new leaves entries.new.items }
     ensures long { length entries.new.items ≡ length entries.old.items }
-    ensures kept { (i : ℕ) → i < leaves → entry_at entries.new.items i ≡ entry_at entries.old.items i }
-    ensures played { result ≡ false → IsPlayed leaves entries.new.items }
-    ensures heap { result ≡ true → IsFew few.now leaves entries.new.items }
-    ensures space { result ≡ true → length few.now < most_few }
+    ensures kept { (i : ℕ) → i < leaves
+        → entry_at (shown result held.new entries.new.items) i ≡ entry_at (shown is_few held.old entries.old.items) i }
+    ensures few { result ≡ true → (is_few ≡ true) × (held.new ≡ held.old) × (held.new < most_few) }
+    ensures none { result ≡ false → held.new ≡ 0 }
     ensures room { vec_capacity entries.new ≡ vec_capacity entries.old }
+    ensures few_room { vec_capacity few.new ≡ vec_capacity few.old }
 {
     if !is_few {
         return false;
     }
-    if few.len() < MOST_FEW {
+    if *held < MOST_FEW {
         return true;
     }
-    play_few(few, entries, leaves);
+    play_few(few, entries, *held, leaves);
+    *held = 0;
     false
 }
 
-/// Whether they are few, now that so many are left. Where they were many and few are left, these are a heap from now on.
+/// Whether they are few, now that so many are left. Where they were many and few are left, these stand in front from now on.
 fn is_few_now(
     few: &mut Vec<Entry>,
     entries: &mut Vec<Entry>,
     is_few: bool,
+    held: &mut usize,
     leaves: usize,
     len: usize,
 ) -> bool
     requires some { 0 < leaves }
-    requires most { leaves ≤ cyclics }
-    requires long { length entries.old.items + 1 ≡ 2 * leaves }
-    requires played { is_few ≡ false → IsPlayed leaves entries.old.items }
-    requires heap { is_few ≡ true → IsFew few.old.items leaves entries.old.items }
-    requires own { (i : ℕ) → i < leaves → (entry_at entries.old.items i).moment ≤ never → index_of (entry_at entries.old.items i) ≡ i }
-    requires bare { HasBareLeaves leaves entries.old.items }
+    requires leaves { leaves ≤ cyclics }
+    requires within { len ≤ leaves }
     requires space { most_few ≤ vec_capacity few.old }
+    requires none { is_few ≡ false → held.old ≡ 0 }
+    requires own { (i : ℕ) → i < leaves → (entry_at (shown is_few held.old entries.old.items) i).moment ≤ never
+        → index_of (entry_at (shown is_few held.old entries.old.items) i) ≡ i }
+    requires tree { IsTree is_few held.old leaves entries.old.items }
+    ensures tree { IsTree result held.new leaves entries.new.items }
     ensures long { length entries.new.items ≡ length entries.old.items }
-    ensures kept { (i : ℕ) → i < leaves → entry_at entries.new.items i ≡ entry_at entries.old.items i }
-    ensures played { result ≡ false → IsPlayed leaves entries.new.items }
-    ensures heap { result ≡ true → IsFew few.new.items leaves entries.new.items }
+    ensures kept { (i : ℕ) → i < leaves
+        → entry_at (shown result held.new entries.new.items) i ≡ entry_at (shown is_few held.old entries.old.items) i }
+    ensures few { is_few ≡ true → (result ≡ true) × (held.new ≡ held.old) }
+    ensures drawn { is_few ≡ false → result ≡ true → (held.new ≤ len) × (held.new ≤ most_few) }
+    ensures none { result ≡ false → held.new ≡ 0 }
     ensures room { vec_capacity entries.new ≡ vec_capacity entries.old }
     ensures few_room { vec_capacity few.new ≡ vec_capacity few.old }
 {
@@ -337,7 +359,13 @@ fn is_few_now(
     if len > MOST_FEW / 4 * 3 {
         return false;
     }
-    draw_few(few, entries, leaves)
+    match draw_few(few, entries, leaves, len) {
+        Some(drawn) => {
+            *held = drawn;
+            true
+        }
+        None => false,
+    }
 }
 
 /// The index that is given next: the last of those that are free again, or else the smallest that was never given.
@@ -357,8 +385,8 @@ fn next_index(free: &mut Vec<Index>, given: &mut usize) -> Index
     }
 }
 
-/// Makes the leaves at least as many as this size, and says how many there are. Where they are too few they become twice as many, if
-/// the memory is there, and all games are played anew, or are blank while they are few. Takes no memory.
+/// Makes the leaves at least as many as this size, and says how many there are. Where they are too few they become twice as
+/// many, if the memory is there, and many play all games anew. Takes no memory.
 fn lay_out(entries: &mut Vec<Entry>, is_few: bool, leaves: usize, size: usize) -> usize
     requires some { 0 < leaves }
     requires few { leaves ≤ cyclics }
@@ -369,10 +397,13 @@ fn lay_out(entries: &mut Vec<Entry>, is_few: bool, leaves: usize, size: usize) -
     ensures more { leaves ≤ result }
     ensures few { result ≤ cyclics }
     ensures long { length entries.new.items + 1 ≡ 2 * result }
-    ensures kept { (i : ℕ) → i < leaves → entry_at entries.new.items i ≡ entry_at entries.old.items i }
-    ensures unused { (i : ℕ) → leaves ≤ i → i < result → entry_at entries.new.items i ≡ free_entry }
+    ensures front { is_few ≡ true → (p : ℕ) → p < length entries.old.items
+        → entry_at entries.new.items p ≡ entry_at entries.old.items p }
+    ensures behind { is_few ≡ true → (p : ℕ) → length entries.old.items ≤ p → p < length entries.new.items
+        → entry_at entries.new.items p ≡ free_entry }
+    ensures kept { is_few ≡ false → (i : ℕ) → i < leaves → entry_at entries.new.items i ≡ entry_at entries.old.items i }
+    ensures unused { is_few ≡ false → (i : ℕ) → leaves ≤ i → i < result → entry_at entries.new.items i ≡ free_entry }
     ensures played { is_few ≡ false → IsPlayed leaves entries.old.items → IsPlayed result entries.new.items }
-    ensures blank { is_few ≡ true → IsBlank leaves entries.old.items → IsBlank result entries.new.items }
     ensures room { vec_capacity entries.new ≡ vec_capacity entries.old }
 {
     if size <= leaves {
@@ -380,13 +411,13 @@ fn lay_out(entries: &mut Vec<Entry>, is_few: bool, leaves: usize, size: usize) -
     }
     let most = usize::from(CYCLICS).min(entries.capacity() / 2);
     let more = size.max(most.min(2 * leaves));
-    entries.truncate(leaves);
-    add_free(entries, more);
     if is_few {
         add_free(entries, 2 * more - 1);
-    } else {
-        play_all(entries);
+        return more;
     }
+    entries.truncate(leaves);
+    add_free(entries, more);
+    play_all(entries);
     more
 }
 

@@ -1,26 +1,45 @@
-use Rattle.std.proofs.Common.{◌≡◌, refl, sym, ap, ◌∙◌, arith}
-use Rattle.std.proofs.Math.ListN.{set}
-use Rattle.std.proofs.lemmas.List.{length-set, get_or-set_same, get_or-set_other}
+use Rattle.std.proofs.Common.{◌≡◌, ℕ, true, List, refl, sym, ap, ◌∙◌, subst, arith}
+use Rattle.std.proofs.lemmas.List.{get_or_default}
 use Rattle.cyc_heap.specs.declared.entry.Entry.{Entry}
 use Rattle.cyc_heap.specs.Tournament.{nowhere, entry_at, index_of}
-use Rattle.cyc_heap.proofs.Settling.{opened, settled}
+use Rattle.cyc_heap.specs.Few.{shown, IsChanged}
+use Rattle.cyc_heap.proofs.Sifting.{changed_tree, changed_leaf}
 use Rattle.cyc_heap.proofs.changes.lower_first.Goals as goal
 
-pub returns-clause-heap : goal.returns-clause-heap
-returns-clause-heap c =
-    let xs = c.args.entries.now.items in
-    let e : Entry = record { moment = c.args.entry.moment; word = c.args.entry.word } in
-    let r = c.requires in
-    let long = r.long in
-    let own = r.own in
-    let low = r.heap.low 0 r.some in
-    let at : c.from-position.result ≡ index_of e = c.from-position.ensures ∙ c.number.ensures.value ∙ c.index.ensures in
-    let s = c.put_first.ensures in
-    let few = c.args.few.now.items in
-    settled 0 (index_of e) few c.args.leaves xs (set xs c.from-position.result e) e
-    (opened few c.args.leaves xs r.heap 0 (index_of e) r.some (sym own))
-    (omega (arith, low, own))
-    (ap (entry_at (set xs c.from-position.result e)) (sym at)
-    ∙ get_or-set_same xs c.from-position.result e nowhere (omega (arith, long, low, at, own)))
-    (λ i off. get_or-set_other xs c.from-position.result i e nowhere (λ q. off (q ∙ at))) (length-set xs c.from-position.result e)
-    c.put_first.new.few.items refl r.valid s.heap s.filled
+pub returns-clause-tree : goal.returns-clause-tree
+returns-clause-tree c =
+    let f = c.put_first.ensures in
+    let es = c.args.entries.now.items in
+    let within = c.requires.tree.within in
+    let some = c.requires.some in
+    let x = c.index.result.now in
+    let at = get_or_default es 0 nowhere x (omega (arith, some, within)) ∙ sym c.index.ensures in
+    let e = c.at_moment-entry.ensures in
+    let m = ap (λ (e : Entry). e.moment) e.value in
+    let valid = e.valid in
+    changed_tree c.args.held c.args.leaves 0 (index_of (entry_at es 0)) es c.put_first.new.entries.items
+    c.at_moment-entry.result c.requires.tree some refl f.long f.heap f.filled f.behind
+    (ap index_of e.value ∙ ap index_of (sym at)) (omega (arith, m, valid))
+
+pub returns-clause-changed : goal.returns-clause-changed
+returns-clause-changed c =
+    let f = c.put_first.ensures in
+    let es = c.args.entries.now.items in
+    let within = c.requires.tree.within in
+    let some = c.requires.some in
+    let x = c.index.result.now in
+    let at = get_or_default es 0 nowhere x (omega (arith, some, within)) ∙ sym c.index.ensures in
+    let e = c.at_moment-entry.ensures in
+    let m = ap (λ (e : Entry). e.moment) e.value in
+    let valid = e.valid in
+    let old : List Entry = shown true c.args.held es in
+    let new : List Entry = shown true c.args.held c.put_first.new.entries.items in
+    let word : c.at_moment-entry.result ≡ record (entry_at es 0) { moment = c.args.moment }
+    = e.value ∙ ap (λ (e : Entry). with_moment e c.args.moment) (sym at) in
+    subst (λ e. IsChanged c.args.leaves (index_of (entry_at es 0)) e old new) word
+    (changed_leaf c.args.held c.args.leaves 0 (index_of (entry_at es 0)) es c.put_first.new.entries.items
+    c.at_moment-entry.result c.requires.tree some refl f.long f.heap f.filled f.behind
+    (ap index_of e.value ∙ ap index_of (sym at)) (omega (arith, m, valid)))
+  where
+    with_moment : Entry → ℕ → Entry
+    with_moment e m = record e { moment = m }

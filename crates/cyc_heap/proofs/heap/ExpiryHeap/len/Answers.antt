@@ -1,11 +1,13 @@
-use Rattle.std.proofs.Common.{arith}
+use Rattle.std.proofs.Common.{take, arith}
+use Rattle.cyc_heap.specs.Few.{shown}
 use Rattle.cyc_heap.proofs.Views.{size_is, len_is}
 use Rattle.cyc_heap.proofs.heap.ExpiryHeap.len.Goals as goal
 
 pub returns-clause-value : goal.returns-clause-value
 returns-clause-value c =
     let i = c.self.inside in
-    let len = len_is i.is_few i.few.items i.leaves i.size i.given i.entries.items i.free.items i.room c.args.self.now
+    let len = len_is i.is_few (take i.held i.entries.items) i.leaves i.size i.given
+    (shown i.is_few i.held i.entries.items) i.free.items i.room c.args.self.now
     c.self.invariant.0 c.self.view_is in
     let free = c.len.ensures in
     omega (arith, len, free)
@@ -13,7 +15,8 @@ returns-clause-value c =
 pub returns-clause-few : goal.returns-clause-few
 returns-clause-few c =
     let i = c.self.inside in
-    let size = size_is i.is_few i.few.items i.leaves i.size i.given i.entries.items i.free.items i.room c.args.self.now
+    let size = size_is i.is_few (take i.held i.entries.items) i.leaves i.size i.given
+    (shown i.is_few i.held i.entries.items) i.free.items i.room c.args.self.now
     c.self.invariant.0 c.self.view_is in
     let known = c.self.invariant.0.known in
     omega (arith, size, known)

@@ -1,132 +1,132 @@
-use Rattle.std.proofs.Common.{◌≡◌, ◌≢◌, ◌<◌, ◌-◌, ◌*◌, ℕ, IsSome, IfSome, sym, ap, ◌∙◌, subst, arith}
-use Rattle.std.proofs.lemmas.Bool.{false≢true}
+use Rattle.std.proofs.Common.{◌≡◌, take, IfSome, sym, ap, ◌∙◌, subst, subst₂, arith}
 use Rattle.std.proofs.lemmas.List.{get_or_default}
 use Rattle.cyc_heap.specs.Tournament.{nowhere, entry_at, index_of, slots}
+use Rattle.cyc_heap.specs.Few.{shown, IsTree, IsChanged}
 use Rattle.cyc_heap.specs.Heap.{with_moment}
-use Rattle.cyc_heap.proofs.Views.{root_few}
-use Rattle.cyc_heap.proofs.Changing.{some_first, first_held, winner_held, leaf_low, changed, changed_slots}
+use Rattle.cyc_heap.proofs.Changing.{leaf_low}
+use Rattle.cyc_heap.proofs.Fronts.{tree, tree_few, root_low, root_is, root_held, leaf_is, tournament_after, front_after, slots_after}
 use Rattle.cyc_heap.proofs.heap.ExpiryHeap.lower_root.Goals as goal
 
-pub lower_first-requires-clause-some : goal.lower_first-requires-clause-some
-lower_first-requires-clause-some c =
+pub lower_first-requires-clause-tree : goal.lower_first-requires-clause-tree
+lower_first-requires-clause-tree c =
     let i = c.self.inside in
-    let h = c.self.invariant.0 in
-    some_first i.few.items (subst IsSome
-    (root_few i.is_few i.few.items i.leaves i.size i.given i.entries.items i.free.items i.room c.args.self.now h c.self.view_is
-    c.if-self.true) c.requires)
+    tree_few i.is_few i.held i.leaves i.entries.items c.if-self.true
+    (tree i.is_few i.held i.root i.leaves i.size i.given i.entries.items i.free.items c.self.invariant.0 c.self.invariant.1)
 
 pub invariant_of-self : goal.invariant_of-self
 invariant_of-self c =
     let i = c.self.inside in
-    let h = c.self.invariant.0 in
+    let es = i.entries.items in
+    let x = entry_at es 0 in
     let small = c.if-self.true in
-    let x = c.index.result.now in
-    let (has, root) = first_held i.is_few i.few.items i.leaves i.size i.given i.entries.items i.free.items i.room c.args.self.now
-    h c.self.view_is x
-    c.requires small (λ some. get_or_default i.few.items 0 nowhere x some ∙ sym c.index.ensures) in
+    let (has, root) = root_held i.is_few i.held i.root i.leaves i.size i.given es i.free.items c.self.invariant.0
+    c.self.invariant.1 i.room c.args.self.now c.self.view_is c.requires x (ap (entry_at es) (root_is i.is_few i.held i.root i.leaves
+    i.size i.given es i.free.items c.self.invariant.0 c.self.invariant.1 small)) in
     let f = c.lower_first.ensures in
+    let new = c.lower_first.new.entries.items in
+    let changed = subst (λ b. IsChanged i.leaves (index_of x) (record x { moment = c.args.moment }) (shown b i.held es)
+    (shown b i.held new)) (sym small) f.changed in
+    let after = subst (λ b. IsTree b i.held i.leaves new) (sym small) f.tree in
     let room = f.room in
-    let cap = c.self.invariant.2 in
-    let few_room = f.few_room in
-    let few_cap = c.self.invariant.4 in (
-      changed i.is_few i.few.items i.leaves i.size i.given i.entries.items i.free.items i.room c.args.self.now h c.self.view_is x
-          has
-          c.lower_first.new.few.items c.lower_first.new.entries.items c.nanoseconds.result c.nanoseconds.ensures.valid f.long
-          f.here
-          f.others (λ _. f.heap) (λ many. absurd (false≢true (sym many ∙ small))),
-      c.self.invariant.1,
+    let cap = c.self.invariant.3 in (
+      tournament_after i.is_few i.held i.root i.leaves i.size i.given es i.free.items c.self.invariant.0 c.self.invariant.1
+          i.room c.args.self.now c.self.view_is x has new c.args.moment f.valid changed after,
+      front_after i.is_few i.held i.root i.leaves i.size i.given es i.free.items c.self.invariant.0 c.self.invariant.1
+          i.room c.args.self.now c.self.view_is x has new c.args.moment f.valid changed after,
+      c.self.invariant.2,
       omega (arith, room, cap),
-      c.self.invariant.3,
-      omega (arith, few_room, few_cap),
+      c.self.invariant.4,
+      c.self.invariant.5,
     )
 
 pub returns-then-self-clause-slots : goal.returns-then-self-clause-slots
 returns-then-self-clause-slots c =
     let i = c.self.inside in
-    let h = c.self.invariant.0 in
+    let es = i.entries.items in
+    let x = entry_at es 0 in
     let small = c.if-self.true in
-    let x = c.index.result.now in
-    let (has, root) = first_held i.is_few i.few.items i.leaves i.size i.given i.entries.items i.free.items i.room c.args.self.now
-    h c.self.view_is x
-    c.requires small (λ some. get_or_default i.few.items 0 nowhere x some ∙ sym c.index.ensures) in
+    let (has, root) = root_held i.is_few i.held i.root i.leaves i.size i.given es i.free.items c.self.invariant.0
+    c.self.invariant.1 i.room c.args.self.now c.self.view_is c.requires x (ap (entry_at es) (root_is i.is_few i.held i.root i.leaves
+    i.size i.given es i.free.items c.self.invariant.0 c.self.invariant.1 small)) in
     let f = c.lower_first.ensures in
-    subst (λ root. IfSome root (λ index. slots i.size c.lower_first.new.entries.items
+    let new = c.lower_first.new.entries.items in
+    let changed = subst (λ b. IsChanged i.leaves (index_of x) (record x { moment = c.args.moment }) (shown b i.held es)
+    (shown b i.held new)) (sym small) f.changed in
+    let after = subst (λ b. IsTree b i.held i.leaves new) (sym small) f.tree in
+    subst (λ root. IfSome root (λ index. slots i.size (shown i.is_few i.held new)
     ≡ with_moment c.args.self.now.slots index c.args.moment)) (sym root)
-    (changed_slots i.is_few i.few.items i.leaves i.size i.given i.entries.items i.free.items i.room c.args.self.now h
-    c.self.view_is x has
-    c.lower_first.new.few.items c.lower_first.new.entries.items c.nanoseconds.result c.nanoseconds.ensures.valid f.long f.here
-    f.others
-    ∙ ap (with_moment c.args.self.now.slots (index_of x)) c.nanoseconds.ensures.value)
+    (slots_after i.is_few i.held i.root i.leaves i.size i.given es i.free.items c.self.invariant.0 c.self.invariant.1
+    i.room c.args.self.now c.self.view_is x has new c.args.moment f.valid changed after)
 
-pub enter-requires-clause-index : goal.enter-requires-clause-index
-enter-requires-clause-index c =
+pub change_many-requires-clause-index : goal.change_many-requires-clause-index
+change_many-requires-clause-index c =
     let i = c.self.inside in
-    let h = c.self.invariant.0 in
-    let long = h.long in
-    let filled = h.some in
-    let many = c.if-self.false in
-    let x = c.index-2.result.now in
-    let (has, root) = winner_held i.is_few i.few.items i.leaves i.size i.given i.entries.items i.free.items i.room
-    c.args.self.now h c.self.view_is x
-    c.requires many (get_or_default i.entries.items (2 * (i.leaves - 1)) nowhere x (omega (arith, long, filled))
-    ∙ sym c.index-2.ensures) in
-    let at : c.from-position.result ≡ index_of x = c.from-position.ensures ∙ c.number.ensures.value ∙ c.index-3.ensures in
-    let low = leaf_low i.is_few i.few.items i.leaves i.size i.given i.entries.items i.free.items i.room c.args.self.now h
-    c.self.view_is x has
-    i.few.items i.entries.items c.nanoseconds-2.result c.nanoseconds-2.ensures.valid in
-    omega (arith, low, at)
+    let es = i.entries.items in
+    let x = c.index.result.now in
+    let low = root_low i.is_few i.held i.root i.leaves i.size i.given es i.free.items c.self.invariant.0 c.self.invariant.1 in
+    let (has, root) = root_held i.is_few i.held i.root i.leaves i.size i.given es i.free.items c.self.invariant.0
+    c.self.invariant.1 i.room c.args.self.now c.self.view_is c.requires x
+    (get_or_default es i.root nowhere x low ∙ sym c.index.ensures) in
+    let at = c.index-index.ensures in
+    let n = leaf_low i.is_few (take i.held es) i.leaves i.size i.given (shown i.is_few i.held es) i.free.items i.room
+    c.args.self.now c.self.invariant.0 c.self.view_is x has (take i.held es) es 0 (omega arith) in
+    omega (arith, n, at)
 
 pub invariant_of-self-2 : goal.invariant_of-self-2
 invariant_of-self-2 c =
     let i = c.self.inside in
-    let h = c.self.invariant.0 in
-    let long = h.long in
-    let filled = h.some in
+    let es = i.entries.items in
     let many = c.if-self.false in
-    let x = c.index-2.result.now in
-    let (has, root) = winner_held i.is_few i.few.items i.leaves i.size i.given i.entries.items i.free.items i.room
-    c.args.self.now h c.self.view_is x
-    c.requires many (get_or_default i.entries.items (2 * (i.leaves - 1)) nowhere x (omega (arith, long, filled))
-    ∙ sym c.index-2.ensures) in
-    let at : c.from-position.result ≡ index_of x = c.from-position.ensures ∙ c.number.ensures.value ∙ c.index-3.ensures in
-    let f = c.enter.ensures in
-    let here = ap (entry_at c.enter.new.entries.items) (sym at) ∙ f.here in
-    let others = subst (λ n. (k : ℕ) → k < i.leaves → k ≢ n → entry_at c.enter.new.entries.items k ≡ entry_at i.entries.items k)
-    at
-    f.others in
+    let low = root_low i.is_few i.held i.root i.leaves i.size i.given es i.free.items c.self.invariant.0 c.self.invariant.1 in
+    let x = c.index.result.now in
+    let (has, root) = root_held i.is_few i.held i.root i.leaves i.size i.given es i.free.items c.self.invariant.0
+    c.self.invariant.1 i.room c.args.self.now c.self.view_is c.requires x
+    (get_or_default es i.root nowhere x low ∙ sym c.index.ensures) in
+    let own = leaf_is i.is_few i.held i.root i.leaves i.size i.given es i.free.items c.self.invariant.0
+    c.self.invariant.1 i.room c.args.self.now c.self.view_is many c.requires x
+    (get_or_default es i.root nowhere x low ∙ sym c.index.ensures) in
+    let f = c.change_many.ensures in
+    let new = c.change_many.new.entries.items in
+    let named = subst (λ n. IsChanged i.leaves n (record (entry_at es n) { moment = c.args.moment }) es new) c.index-index.ensures
+    f.changed in
+    let leaf = subst (λ e. IsChanged i.leaves (index_of x) (record e { moment = c.args.moment }) es new) own named in
+    let changed = subst (λ b. IsChanged i.leaves (index_of x) (record x { moment = c.args.moment }) (shown b i.held es)
+    (shown b i.held new)) (sym many) leaf in
+    let after = subst₂ (λ b n. IsTree b n i.leaves new) (sym many) (sym (c.self.invariant.1.none many)) f.tree in
     let room = f.room in
-    let cap = c.self.invariant.2 in (
-      changed i.is_few i.few.items i.leaves i.size i.given i.entries.items i.free.items i.room c.args.self.now h c.self.view_is x
-          has
-          i.few.items c.enter.new.entries.items c.nanoseconds-2.result c.nanoseconds-2.ensures.valid f.long here others
-          (λ small. absurd (false≢true (sym many ∙ small))) (λ _. f.played),
-      c.self.invariant.1,
+    let cap = c.self.invariant.3 in (
+      tournament_after i.is_few i.held i.root i.leaves i.size i.given es i.free.items c.self.invariant.0 c.self.invariant.1
+          i.room c.args.self.now c.self.view_is x has new c.args.moment f.valid changed after,
+      front_after i.is_few i.held i.root i.leaves i.size i.given es i.free.items c.self.invariant.0 c.self.invariant.1
+          i.room c.args.self.now c.self.view_is x has new c.args.moment f.valid changed after,
+      c.self.invariant.2,
       omega (arith, room, cap),
-      c.self.invariant.3,
       c.self.invariant.4,
+      c.self.invariant.5,
     )
 
 pub returns-clause-slots : goal.returns-clause-slots
 returns-clause-slots c =
     let i = c.self.inside in
-    let h = c.self.invariant.0 in
-    let long = h.long in
-    let filled = h.some in
+    let es = i.entries.items in
     let many = c.if-self.false in
-    let x = c.index-2.result.now in
-    let (has, root) = winner_held i.is_few i.few.items i.leaves i.size i.given i.entries.items i.free.items i.room
-    c.args.self.now h c.self.view_is x
-    c.requires many (get_or_default i.entries.items (2 * (i.leaves - 1)) nowhere x (omega (arith, long, filled))
-    ∙ sym c.index-2.ensures) in
-    let at : c.from-position.result ≡ index_of x = c.from-position.ensures ∙ c.number.ensures.value ∙ c.index-3.ensures in
-    let f = c.enter.ensures in
-    let here = ap (entry_at c.enter.new.entries.items) (sym at) ∙ f.here in
-    let others = subst (λ n. (k : ℕ) → k < i.leaves → k ≢ n → entry_at c.enter.new.entries.items k ≡ entry_at i.entries.items k)
-    at
-    f.others in
-    subst (λ root. IfSome root (λ index. slots i.size c.enter.new.entries.items
+    let low = root_low i.is_few i.held i.root i.leaves i.size i.given es i.free.items c.self.invariant.0 c.self.invariant.1 in
+    let x = c.index.result.now in
+    let (has, root) = root_held i.is_few i.held i.root i.leaves i.size i.given es i.free.items c.self.invariant.0
+    c.self.invariant.1 i.room c.args.self.now c.self.view_is c.requires x
+    (get_or_default es i.root nowhere x low ∙ sym c.index.ensures) in
+    let own = leaf_is i.is_few i.held i.root i.leaves i.size i.given es i.free.items c.self.invariant.0
+    c.self.invariant.1 i.room c.args.self.now c.self.view_is many c.requires x
+    (get_or_default es i.root nowhere x low ∙ sym c.index.ensures) in
+    let f = c.change_many.ensures in
+    let new = c.change_many.new.entries.items in
+    let named = subst (λ n. IsChanged i.leaves n (record (entry_at es n) { moment = c.args.moment }) es new) c.index-index.ensures
+    f.changed in
+    let leaf = subst (λ e. IsChanged i.leaves (index_of x) (record e { moment = c.args.moment }) es new) own named in
+    let changed = subst (λ b. IsChanged i.leaves (index_of x) (record x { moment = c.args.moment }) (shown b i.held es)
+    (shown b i.held new)) (sym many) leaf in
+    let after = subst₂ (λ b n. IsTree b n i.leaves new) (sym many) (sym (c.self.invariant.1.none many)) f.tree in
+    subst (λ root. IfSome root (λ index. slots i.size (shown i.is_few i.held new)
     ≡ with_moment c.args.self.now.slots index c.args.moment)) (sym root)
-    (changed_slots i.is_few i.few.items i.leaves i.size i.given i.entries.items i.free.items i.room c.args.self.now h
-    c.self.view_is x has
-    i.few.items c.enter.new.entries.items c.nanoseconds-2.result c.nanoseconds-2.ensures.valid f.long here others
-    ∙ ap (with_moment c.args.self.now.slots (index_of x)) c.nanoseconds-2.ensures.value)
+    (slots_after i.is_few i.held i.root i.leaves i.size i.given es i.free.items c.self.invariant.0 c.self.invariant.1
+    i.room c.args.self.now c.self.view_is x has new c.args.moment f.valid changed after)

@@ -1,0 +1,330 @@
+-- The few in front, after one of them was changed, put in or taken out.
+use Rattle.std.proofs.Common.{◌≡◌, ◌≢◌, ℕ, ◌+◌, ◌-◌, ◌<◌, ◌≤◌, ◌⊎◌, inl, inr, true, List, length, take, drop, sym, ap, ◌∙◌}
+use Rattle.std.proofs.Common.{Option, Some, None, IfSome, IfNone, IsSome, refl, subst, subst₂, arith}
+use Rattle.std.proofs.Math.ListN.{set}
+use Rattle.std.proofs.lemmas.Bool.{cases_eq, cases_lt}
+use Rattle.std.proofs.lemmas.List.{length-set, length-take-le, get_or-take, get_or-drop, get_or-set_same, get_or-set_other}
+use Rattle.cyc_types.specs.Series.{never}
+use Rattle.cyc_heap.specs.declared.entry.Entry.{Entry}
+use Rattle.cyc_heap.specs.Tournament.{nowhere, entry_at, index_of, free_entry, comes}
+use Rattle.cyc_heap.specs.Few.{shown, HasNo, IsHeap, IsHeapBut, IsFilled, IsFew, IsFreeBehind, IsTree, IsChanged}
+use Rattle.cyc_heap.proofs.Moving.{child_low, hole_made}
+use Rattle.cyc_heap.proofs.Spreading.{tree_after, changed_to, changed_free}
+
+-- what stands in front
+pub front : (n : ℕ) (es : List Entry) (p : ℕ) → p < n → entry_at (take n es) p ≡ entry_at es p
+front n es p low = get_or-take n es p nowhere low
+
+pub front_long : (n : ℕ) (es : List Entry) → n ≤ length es → length (take n es) ≡ n
+front_long n es within = length-take-le n es within
+
+-- and behind
+pub behind_kept : (n : ℕ) (es new : List Entry) → drop n new ≡ drop n es → length new ≡ length es → IsFreeBehind n es
+    → IsFreeBehind n new
+behind_kept n es new same long free p past low =
+    let at : n + (p - n) ≡ p = omega (arith, past) in
+    sym (ap (entry_at new) at) ∙ sym (get_or-drop n new (p - n) nowhere) ∙ ap (λ l. entry_at l (p - n)) same
+    ∙ get_or-drop n es (p - n) nowhere ∙ ap (entry_at es) at ∙ free p past (omega (arith, low, long))
+
+-- one has this entry, and the others are the old ones
+module _ (held after leaves : ℕ) (es new : List Entry) (x : ℕ) (e : Entry) (t : IsTree true held leaves es) (low_x : x < leaves)
+    (same : length new ≡ length es) (within : after ≤ length new) (heap : IsHeap (take after new)) (behind : IsFreeBehind after new)
+    (to : (q : ℕ) → q < held → index_of (entry_at (take held es) q) ≢ x
+    → (p : ℕ) × (p < after) × (entry_at (take after new) p ≡ entry_at (take held es) q)) where
+  was : IsFew (take held es) leaves (shown true held es)
+  was = t.heap refl
+
+  module _ (mine : index_of e ≡ x) (valid : e.moment ≤ never)
+      (from : (p : ℕ) → p < after → (entry_at (take after new) p ≡ e)
+      ⊎ ((q : ℕ) × (q < held) × (entry_at (take after new) p ≡ entry_at (take held es) q)))
+      (there : (p : ℕ) × (p < after) × (entry_at (take after new) p ≡ e)) where
+    each : (P : Entry → Type 0) → P e → ((q : ℕ) → q < length (take held es) → P (entry_at (take held es) q))
+        → (p : ℕ) → p < length (take after new) → P (entry_at (take after new) p)
+    each P one old p at = let n = front_long after new within in let l = front_long held es t.within in
+        elim (from p (omega (arith, at, n))) [
+          | inl is ↦ subst P (sym is) one
+          | inr (q, low, is) ↦ subst P (sym is) (old q (omega (arith, low, l)))
+        ]
+
+    low_after : (p : ℕ) → p < length (take after new) → index_of (entry_at (take after new) p) < leaves
+    low_after = each (λ e. index_of e < leaves) (omega (arith, mine, low_x)) was.low
+
+    used_after : (p : ℕ) → p < length (take after new) → (entry_at (take after new) p).moment ≤ never
+    used_after = each (λ (e : Entry). e.moment ≤ never) valid was.used
+
+    pub put_tree : IsTree true after leaves new
+    put_tree = tree_after held after leaves es new x e t low_x same within heap behind to low_after used_after
+
+    pub put_changed : IsChanged leaves x e (shown true held es) (shown true after new)
+    put_changed = (let (p, low, is) = there in
+        changed_to held after leaves es new x e t low_x same within heap behind to low_after used_after from p low is mine)
+
+  -- none has its index
+  module _ (off : (p : ℕ) → p < after → index_of (entry_at (take after new) p) ≢ x)
+      (from : (p : ℕ) → p < after → (q : ℕ) × (q < held) × (entry_at (take after new) p ≡ entry_at (take held es) q)) where
+    all : (P : Entry → Type 0) → ((q : ℕ) → q < length (take held es) → P (entry_at (take held es) q))
+        → (p : ℕ) → p < length (take after new) → P (entry_at (take after new) p)
+    all P old p at = let n = front_long after new within in let l = front_long held es t.within in
+        let (q, low, is) = from p (omega (arith, at, n)) in subst P (sym is) (old q (omega (arith, low, l)))
+
+    low_left : (p : ℕ) → p < length (take after new) → index_of (entry_at (take after new) p) < leaves
+    low_left = all (λ e. index_of e < leaves) was.low
+
+    used_left : (p : ℕ) → p < length (take after new) → (entry_at (take after new) p).moment ≤ never
+    used_left = all (λ (e : Entry). e.moment ≤ never) was.used
+
+    pub left_tree : IsTree true after leaves new
+    left_tree = tree_after held after leaves es new x e t low_x same within heap behind to low_left used_left
+
+    pub left_changed : IsChanged leaves x free_entry (shown true held es) (shown true after new)
+    left_changed = changed_free held after leaves es new x e t low_x same within heap behind to low_left used_left off from
+
+-- another entry for the index of the one at this place
+module _ (held leaves place x : ℕ) (es new : List Entry) (e : Entry) (t : IsTree true held leaves es) (low : place < held)
+    (here : index_of (entry_at es place) ≡ x) where
+  pub place_low : x < leaves
+  place_low = let l = front_long held es t.within in
+      let f = (t.heap refl).low place (omega (arith, low, l)) in
+      let at = ap index_of (front held es place low) in omega (arith, f, at, here)
+
+  pub place_open : IsHeapBut place (take held es)
+  place_open = let l = front_long held es t.within in hole_made place (take held es) (t.heap refl).heap (omega (arith, low, l))
+
+  pub place_apart : (p : ℕ) → p < held → p ≢ place → index_of (entry_at es p) ≢ x
+  place_apart p less off same = let l = front_long held es t.within in
+      (t.heap refl).heap.apart p place (omega (arith, less, l)) (omega (arith, low, l)) off
+      (ap index_of (front held es p less) ∙ same ∙ sym here ∙ sym (ap index_of (front held es place low)))
+
+  module _ (same : length new ≡ length es) (heap : IsHeap (take held new)) (f : IsFilled place (take held es) e (take held new))
+      (rest : drop held new ≡ drop held es) (mine : index_of e ≡ x) (valid : e.moment ≤ never) where
+    inside : held ≤ length new
+    inside = let w = t.within in omega (arith, w, same)
+
+    to : (q : ℕ) → q < held → index_of (entry_at (take held es) q) ≢ x
+        → (p : ℕ) × (p < held) × (entry_at (take held new) p ≡ entry_at (take held es) q)
+    to q less off = let l = front_long held es t.within in let n = front_long held new inside in
+        let (p, at, is) = f.to q (omega (arith, less, l))
+        (λ e. off (ap (λ q. index_of (entry_at (take held es) q)) e ∙ ap index_of (front held es place low) ∙ here)) in
+        (p, omega (arith, at, n), is)
+
+    from : (p : ℕ) → p < held → (entry_at (take held new) p ≡ e)
+        ⊎ ((q : ℕ) × (q < held) × (entry_at (take held new) p ≡ entry_at (take held es) q))
+    from p less = let l = front_long held es t.within in let n = front_long held new inside in
+        elim (f.from p (omega (arith, less, n))) [
+          | inl is ↦ inl is
+          | inr (q, at, _, is) ↦ inr (q, omega (arith, at, l), is)
+        ]
+
+    there : (p : ℕ) × (p < held) × (entry_at (take held new) p ≡ e)
+    there = let n = front_long held new inside in let (p, at, is) = f.here in (p, omega (arith, at, n), is)
+
+    free_behind : IsFreeBehind held new
+    free_behind = behind_kept held es new rest same (t.behind refl)
+
+    pub changed_tree : IsTree true held leaves new
+    changed_tree = put_tree held held leaves es new x e t place_low same inside heap free_behind to mine valid from there
+
+    pub changed_leaf : IsChanged leaves x e (shown true held es) (shown true held new)
+    changed_leaf = put_changed held held leaves es new x e t place_low same inside heap free_behind to mine valid from there
+
+-- one more, of an index that none has
+module _ (held leaves x : ℕ) (es new : List Entry) (e : Entry) (t : IsTree true held leaves es) (low_x : x < leaves)
+    (space : held < length es) (same : length new ≡ length es) (heap : IsHeap (take (held + 1) new))
+    (f : IsFilled held (take (held + 1) es) e (take (held + 1) new)) (rest : drop (held + 1) new ≡ drop (held + 1) es)
+    (mine : index_of e ≡ x) (valid : e.moment ≤ never) where
+  more : held + 1 ≤ length new
+  more = omega (arith, space, same)
+
+  add_to : (q : ℕ) → q < held → index_of (entry_at (take held es) q) ≢ x
+      → (p : ℕ) × (p < held + 1) × (entry_at (take (held + 1) new) p ≡ entry_at (take held es) q)
+  add_to q less off = let l = front_long (held + 1) es (omega (arith, space)) in let n = front_long (held + 1) new more in
+      let (p, at, is) = f.to q (omega (arith, less, l)) (λ e. absurd (omega (arith, e, less))) in
+      (p, omega (arith, at, n), is ∙ front (held + 1) es q (omega (arith, less)) ∙ sym (front held es q less))
+
+  add_from : (p : ℕ) → p < held + 1 → (entry_at (take (held + 1) new) p ≡ e)
+      ⊎ ((q : ℕ) × (q < held) × (entry_at (take (held + 1) new) p ≡ entry_at (take held es) q))
+  add_from p less = let l = front_long (held + 1) es (omega (arith, space)) in let n = front_long (held + 1) new more in
+      elim (f.from p (omega (arith, less, n))) [
+        | inl is ↦ inl is
+        | inr (q, at, off, is) ↦ (let low : q < held = omega (arith, at, l, off) in
+            inr (q, low, is ∙ front (held + 1) es q (omega (arith, low)) ∙ sym (front held es q low)))
+      ]
+
+  add_there : (p : ℕ) × (p < held + 1) × (entry_at (take (held + 1) new) p ≡ e)
+  add_there = let n = front_long (held + 1) new more in let (p, at, is) = f.here in (p, omega (arith, at, n), is)
+
+  add_behind : IsFreeBehind (held + 1) new
+  add_behind = behind_kept (held + 1) es new rest same (λ p past low. t.behind refl p (omega (arith, past)) low)
+
+  pub added_tree : IsTree true (held + 1) leaves new
+  added_tree = put_tree held (held + 1) leaves es new x e t low_x same more heap add_behind add_to mine valid add_from add_there
+
+  pub added_leaf : IsChanged leaves x e (shown true held es) (shown true (held + 1) new)
+  added_leaf = put_changed held (held + 1) leaves es new x e t low_x same more heap add_behind add_to mine valid add_from add_there
+
+-- the one at this place is taken out
+module _ (held leaves place x : ℕ) (es : List Entry) (t : IsTree true held leaves es) (low : place < held)
+    (here : index_of (entry_at es place) ≡ x) where
+  abbrev pub cut : List Entry
+  cut = set es (held - 1) free_entry
+
+  cut_long : length cut ≡ length es
+  cut_long = length-set es (held - 1) free_entry
+
+  cut_inside : held - 1 ≤ length cut
+  cut_inside = let w = t.within in let l = cut_long in omega (arith, w, l)
+
+  -- those before the last are as they were
+  before : (p : ℕ) → p < held - 1 → entry_at (take (held - 1) cut) p ≡ entry_at (take held es) p
+  before p less = front (held - 1) cut p less
+      ∙ get_or-set_other es (held - 1) p free_entry nowhere (λ e. absurd (omega (arith, e, less)))
+      ∙ sym (front held es p (omega (arith, less)))
+
+  held_long : length (take held es) ≡ held
+  held_long = front_long held es t.within
+
+  apart : (p q : ℕ) → p < held → q < held → p ≢ q → index_of (entry_at (take held es) p) ≢ index_of (entry_at (take held es) q)
+  apart p q a b ne = let l = held_long in (t.heap refl).heap.apart p q (omega (arith, a, l)) (omega (arith, b, l)) ne
+
+  here_front : index_of (entry_at (take held es) place) ≡ x
+  here_front = ap index_of (front held es place low) ∙ here
+
+  pub cut_heap : IsHeap (take (held - 1) cut)
+  cut_heap = let n = front_long (held - 1) cut cut_inside in let l = held_long in record {
+    rising = λ a c is at. (let less = child_low a c is in
+        subst₂ (λ a b. comes a b ≡ true) (sym (before a (omega (arith, less, at, n)))) (sym (before c (omega (arith, at, n))))
+        ((t.heap refl).heap.rising a c is (omega (arith, at, n, l))));
+    apart = λ p q a b ne. subst₂ (λ a b. index_of a ≢ index_of b) (sym (before p (omega (arith, a, n))))
+        (sym (before q (omega (arith, b, n)))) (apart p q (omega (arith, a, n)) (omega (arith, b, n)) ne);
+  }
+
+  pub cut_open : place < held - 1 → IsHeapBut place (take (held - 1) cut)
+  cut_open less = let n = front_long (held - 1) cut cut_inside in
+      hole_made place (take (held - 1) cut) cut_heap (omega (arith, less, n))
+
+  pub cut_apart : (p : ℕ) → p < held - 1 → index_of (entry_at cut p) ≢ index_of (entry_at es (held - 1))
+  cut_apart p less = subst₂ (λ a b. index_of a ≢ index_of b) (sym (before p less) ∙ front (held - 1) cut p less)
+      (front held es (held - 1) (omega (arith, low)))
+      (apart p (held - 1) (omega (arith, less)) (omega (arith, low)) (λ e. absurd (omega (arith, e, less))))
+
+  cut_behind : IsFreeBehind (held - 1) cut
+  cut_behind p past at = let l = cut_long in elim (cases_eq p (held - 1)) [
+    | inl is ↦ ap (entry_at cut) is
+        ∙ get_or-set_same es (held - 1) free_entry nowhere (let w = t.within in omega (arith, w, low))
+    | inr off ↦ get_or-set_other es (held - 1) p free_entry nowhere off
+        ∙ t.behind refl p (omega (arith, past, off)) (omega (arith, at, l))
+  ]
+
+  taken_low : x < leaves
+  taken_low = place_low held leaves place x es es free_entry t low here
+
+  -- it was the last
+  module _ (last : held - 1 ≤ place) where
+    last_to : (q : ℕ) → q < held → index_of (entry_at (take held es) q) ≢ x
+        → (p : ℕ) × (p < held - 1) × (entry_at (take (held - 1) cut) p ≡ entry_at (take held es) q)
+    last_to q less off = elim (cases_lt q (held - 1)) [
+      | inl inside ↦ (q, inside, before q inside)
+      | inr past ↦ absurd (off (ap (λ q. index_of (entry_at (take held es) q)) (let e : q ≡ place = omega
+          (arith, less, past, last, low) in e) ∙ here_front))
+    ]
+
+    last_off : (p : ℕ) → p < held - 1 → index_of (entry_at (take (held - 1) cut) p) ≢ x
+    last_off p less e = apart p place (omega (arith, less)) low (λ e. absurd (omega (arith, e, less, last)))
+        (sym (ap index_of (before p less)) ∙ e ∙ sym here_front)
+
+    last_from : (p : ℕ) → p < held - 1 → (q : ℕ) × (q < held) × (entry_at (take (held - 1) cut) p ≡ entry_at (take held es) q)
+    last_from p less = (p, omega (arith, less), before p less)
+
+    pub last_tree : IsTree true (held - 1) leaves cut
+    last_tree = left_tree held (held - 1) leaves es cut x free_entry t taken_low cut_long cut_inside cut_heap cut_behind last_to
+        last_off last_from
+
+    pub last_changed : IsChanged leaves x free_entry (shown true held es) (shown true (held - 1) cut)
+    last_changed = left_changed held (held - 1) leaves es cut x free_entry t taken_low cut_long cut_inside cut_heap cut_behind
+        last_to last_off last_from
+
+  -- the last fills its place
+  module _ (new : List Entry) (less : place < held - 1) (same : length new ≡ length cut) (heap : IsHeap (take (held - 1) new))
+      (f : IsFilled place (take (held - 1) cut) (entry_at es (held - 1)) (take (held - 1) new))
+      (rest : drop (held - 1) new ≡ drop (held - 1) cut) where
+    new_inside : held - 1 ≤ length new
+    new_inside = let i = cut_inside in omega (arith, i, same)
+
+    new_long : length new ≡ length es
+    new_long = same ∙ cut_long
+
+    moved_to : (q : ℕ) → q < held → index_of (entry_at (take held es) q) ≢ x
+        → (p : ℕ) × (p < held - 1) × (entry_at (take (held - 1) new) p ≡ entry_at (take held es) q)
+    moved_to q inside off =
+        let n = front_long (held - 1) new new_inside in
+        let m = front_long (held - 1) cut cut_inside in
+        elim (cases_lt q (held - 1)) [
+          | inl before_last ↦ (let (p, at, is) = f.to q (omega (arith, before_last, m))
+              (λ e. off (ap (λ q. index_of (entry_at (take held es) q)) e ∙ here_front)) in
+              (p, omega (arith, at, n), is ∙ before q before_last))
+          | inr past ↦ (let (p, at, is) = f.here in
+              let last : q ≡ held - 1 = omega (arith, inside, past) in (
+                p,
+                omega (arith, at, n),
+                is ∙ sym (front held es (held - 1) (omega (arith, low))) ∙ ap (entry_at (take held es)) (sym last),
+              ))
+        ]
+
+    moved_from : (p : ℕ) → p < held - 1
+        → (q : ℕ) × (q < held) × (q ≢ place) × (entry_at (take (held - 1) new) p ≡ entry_at (take held es) q)
+    moved_from p inside =
+        let n = front_long (held - 1) new new_inside in
+        let m = front_long (held - 1) cut cut_inside in
+        elim (f.from p (omega (arith, inside, n))) [
+          | inl is ↦ (
+            held - 1,
+            omega (arith, low),
+            (λ e. absurd (omega (arith, e, less))),
+            is ∙ sym (front held es (held - 1) (omega (arith, low))),
+          )
+          | inr (q, at, off, is) ↦ (let within : q < held - 1 = omega (arith, at, m) in
+              (q, omega (arith, within), off, is ∙ before q within))
+        ]
+
+    moved_off : (p : ℕ) → p < held - 1 → index_of (entry_at (take (held - 1) new) p) ≢ x
+    moved_off p inside e = (let (q, at, off, is) = moved_from p inside in
+        apart q place at low off (sym (ap index_of is) ∙ e ∙ sym here_front))
+
+    old_from : (p : ℕ) → p < held - 1 → (q : ℕ) × (q < held) × (entry_at (take (held - 1) new) p ≡ entry_at (take held es) q)
+    old_from p inside = let (q, at, _, is) = moved_from p inside in (q, at, is)
+
+    new_behind : IsFreeBehind (held - 1) new
+    new_behind = behind_kept (held - 1) cut new rest same cut_behind
+
+    pub moved_tree : IsTree true (held - 1) leaves new
+    moved_tree = left_tree held (held - 1) leaves es new x free_entry t taken_low new_long new_inside heap new_behind moved_to
+        moved_off old_from
+
+    pub moved_changed : IsChanged leaves x free_entry (shown true held es) (shown true (held - 1) new)
+    moved_changed = left_changed held (held - 1) leaves es new x free_entry t taken_low new_long new_inside heap new_behind
+        moved_to moved_off old_from
+
+-- the place of an index that one of the few has
+pub found : (held : ℕ) (es l : List Entry) (o : Option ℕ) (place i : ℕ) → held ≤ length es → l ≡ es → o ≡ Some place
+    → IfSome o (λ p. (p < length (take held l)) × (index_of (entry_at (take held l) p) ≡ i))
+    → (place < held) × (index_of (entry_at es place) ≡ i)
+found held es l o place i within is some has =
+    let (low, at) = subst (λ l. (place < length (take held l)) × (index_of (entry_at (take held l) place) ≡ i)) is
+    (subst (λ o. IfSome o (λ p. (p < length (take held l)) × (index_of (entry_at (take held l) p) ≡ i))) some has) in
+    let n = front_long held es within in
+    let less : place < held = omega (arith, low, n) in (less, sym (ap index_of (front held es place less)) ∙ at)
+
+-- it is there
+pub found_some : (held leaves : ℕ) (es l : List Entry) (o : Option ℕ) (i : ℕ) → IsTree true held leaves es → l ≡ es → i < leaves
+    → (entry_at (shown true held es) i).moment ≤ never → IfNone o (HasNo i (take held l)) → IsSome o
+found_some held leaves es l (Some p) i t is low used none = refl
+found_some held leaves es l None i t is low used none = absurd (let (p, at, index, _) = (t.heap refl).all i low used in
+    subst (λ l. HasNo i (take held l)) is none p at index)
+
+-- what its leaf is shown to have
+pub place_shown : (held leaves place x : ℕ) (es : List Entry) → IsTree true held leaves es → place < held
+    → index_of (entry_at es place) ≡ x → entry_at (shown true held es) x ≡ entry_at es place
+place_shown held leaves place x es t low here =
+    let l = front_long held es t.within in
+    ap (entry_at (shown true held es)) (sym here ∙ sym (ap index_of (front held es place low)))
+    ∙ (t.heap refl).own place (omega (arith, low, l)) ∙ front held es place low
