@@ -12,7 +12,8 @@ use Rattle.json.proofs.Grammar.{items_end, items_fail, items_more, members_end, 
 use Rattle.json.proofs.Grammar.{value_is, value-begin_array}
 use Rattle.json.proofs.Grammar.{skip_value-shorter, left}
 use Rattle.serde_json.specs.Data.{Data, array, object, Items, no_items, item, Members, no_members, put}
-use Rattle.serde_json.specs.Read.{of_json, of_items, of_members, converted}
+use Rattle.json.specs.Lex.{tokens}
+use Rattle.serde_json.specs.Read.{of_json, of_items, of_members, converted, read}
 use Rattle.cyc_script.specs.Tokens.{begins_none, ended}
 
 -- ---- what was converted
@@ -185,3 +186,22 @@ pub ended_map : {A B : Type 0} (f : A → B) (o : Option (A × List Token)) → 
 ended_map f None e = refl
 ended_map f (Some (a, [])) e = absurd (cc)
 ended_map f (Some (a, t ∷ ts)) e = refl
+
+last : (x : Option Data) → ended (option_map {U = Data × List Token} (λ d. (d, [])) x) ≡ x
+last None = refl
+last (Some d) = refl
+
+not_last : (x : Option Data) (t : Token) (ts : List Token)
+    → ended (option_map {U = Data × List Token} (λ d. (d, t ∷ ts)) x) ≡ None
+not_last None t ts = refl
+not_last (Some d) t ts = refl
+
+all_read : (o : Option (json.Json × List Token))
+    → ended (converted of_json o) ≡ option_and_then of_json (option_and_then (λ p. json.if_last p.0 p.1) o)
+all_read None = refl
+all_read (Some (j, [])) = last (of_json j)
+all_read (Some (j, t ∷ ts)) = not_last (of_json j) t ts
+
+-- what a text is read as is what its tokens are
+pub text_read : (text : List ℕ) → ended (converted of_json (value 127 (tokens text))) ≡ read text
+text_read text = all_read (value 127 (tokens text))

@@ -1,6 +1,6 @@
 -- What a script has beside its steps, from its tokens.
 use Rattle.std.proofs.Common.{◌≡◌, ℕ, ◌+◌, ◌-◌, ◌≤◌, List, [], ◌∷◌, length, true, Option, Some, None, Result, Ok, Err}
-use Rattle.std.proofs.Common.{codes, inl, inr, refl, ap, sym, ◌∙◌, arith}
+use Rattle.std.proofs.Common.{codes, inl, inr, refl, ap, sym, subst, ◌∙◌, arith}
 use Rattle.std.specs.Prelude.{IfSome}
 use Rattle.json.specs.Token.{Token, key, begin_array, begin_object, end_object}
 use Rattle.json.specs.Json.{parse_map, items, members, value}
@@ -15,8 +15,8 @@ use Rattle.cyc_script.specs.Limits.{most_cpus}
 use Rattle.cyc_script.specs.Script.{Content, number_between, is_key, has_keys, cpus_of, ceiling_of, values_of}
 use Rattle.cyc_script.specs.Script.{within_limit, content_of, formed, parsed}
 use Rattle.cyc_script.specs.Steps.{first_context, steps_of}
-use Rattle.cyc_script.specs.Tokens.{Begins, BeginsItems, HasContent, HasSteps, Heads, IsNoJson, Refuses, data_in, ended}
-use Rattle.cyc_script.specs.Tokens.{content_in, members_on, script_data}
+use Rattle.cyc_script.specs.Tokens.{Begins, BeginsItems, HasCeiling, HasContent, HasSteps, Heads, IsBehindCpus, IsCeiling}
+use Rattle.cyc_script.specs.Tokens.{IsNoJson, Refuses, content_in, data_in, ended, members_on, script_data}
 use Rattle.cyc_script.specs.Words.{list_of, ◌>>=◌}
 use Rattle.cyc_script.proofs.Grammar.{array_none, array_read, converted_object, ended_map, member_none, member_read, members_over}
 use Rattle.cyc_script.proofs.Grammar.{shorter}
@@ -75,7 +75,7 @@ second_read j k ts more rest d c begins next =
     first_read j ts (key k ∷ more) d begins ∙ ap (parse_map object)
     (member_read (value 126) first (length ts) k (key k ∷ more) more rest c (omega (arith, less)) refl next)
 
-pub without_ceiling : (ts inside : List Token) (cpus : ℕ) (d : Data)
+without_ceiling : (ts inside : List Token) (cpus : ℕ) (d : Data)
     → Begins 126 ts d (key (codes "steps") ∷ begin_array ∷ inside) → number_between 1 most_cpus d ≡ Some cpus
     → Heads (begin_object ∷ key (codes "cpus") ∷ ts) inside cpus 4294967295
 unfolding has_keys is_key cpus_of ceiling_of values_of
@@ -83,7 +83,7 @@ without_ceiling ts inside cpus d begins between =
     let less = shorter 126 ts (key (codes "steps") ∷ begin_array ∷ inside) d begins in
     (_, _, omega (arith, less), first_read (codes "cpus") ts _ d begins, λ ds. (refl, between, refl, refl))
 
-pub with_ceiling : (ts more inside : List Token) (cpus ceiling : ℕ) (d c : Data)
+with_ceiling : (ts more inside : List Token) (cpus ceiling : ℕ) (d c : Data)
     → Begins 126 ts d (key (codes "ceiling") ∷ more) → number_between 1 most_cpus d ≡ Some cpus
     → Begins 126 more c (key (codes "steps") ∷ begin_array ∷ inside) → number_between 1 4294967295 c ≡ Some ceiling
     → Heads (begin_object ∷ key (codes "cpus") ∷ ts) inside cpus ceiling
@@ -93,6 +93,33 @@ with_ceiling ts more inside cpus ceiling d c begins between next calls =
     let lesser = shorter 126 more (key (codes "steps") ∷ begin_array ∷ inside) c next in
     let read = second_read (codes "cpus") (codes "ceiling") ts more _ d c begins next in
     (_, _, omega (arith, less, lesser), read, λ ds. (refl, between, calls, refl))
+
+-- the CPUs, and what is behind them
+pub cpus_first : (ts next inside : List Token) (cpus ceiling : ℕ) (d : Data) → Begins 126 ts d next
+    → number_between 1 most_cpus d ≡ Some cpus → IsBehindCpus next inside ceiling
+    → Heads (begin_object ∷ key (codes "cpus") ∷ ts) inside cpus ceiling
+cpus_first ts next inside cpus ceiling d begins between (inl has) =
+    with_ceiling ts has.0 inside cpus ceiling d has.2.0 (subst (Begins 126 ts d) has.1 begins) between has.2.1 has.2.2
+cpus_first ts next inside cpus ceiling d begins between (inr none) =
+    subst (Heads (begin_object ∷ key (codes "cpus") ∷ ts) inside cpus) none.1
+    (without_ceiling ts inside cpus d (subst (Begins 126 ts d) none.0 begins) between)
+
+pub new_ceiling : (tokens rest : List Token) (d : Data) (calls : ℕ) (r : Option ℕ) → Begins 126 tokens d rest
+    → number_between 1 4294967295 d ≡ Some calls → IfSome r (λ ceiling. ceiling ≡ calls)
+    → IfSome r (λ ceiling. IsCeiling tokens rest ceiling)
+new_ceiling tokens rest d calls None begins between is = tt
+new_ceiling tokens rest d calls (Some ceiling) begins between is = (d, begins, between ∙ ap Some (sym is))
+
+-- no ceiling is the greatest
+pub without_one : (tokens inside : List Token) (r : Option ℕ) → tokens ≡ key (codes "steps") ∷ begin_array ∷ inside
+    → IfSome r (λ ceiling. ceiling ≡ 4294967295) → IfSome r (λ ceiling. IsBehindCpus tokens inside ceiling)
+without_one tokens inside None is greatest = tt
+without_one tokens inside (Some ceiling) is greatest = inr (is, sym greatest)
+
+pub with_one : (tokens more inside : List Token) (r : Option ℕ) → tokens ≡ key (codes "ceiling") ∷ more
+    → IfSome r (λ ceiling. HasCeiling more inside ceiling) → IfSome r (λ ceiling. IsBehindCpus tokens inside ceiling)
+with_one tokens more inside None is has = tt
+with_one tokens more inside (Some ceiling) is has = inl (more, is, has)
 
 pub ceiling_first : (ts more inside : List Token) (cpus ceiling : ℕ) (d c : Data)
     → Begins 126 ts c (key (codes "cpus") ∷ more) → number_between 1 4294967295 c ≡ Some ceiling

@@ -1,6 +1,6 @@
 -- What the tokens of a text say, where a script is read straight from them.
-use Rattle.std.specs.Prelude.{◌≡◌, ◌⊎◌, ℕ, ◌+◌, ◌<◌, ◌≤◌, List, [], ◌∷◌, length, map, codes, Bool, true, false, Option, Some}
-use Rattle.std.specs.Prelude.{None, option_and_then, IfSome, Result, Ok, Err}
+use Rattle.std.specs.Prelude.{◌≡◌, ◌⊎◌, ℕ, ◌+◌, ◌<◌, ◌≤◌, List, [], ◌∷◌, ◌++◌, length, map, codes, Bool, true, false, Option}
+use Rattle.std.specs.Prelude.{Some, None, option_and_then, IfSome, Result, Ok, Err, nat_le, if◌then◌else◌}
 use Rattle.std.specs.Bool.{MatchBool}
 use Rattle.json.specs.Token.{Token, key, begin_array, end_object}
 use Rattle.json.specs.declared.token.Token as declared
@@ -10,14 +10,17 @@ use Rattle.serde_json.specs.Data.{Data, Items, Members, array, object, put}
 use Rattle.serde_json.specs.Read.{of_json, of_items, of_members, converted}
 use Rattle.serde_json.specs.View.{items_of}
 use Rattle.cyc_types.specs.declared.refusal.Refusal.{Refusal}
-use Rattle.cyc_types.specs.declared.refusal.Refusal.TheVariants.{Memory, ScriptSyntax}
+use Rattle.cyc_types.specs.declared.refusal.Refusal.TheVariants.{Memory, ScriptShape, ScriptSyntax}
+use Rattle.cyc_script.specs.declared.context.Context.{Context}
 use Rattle.cyc_script.specs.declared.part.Part.{Part}
 use Rattle.cyc_script.specs.declared.step.Step.{Step}
 use Rattle.cyc_script.specs.declared.unread.Unread.{Unread}
 use Rattle.cyc_script.specs.declared.unread.Unread.TheVariants.{Refused, Unusual}
 use Rattle.cyc_script.specs.Parts.{data_of}
-use Rattle.cyc_script.specs.Script.{Content, content_of, has_keys, cpus_of, ceiling_of, values_of, within_limit, formed, parsed}
-use Rattle.cyc_script.specs.Steps.{first_context, steps_of}
+use Rattle.cyc_script.specs.Script.{Content, content_of, has_keys, cpus_of, ceiling_of, values_of, within_limit, number_between}
+use Rattle.cyc_script.specs.Script.{formed, parsed}
+use Rattle.cyc_script.specs.Limits.{most_steps}
+use Rattle.cyc_script.specs.Steps.{Fits, first_context, step_of, steps_of}
 use Rattle.cyc_script.specs.Words.{list_of, ◌>>=◌}
 
 -- the tokens begin with this value, and then the rest comes
@@ -95,6 +98,20 @@ Heads tokens inside cpus ceiling = (before : Members) × (turns : ℕ) × (lengt
     ≡ parse_map object (members_on turns (key (codes "steps") ∷ begin_array ∷ inside) before))
     × ((ds : Items) → HasHead (script_data before ds) ds cpus ceiling)
 
+-- the tokens begin with the ceiling's value, and then the rest comes
+abbrev pub IsCeiling : List Token → List Token → ℕ → Type 0
+IsCeiling tokens rest ceiling = (d : Data) × Begins 126 tokens d rest × (number_between 1 4294967295 d ≡ Some ceiling)
+
+-- the tokens begin with the ceiling's value, and then the key of the steps and the bracket that opens them
+abbrev pub HasCeiling : List Token → List Token → ℕ → Type 0
+HasCeiling tokens inside ceiling = IsCeiling tokens (key (codes "steps") ∷ begin_array ∷ inside) ceiling
+
+-- the tokens begin with the ceiling's key and value, or without a ceiling, which is the greatest then, with the key of the steps
+abbrev pub IsBehindCpus : List Token → List Token → ℕ → Type 0
+IsBehindCpus tokens inside ceiling =
+    ((more : List Token) × (tokens ≡ key (codes "ceiling") ∷ more) × HasCeiling more inside ceiling)
+    ⊎ ((tokens ≡ key (codes "steps") ∷ begin_array ∷ inside) × (4294967295 ≡ ceiling))
+
 -- what the values of a script's steps read as: they are not too many, and then each is read in order
 abbrev pub values_read : List Data → Result (List Step × List (List ℕ)) Refusal
 values_read values = formed (within_limit values) >>= steps_of [] first_context
@@ -115,6 +132,37 @@ HasRest most tokens few = (n : ℕ) → length tokens ≤ n → (ds : Items)
 -- no JSON has these tokens behind some steps of a script
 abbrev pub HasNoRest : List Token → Type 0
 HasNoRest tokens = (n : ℕ) → length tokens ≤ n → IsNoJson (converted of_items (items (value 125) n tokens))
+
+-- how a script is refused at a step behind which at most so many may stand: with this refusal, or for its shape where more do; or
+-- no JSON has these tokens behind it
+abbrev pub IsRefused : ℕ → Refusal → List Token → Result (List Step × List (List ℕ)) Refusal → Type 0
+IsRefused most refusal tokens wanted =
+    ((few : Bool) × HasRest most tokens few × (wanted ≡ Err (if few then refusal else ScriptShape 0)))
+    ⊎ (HasNoRest tokens × (wanted ≡ Err ScriptSyntax))
+
+-- what so many values behind these steps read as: together they are not too many, and then each is read in order
+abbrev pub values_on : List Step → Context → List Data → Result (List Step × List (List ℕ)) Refusal
+values_on steps before values = if nat_le (length steps + length values) most_steps then steps_of steps before values
+    else Err (ScriptShape 0)
+
+-- the tokens are the rest of a script from behind these steps, and all steps read as this; or no JSON has such a rest: at each
+-- bound on the items that lets all of them in
+abbrev pub GoesOn : List Step → Context → List Token → Result (List Step × List (List ℕ)) Refusal → Type 0
+GoesOn steps before tokens wanted = (n : ℕ) → length tokens ≤ n
+    → ((ds : Items) × (converted of_items (items (value 125) n tokens) ≡ Some (ds, end_object ∷ []))
+    × (values_on steps before (list_of ds) ≡ wanted))
+    ⊎ (IsNoJson (converted of_items (items (value 125) n tokens)) × (wanted ≡ Err ScriptSyntax))
+
+-- the tokens begin with a step that is read behind these
+pub record TakesStep (old new : List Token) (steps longer : List Step) (before after : Context) : Type 0 where
+  pub written : Data
+  pub step : Step
+  pub few : length steps < most_steps
+  pub begins : Begins 125 old written new
+  pub shorter : length new < length old
+  pub reads : step_of before written ≡ Ok (step, after)
+  pub fits : Fits before step after
+  pub pushed : longer ≡ steps ++ step ∷ []
 
 -- the script of what the JSON reader read
 abbrev pub content_in : Result Data Refusal → Result Content Refusal

@@ -3,14 +3,16 @@
 ghost use Rattle.std.specs.Prelude.{◌≡◌, ℕ, ◌<◌, ◌≤◌, ◌^◌, List, ◌∷◌, [], length, map, string_bytes};
 ghost use Rattle.std.specs.Prelude.{Some, None, IfOk, IfErr, OnOk, IfSome, IsTrue, true, codes};
 ghost use Rattle.json.specs.Token as token;
-ghost use Rattle.json.specs.Json.{items, value};
+ghost use Rattle.json.specs.Json.{after_end_array, items, value};
 ghost use Rattle.serde_json.specs.Data.{Data};
 ghost use Rattle.serde_json.specs.Read.{converted, of_items, of_json, read};
 ghost use Rattle.cyc_script.specs.Limits.{most_steps, most_cpus};
 ghost use Rattle.cyc_script.specs.Parts.{data_of};
 ghost use Rattle.cyc_script.specs.Script.{content, number_between, parsed};
-ghost use Rattle.cyc_script.specs.Tokens.{Begins, BeginsItems, Denies, HasContent, HasNoRest, HasRest, HasSteps, Heads};
-ghost use Rattle.cyc_script.specs.Tokens.{NeverEnds, Tells, begins_none, content_in, items_of_parts, step_data};
+ghost use Rattle.cyc_script.specs.Steps.{first_context};
+ghost use Rattle.cyc_script.specs.Tokens.{Begins, BeginsItems, Denies, GoesOn, HasCeiling, HasContent, HasNoRest, HasRest};
+ghost use Rattle.cyc_script.specs.Tokens.{HasSteps, Heads, IsBehindCpus, IsCeiling, IsRefused, NeverEnds, Refuses, TakesStep};
+ghost use Rattle.cyc_script.specs.Tokens.{Tells, begins_none, content_in, items_of_parts, step_data};
 ghost use Rattle.cyc_script.specs.WellFormed.{IsWellFormed};
 
 use crate::cause::Cause;
@@ -136,8 +138,77 @@ fn rest<'a>(reader: &mut Reader<'a>, parts: &mut Vec<Part<'a>>, most: usize) -> 
     }
 }
 
-/// The steps up to the end of the script, with the names that they introduce. A faulty step, and one too many, is refused only
-/// where all behind it is of the usual form as well.
+/// Why a script is refused at a step behind which at most so many may stand: with this, for its shape where more do, or for what
+/// is behind the step where that is no JSON or not of the usual form.
+fn refused_here<'a>(
+    reader: &mut Reader<'a>,
+    parts: &mut Vec<Part<'a>>,
+    most: usize,
+    refusal: Refusal,
+) -> Unread
+    ensures { Refuses (IsRefused most refusal reader.old) result }
+{
+    match rest(reader, parts, most) {
+        Ok(true) => Unread::Refused(refusal),
+        Ok(false) => Unread::Refused(Refusal::ScriptShape(0)),
+        Err(unread) => unread,
+    }
+}
+
+/// Reads the next step behind those before it. A faulty one, and one too many, is refused only where all behind it is of the
+/// usual form as well. `parts` is room for the parts of each.
+#[inline(always)]
+fn next_step<'a>(
+    alloc: Global,
+    reader: &mut Reader<'a>,
+    parts: &mut Vec<Part<'a>>,
+    steps: &mut Vec<Step>,
+    context: &mut Context<'a>,
+) -> Result<(), Unread>
+    requires going { after_end_array reader.old ≡ None }
+    requires few_steps { length steps.old.items ≤ most_steps }
+    requires few_names { length context.old.names ≤ length steps.old.items }
+    ensures value { OnOk result
+        (TakesStep reader.old reader.new steps.old.items steps.new.items context.old context.new) }
+    ensures refused { IfErr result (Refuses (GoesOn steps.old.items context.old reader.old)) }
+{
+    step_parts(reader, parts)?;
+    if steps.len() == MOST_STEPS {
+        return Err(refused_here(reader, parts, 0, Refusal::ScriptShape(0)));
+    }
+    match words::read_step(alloc, context, parts.as_slice()) {
+        Ok(step) => steps.push(step)?,
+        Err(Cause::Memory) => return Err(Unread::Refused(Refusal::Memory)),
+        Err(cause) => {
+            let number = steps.len() + 1;
+            return Err(refused_here(reader, parts, MOST_STEPS - number, cause.at(number as u32)));
+        }
+    }
+    Ok(())
+}
+
+/// Reads the steps up to the end of the script, the first of which is the first of all. `parts` is room for the parts of each.
+fn take_steps<'a>(
+    alloc: Global,
+    reader: &mut Reader<'a>,
+    parts: &mut Vec<Part<'a>>,
+    steps: &mut Vec<Step>,
+    context: &mut Context<'a>,
+) -> Result<(), Unread>
+    requires no_steps { steps.old.items ≡ [] }
+    requires no_names { context.old ≡ first_context }
+    ensures value { Tells (HasSteps reader.old) (λ _. (steps.new.items, context.new.names)) result }
+    ensures well_formed { OnOk result (IsWellFormed steps.new.items (length context.new.names)) }
+{
+    while !reader.take_end_array() {
+        if let Err(fault) = next_step(alloc, reader, parts, steps, context) {
+            return Err(fault);
+        }
+    }
+    end(reader)
+}
+
+/// The steps up to the end of the script, with the names that they introduce.
 fn steps(alloc: Global, reader: &mut Reader<'_>) -> Result<(Vec<Step>, Vec<String>), Unread>
     ensures value { Tells (HasSteps reader.old) (λ read. (read.0.items, map string_bytes read.1.items)) result }
     ensures well_formed { IfOk result (λ read. IsWellFormed read.0.items (length read.1.items)) }
@@ -148,26 +219,25 @@ fn steps(alloc: Global, reader: &mut Reader<'_>) -> Result<(Vec<Step>, Vec<Strin
         names: Names::new(alloc),
         moment: 0,
     };
-    while !reader.take_end_array() {
-        step_parts(reader, &mut parts)?;
-        if steps.len() == MOST_STEPS {
-            rest(reader, &mut parts, 0)?;
-            return Err(Unread::Refused(Refusal::ScriptShape(0)));
-        }
-        match words::read_step(alloc, &mut context, parts.as_slice()) {
-            Ok(step) => steps.push(step)?,
-            Err(Cause::Memory) => return Err(Unread::Refused(Refusal::Memory)),
-            Err(cause) => {
-                let number = steps.len() + 1;
-                if !rest(reader, &mut parts, MOST_STEPS - number)? {
-                    return Err(Unread::Refused(Refusal::ScriptShape(0)));
-                }
-                return Err(Unread::Refused(cause.at(number as u32)));
-            }
-        }
-    }
-    end(reader)?;
+    take_steps(alloc, reader, &mut parts, &mut steps, &mut context)?;
     Ok((steps, context.names.into_texts()))
+}
+
+/// The next token, if it is a key.
+fn next_key<'a>(reader: &mut Reader<'a>) -> Option<&'a str>
+    ensures { IfSome result (λ key. reader.old ≡ token.key key.now ∷ reader.new) }
+{
+    match reader.next() {
+        Some(Token::Key(key)) => Some(key),
+        _ => None,
+    }
+}
+
+/// Takes the bracket that opens an array, if it is next.
+fn opens_array(reader: &mut Reader<'_>) -> bool
+    ensures { IsTrue result → reader.old ≡ token.begin_array ∷ reader.new }
+{
+    matches!(reader.next(), Some(Token::BeginArray))
 }
 
 /// The whole number at the next key, if it is this one.
@@ -177,13 +247,16 @@ fn number_at(reader: &mut Reader<'_>, name: &str, most: u32) -> Option<u32>
         × ((depth : ℕ) → Begins depth rest d reader.new)
         × (number_between 1 most d ≡ Some number)) }
 {
-    let Some(Token::Key(key)) = reader.next() else {
+    let Some(key) = next_key(reader) else {
         return None;
     };
     if key != name {
         return None;
     }
-    number_between(&next_part(reader)?, 1, most)
+    let Some(part) = next_part(reader) else {
+        return None;
+    };
+    number_between(&part, 1, most)
 }
 
 /// Takes the key of the steps and the bracket that opens them, if they are next.
@@ -191,13 +264,20 @@ fn opens_steps(reader: &mut Reader<'_>) -> bool
     ensures { IsTrue result
         → reader.old ≡ token.key (codes "steps") ∷ token.begin_array ∷ reader.new }
 {
-    let Some(Token::Key(key)) = reader.next() else {
+    let Some(key) = next_key(reader) else {
         return false;
     };
-    if key != "steps" {
-        return false;
-    }
-    matches!(reader.next(), Some(Token::BeginArray))
+    key == "steps" && opens_array(reader)
+}
+
+/// The ceiling that the next value is.
+fn ceiling(reader: &mut Reader<'_>) -> Option<Ceiling>
+    ensures { IfSome result (λ ceiling. IsCeiling reader.old reader.new ceiling) }
+{
+    let Some(part) = next_part(reader) else {
+        return None;
+    };
+    Ceiling::new(number_between(&part, 1, u32::MAX)?)
 }
 
 /// The ceiling and the CPUs of a script, from behind the key of the ceiling up to the bracket that opens its steps.
@@ -206,13 +286,39 @@ fn from_ceiling(reader: &mut Reader<'_>) -> Option<(u32, Ceiling)>
         (token.begin_object ∷ token.key (codes "ceiling") ∷ reader.old) reader.new head.0 head.1) }
     ensures range { IfSome result (λ head. (1 ≤ head.0) × (head.0 ≤ most_cpus)) }
 {
-    let calls = number_between(&next_part(reader)?, 1, u32::MAX)?;
-    let ceiling = Ceiling::new(calls)?;
+    let ceiling = ceiling(reader)?;
     let cpus = number_at(reader, "cpus", MOST_CPUS)?;
     if !opens_steps(reader) {
         return None;
     }
     Some((cpus, ceiling))
+}
+
+/// The ceiling of a script, from behind its key up to the bracket that opens the steps.
+fn ceiling_and_steps(reader: &mut Reader<'_>) -> Option<Ceiling>
+    ensures { IfSome result (λ ceiling. HasCeiling reader.old reader.new ceiling) }
+{
+    let ceiling = ceiling(reader)?;
+    if !opens_steps(reader) {
+        return None;
+    }
+    Some(ceiling)
+}
+
+/// The ceiling of a script, or the greatest if it has none, from behind the CPUs up to the bracket that opens the steps.
+fn behind_cpus(reader: &mut Reader<'_>) -> Option<Ceiling>
+    ensures { IfSome result (λ ceiling. IsBehindCpus reader.old reader.new ceiling) }
+{
+    let Some(key) = next_key(reader) else {
+        return None;
+    };
+    if key == "ceiling" {
+        return ceiling_and_steps(reader);
+    }
+    if key != "steps" || !opens_array(reader) {
+        return None;
+    }
+    Ceiling::new(u32::MAX)
 }
 
 /// The CPUs of a script and its ceiling if it has one, from behind the key of the CPUs up to the bracket that opens its steps.
@@ -221,25 +327,12 @@ fn from_cpus(reader: &mut Reader<'_>) -> Option<(u32, Ceiling)>
         (token.begin_object ∷ token.key (codes "cpus") ∷ reader.old) reader.new head.0 head.1) }
     ensures range { IfSome result (λ head. (1 ≤ head.0) × (head.0 ≤ most_cpus)) }
 {
-    let cpus = number_between(&next_part(reader)?, 1, MOST_CPUS)?;
-    let Some(Token::Key(key)) = reader.next() else {
+    let Some(part) = next_part(reader) else {
         return None;
     };
-    if key == "ceiling" {
-        let calls = number_between(&next_part(reader)?, 1, u32::MAX)?;
-        let ceiling = Ceiling::new(calls)?;
-        if !opens_steps(reader) {
-            return None;
-        }
-        return Some((cpus, ceiling));
-    }
-    if key != "steps" {
-        return None;
-    }
-    let Some(Token::BeginArray) = reader.next() else {
-        return None;
-    };
-    Some((cpus, Ceiling::new(u32::MAX)?))
+    let cpus = number_between(&part, 1, MOST_CPUS)?;
+    let ceiling = behind_cpus(reader)?;
+    Some((cpus, ceiling))
 }
 
 /// The CPUs and the ceiling of a script, up to the bracket that opens its steps. The ceiling, if there is one, may stand first
@@ -251,7 +344,7 @@ fn head(reader: &mut Reader<'_>) -> Option<(u32, Ceiling)>
     let Some(Token::BeginObject) = reader.next() else {
         return None;
     };
-    let Some(Token::Key(key)) = reader.next() else {
+    let Some(key) = next_key(reader) else {
         return None;
     };
     if key == "ceiling" {

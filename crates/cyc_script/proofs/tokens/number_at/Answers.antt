@@ -1,4 +1,4 @@
-use Rattle.std.proofs.Common.{◌≡◌, ◌∷◌, arith}
+use Rattle.std.proofs.Common.{◌≡◌, ◌∷◌, ap, ◌∙◌, arith}
 use Rattle.std.proofs.lemmas.Slice.Eq.{bytes_eq-Decides}
 use Rattle.json.specs.Token.{Token}
 use Rattle.cyc_script.specs.Parts.{data_of}
@@ -7,8 +7,8 @@ use Rattle.cyc_script.proofs.tokens.number_at.Goals as goal
 
 pub returns : goal.returns
 returns c =
-    let same : c.in-Some-Key.key.now ≡ c.args.name.now =
-    (bytes_eq-Decides c.in-Some-Key.key.now c.args.name.now).0 (grind arith) in
-    let is : c.args.reader.now ≡ Token.key c.args.name.now ∷ c.next.new.self = grind (arith, same) in
-    let part = c.in_ok-next_part in
-    record { value = number_here _ _ _ _ _ (data_of part.field-0) _ is part.ensures.value c.number_between.ensures }
+    let same : c.in-Some.key.now ≡ c.args.name.now =
+    (bytes_eq-Decides c.in-Some.key.now c.args.name.now).0 (grind arith) in
+    let is = c.in-Some.ensures ∙ ap (λ key. Token.key key ∷ c.next_key.new.reader) same in
+    let part = c.in-Some-next_part in
+    record { value = number_here _ _ _ _ _ (data_of part.part) _ is part.ensures.value c.number_between.ensures }

@@ -4,7 +4,7 @@ use Rattle.serde_json.specs.Read.{of_items, converted}
 use Rattle.cyc_script.specs.Limits.{most_steps}
 use Rattle.cyc_script.specs.Steps.{first_context}
 use Rattle.cyc_script.proofs.Taken.{Keeps, taken}
-use Rattle.cyc_script.proofs.tokens.steps.Given as goal
+use Rattle.cyc_script.proofs.tokens.take_steps.Given as goal
 
 abbrev pub invariant-loop-alloc : goal.invariant-loop-alloc
 invariant-loop-alloc l =
