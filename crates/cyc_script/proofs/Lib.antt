@@ -1,4 +1,5 @@
 pub mod Fits
+pub mod Forms
 pub mod Grammar
 pub mod Heads
 pub mod Lists

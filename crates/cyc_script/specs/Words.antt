@@ -1,7 +1,8 @@
 -- The eleven words of a step, each with its parameters (our own format).
-use Rattle.std.specs.Prelude.{ℕ, List, [], ◌∷◌, length, codes, Some, None, Result, Ok, Err, bytes_eq, if◌then◌else◌}
+use Rattle.std.specs.Prelude.{ℕ, ℤ, List, [], ◌∷◌, codes, Option, Some, None, Result, Ok, Err, bytes_eq, if◌then◌else◌}
 use Rattle.serde_json.specs.Data.{Data, Items, no_items, item}
 use Rattle.serde_json.specs.Find.{as_str, as_array}
+use Rattle.cyc_types.specs.declared.level.Level.{Level}
 use Rattle.cyc_script.specs.declared.cause.Cause.{Cause}
 use Rattle.cyc_script.specs.declared.cause.Cause.TheVariants.{Shape}
 use Rattle.cyc_script.specs.declared.step.Step.{Step}
@@ -22,6 +23,15 @@ infixl 10 ◌>>=◌
 abbrev pub ◌>>=◌ : {A B E : Type 0} → Result A E → (A → Result B E) → Result B E
 (Ok x) >>= f = f x
 (Err e) >>= f = Err e
+
+-- what `add` and `omni` say of a cyclic: its name, its level, its start and its interval
+unfoldable pub cyclic_of : Data → Data → Data → Data → Result (List ℕ × Level × ℤ × ℤ) Cause
+cyclic_of name level start interval = do
+  n ← name_of name
+  l ← level_in_value level
+  s ← whole_of start
+  i ← whole_of interval
+  Ok (n, l, s, i)
 
 -- `add` name level start interval
 unfoldable pub add_of : List Data → Result Form Cause
@@ -72,6 +82,19 @@ reprogram_of (name ∷ moment ∷ cpu ∷ []) = do
   Ok (refers n (λ k. Reprogram (record { name = k; moment = m; cpu = Some c })))
 reprogram_of _ = Err Shape
 
+-- the CPU that may be named
+abbrev pub optional_cpu : Option Data → Result (Option ℕ) Cause
+optional_cpu None = Ok None
+optional_cpu (Some cpu) = unsigned_of cpu >>= λ c. Ok (Some c)
+
+-- `reprogram`, of its parameters one by one
+unfoldable pub reprogram_with : Data → Data → Option Data → Result Form Cause
+reprogram_with name moment cpu = do
+  n ← name_of name
+  m ← whole_of moment
+  c ← optional_cpu cpu
+  Ok (refers n (λ k. Reprogram (record { name = k; moment = m; cpu = c })))
+
 -- `remove` name
 unfoldable pub remove_of : List Data → Result Form Cause
 remove_of (name ∷ []) = do
@@ -112,6 +135,12 @@ offline_of parts = only_cpu parts >>= λ cpu. Ok (nameless (Offline cpu))
 abbrev pub online_of : List Data → Result Form Cause
 online_of parts = only_cpu parts >>= λ cpu. Ok (nameless (Online cpu))
 
+-- the form of a step of a word whose only parameter is a CPU
+unfoldable pub cpu_form_of : List ℕ → List Data → Result Form Cause
+cpu_form_of word parts = if bytes_eq word (codes "juggle") then juggle_of parts else
+    if bytes_eq word (codes "offline") then offline_of parts else
+    if bytes_eq word (codes "online") then online_of parts else Err Shape
+
 -- the form of a step of this word
 unfoldable pub form_of : List ℕ → List Data → Result Form Cause
 form_of word parts = if bytes_eq word (codes "add") then add_of parts else
@@ -125,6 +154,13 @@ form_of word parts = if bytes_eq word (codes "add") then add_of parts else
     if bytes_eq word (codes "juggle") then juggle_of parts else
     if bytes_eq word (codes "offline") then offline_of parts else
     if bytes_eq word (codes "online") then online_of parts else Err Shape
+
+-- the same, where it is none of the first four words
+unfoldable pub later_form_of : List ℕ → List Data → Result Form Cause
+later_form_of word parts = if bytes_eq word (codes "reprogram") then reprogram_of parts else
+    if bytes_eq word (codes "remove") then remove_of parts else
+    if bytes_eq word (codes "advance") then advance_of parts else
+    if bytes_eq word (codes "softint") then softint_of parts else cpu_form_of word parts
 
 -- the items of an array as a list
 abbrev pub list_of : Items → List Data

@@ -1,21 +1,42 @@
 //! The eleven words of a step.
 
-ghost use Rattle.std.specs.Prelude.{◌≡◌, ℕ, ◌<◌, ◌^◌, length, map, IfOk};
+ghost use Rattle.std.specs.Prelude.{◌≡◌, ℕ, ◌<◌, ◌^◌, length, map, option_map, IfOk};
 ghost use Rattle.serde_json.specs.Data.{array};
 ghost use Rattle.serde_json.specs.View.{items_of, view};
 ghost use Rattle.cyc_script.specs.Answers.{Gives};
 ghost use Rattle.cyc_script.specs.Parts.{data_of};
 ghost use Rattle.cyc_script.specs.Steps.{Fits, Reads, step_of};
 ghost use Rattle.cyc_script.specs.Words.{add_of, omni_of, bind_of, unbind_of, reprogram_of, remove_of, advance_of, softint_of};
-ghost use Rattle.cyc_script.specs.Words.{only_cpu, form_of, form_of_items};
+ghost use Rattle.cyc_script.specs.Words.{cpu_form_of, cyclic_of, form_of, form_of_items, later_form_of, nameless, only_cpu};
+ghost use Rattle.cyc_script.specs.Words.{optional_cpu, reprogram_with};
 
 use crate::cause::Cause;
 use crate::context::Context;
 use crate::parameters;
 use crate::part::{self, Part};
 use crate::step::{Add, Bind, Omni, Reprogram, Softint, Step};
+use cyc_types::Level;
 use serde_json::Value;
 use std::alloc::Global;
+
+/// What `add` and `omni` say of a cyclic: the text of its name, its level, its start and its interval.
+#[tactic(auto, unfolding(crate::specs::Words::cyclic_of))]
+#[inline(always)]
+fn cyclic<'a>(
+    name: &Part<'a>,
+    level: &Part<'_>,
+    start: &Part<'_>,
+    interval: &Part<'_>,
+) -> Result<(&'a str, Level, i64, i64), Cause>
+    ensures { Gives (λ c. (c.0.now, c.1, c.2, c.3)) result
+        (cyclic_of (data_of name.now) (data_of level.now) (data_of start.now) (data_of interval.now)) }
+{
+    let text = parameters::name(name)?;
+    let level = parameters::level(level)?;
+    let start = parameters::whole(start)?;
+    let interval = parameters::whole(interval)?;
+    Ok((text, level, start, interval))
+}
 
 #[tactic(auto, unfolding(crate::specs::Words::add_of))]
 fn add<'a>(alloc: Global, context: &mut Context<'a>, parts: &[Part<'a>]) -> Result<Step, Cause>
@@ -25,10 +46,7 @@ fn add<'a>(alloc: Global, context: &mut Context<'a>, parts: &[Part<'a>]) -> Resu
     let [name, level, start, interval] = parts else {
         return Err(Cause::Shape);
     };
-    let text = parameters::name(name)?;
-    let level = parameters::level(level)?;
-    let start = parameters::whole(start)?;
-    let interval = parameters::whole(interval)?;
+    let (text, level, start, interval) = cyclic(name, level, start, interval)?;
     let name = context.names.introduce(alloc, text)?;
     Ok(Step::Add(Add {
         name,
@@ -46,10 +64,7 @@ fn omni<'a>(alloc: Global, context: &mut Context<'a>, parts: &[Part<'a>]) -> Res
     let [name, level, start, interval, skew] = parts else {
         return Err(Cause::Shape);
     };
-    let text = parameters::name(name)?;
-    let level = parameters::level(level)?;
-    let start = parameters::whole(start)?;
-    let interval = parameters::whole(interval)?;
+    let (text, level, start, interval) = cyclic(name, level, start, interval)?;
     let skew = parameters::skew(skew)?;
     let name = context.names.introduce(alloc, text)?;
     Ok(Step::Omni(Omni {
@@ -85,23 +100,43 @@ fn unbind(context: &Context<'_>, parts: &[Part<'_>]) -> Result<Step, Cause>
     Ok(Step::Unbind(context.names.number(text)?))
 }
 
+/// The CPU that may be named.
+#[inline(always)]
+fn optional_cpu(cpu: Option<&Part<'_>>) -> Result<Option<u32>, Cause>
+    ensures { result ≡ optional_cpu (option_map (λ cpu. data_of cpu.now) cpu.entry) }
+{
+    match cpu {
+        Some(cpu) => Ok(Some(parameters::unsigned(cpu)?)),
+        None => Ok(None),
+    }
+}
+
+#[inline(always)]
+fn reprogram_with(
+    context: &Context<'_>,
+    name: &Part<'_>,
+    moment: &Part<'_>,
+    cpu: Option<&Part<'_>>,
+) -> Result<Step, Cause>
+    ensures { Reads result context.now context.now
+        (reprogram_with (data_of name.now) (data_of moment.now) (option_map (λ cpu. data_of cpu.now) cpu.entry)) }
+{
+    let text = parameters::name(name)?;
+    let moment = parameters::whole(moment)?;
+    let cpu = optional_cpu(cpu)?;
+    let name = context.names.number(text)?;
+    Ok(Step::Reprogram(Reprogram { name, moment, cpu }))
+}
+
 #[tactic(auto, unfolding(crate::specs::Words::reprogram_of))]
 fn reprogram(context: &Context<'_>, parts: &[Part<'_>]) -> Result<Step, Cause>
     ensures { Reads result context.now context.now (reprogram_of (map data_of parts.now)) }
 {
-    let (name, moment, cpu) = match parts {
-        [name, moment] => (name, moment, None),
-        [name, moment, cpu] => (name, moment, Some(cpu)),
-        _ => return Err(Cause::Shape),
-    };
-    let text = parameters::name(name)?;
-    let moment = parameters::whole(moment)?;
-    let cpu = match cpu {
-        Some(cpu) => Some(parameters::unsigned(cpu)?),
-        None => None,
-    };
-    let name = context.names.number(text)?;
-    Ok(Step::Reprogram(Reprogram { name, moment, cpu }))
+    match parts {
+        [name, moment] => reprogram_with(context, name, moment, None),
+        [name, moment, cpu] => reprogram_with(context, name, moment, Some(cpu)),
+        _ => Err(Cause::Shape),
+    }
 }
 
 #[tactic(auto, unfolding(crate::specs::Words::remove_of))]
@@ -154,7 +189,38 @@ fn only_cpu(parts: &[Part<'_>]) -> Result<u32, Cause>
     }
 }
 
-#[tactic(auto, unfolding(crate::specs::Words::form_of))]
+/// The step of a word whose only parameter is a CPU.
+#[tactic(auto, unfolding(crate::specs::Words::cpu_form_of))]
+#[inline(always)]
+fn step_of_cpu(word: &str, parts: &[Part<'_>]) -> Result<Step, Cause>
+    ensures { Gives nameless result (cpu_form_of word.now (map data_of parts.now)) }
+{
+    match word {
+        "juggle" => Ok(Step::Juggle(only_cpu(parts)?)),
+        "offline" => Ok(Step::Offline(only_cpu(parts)?)),
+        "online" => Ok(Step::Online(only_cpu(parts)?)),
+        _ => Err(Cause::Shape),
+    }
+}
+
+/// The step of a word that is none of the first four.
+#[inline(always)]
+fn step_of_later_word(
+    context: &mut Context<'_>,
+    word: &str,
+    parts: &[Part<'_>],
+) -> Result<Step, Cause>
+    ensures { Reads result context.old context.new (later_form_of word.now (map data_of parts.now)) }
+{
+    match word {
+        "reprogram" => reprogram(context, parts),
+        "remove" => remove(context, parts),
+        "advance" => advance(context, parts),
+        "softint" => softint(context, parts),
+        _ => step_of_cpu(word, parts),
+    }
+}
+
 fn step_of_word<'a>(
     alloc: Global,
     context: &mut Context<'a>,
@@ -169,14 +235,7 @@ fn step_of_word<'a>(
         "omni" => omni(alloc, context, parts),
         "bind" => bind(context, parts),
         "unbind" => unbind(context, parts),
-        "reprogram" => reprogram(context, parts),
-        "remove" => remove(context, parts),
-        "advance" => advance(context, parts),
-        "softint" => softint(context, parts),
-        "juggle" => Ok(Step::Juggle(only_cpu(parts)?)),
-        "offline" => Ok(Step::Offline(only_cpu(parts)?)),
-        "online" => Ok(Step::Online(only_cpu(parts)?)),
-        _ => Err(Cause::Shape),
+        _ => step_of_later_word(context, word, parts),
     }
 }
 
