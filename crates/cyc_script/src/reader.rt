@@ -1,6 +1,7 @@
 //! A script, from its bytes.
 
-ghost use Rattle.std.specs.Prelude.{◌≡◌, ◌≤◌, ◌<◌, ◌^◌, [], length, map, option_map, string_bytes, Ok, IfOk, IfSome, true};
+ghost use Rattle.std.specs.Prelude.{◌≡◌, ◌≤◌, ◌<◌, ◌^◌, [], length, map, option_map, string_bytes, Ok, IfOk};
+ghost use Rattle.std.specs.Prelude.{OnOk, IfSome, true};
 ghost use Rattle.std.specs.List.{list_all};
 ghost use Rattle.std.specs.BTreeMap.{keys};
 ghost use Rattle.serde_json.specs.View.{view};
@@ -110,6 +111,32 @@ fn values(value: &Value) -> Option<&[Value]>
     within_limit(value.get("steps")?.as_array()?.as_slice())
 }
 
+/// Reads the steps of the values, the first of which is the first of all. `parts` is room for the parts of each.
+fn take_steps<'a>(
+    alloc: Global,
+    values: &'a [Value],
+    parts: &mut Vec<Part<'a>>,
+    steps: &mut Vec<Step>,
+    context: &mut Context<'a>,
+) -> Result<(), Refusal>
+    requires few_values { length values.now ≤ most_steps }
+    requires no_steps { steps.old.items ≡ [] }
+    requires no_names { context.old ≡ first_context }
+    ensures answers { Answers (λ _. (steps.new.items, context.new.names)) result
+        (steps_of [] first_context (map view values.now)) }
+    ensures well_formed { OnOk result (IsWellFormed steps.new.items (length context.new.names)) }
+{
+    let mut number: u32 = 0;
+    for value in values {
+        number += 1;
+        match words::read_value(alloc, context, parts, value) {
+            Ok(step) => steps.push(step)?,
+            Err(cause) => return Err(cause.at(number)),
+        }
+    }
+    Ok(())
+}
+
 /// The steps of the values, with the names that they introduce.
 fn steps(alloc: Global, values: &[Value]) -> Result<(Vec<Step>, Vec<String>), Refusal>
     requires { length values.now ≤ most_steps }
@@ -123,14 +150,7 @@ fn steps(alloc: Global, values: &[Value]) -> Result<(Vec<Step>, Vec<String>), Re
         names: Names::new(alloc),
         moment: 0,
     };
-    let mut number: u32 = 0;
-    for value in values {
-        number += 1;
-        match words::read_value(alloc, &mut context, &mut parts, value) {
-            Ok(step) => steps.push(step)?,
-            Err(cause) => return Err(cause.at(number)),
-        }
-    }
+    take_steps(alloc, values, &mut parts, &mut steps, &mut context)?;
     Ok((steps, context.names.into_texts()))
 }
 
@@ -142,9 +162,15 @@ fn script_in(alloc: Global, value: &Value) -> Result<Script, Refusal>
     if !has_keys(value) {
         return Err(SHAPE);
     }
-    let cpus = cpus(value).ok_or(SHAPE)?;
-    let ceiling = ceiling(value).ok_or(SHAPE)?;
-    let values = values(value).ok_or(SHAPE)?;
+    let Some(cpus) = cpus(value) else {
+        return Err(SHAPE);
+    };
+    let Some(ceiling) = ceiling(value) else {
+        return Err(SHAPE);
+    };
+    let Some(values) = values(value) else {
+        return Err(SHAPE);
+    };
     let (steps, names) = steps(alloc, values)?;
     Ok(Script {
         cpus,

@@ -2,7 +2,7 @@ use Rattle.std.proofs.Common.{◌≡◌, ◌≤◌, [], length, map, drop, true}
 use Rattle.serde_json.specs.View.{view}
 use Rattle.cyc_script.specs.WellFormed.{names_fit, names_after_all, moments_fit, moment_after_all}
 use Rattle.cyc_script.specs.Steps.{first_context, steps_of}
-use Rattle.cyc_script.proofs.reader.steps.Given as goal
+use Rattle.cyc_script.proofs.reader.take_steps.Given as goal
 
 abbrev pub invariant-loop-value : goal.invariant-loop-value
 invariant-loop-value l = record {
