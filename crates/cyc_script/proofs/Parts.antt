@@ -1,8 +1,12 @@
 -- The items of a step, one more at a time.
-use Rattle.std.proofs.Common.{◌≡◌, List, [], ◌∷◌, ◌++◌, Option, Some, None, refl, ap}
+use Rattle.std.proofs.Common.{◌≡◌, ℕ, ◌+◌, ◌<◌, List, [], ◌∷◌, ◌++◌, length, map, drop, get_or, Option, Some, None}
+use Rattle.std.proofs.Common.{refl, ap, sym, ◌∙◌, append_assoc}
+use Rattle.std.proofs.lemmas.List.{at_drop_more, map-append}
 use Rattle.json.specs.Token.{Token}
 use Rattle.json.specs.Json.{parse_map}
 use Rattle.serde_json.specs.Data.{Items, no_items, item}
+use Rattle.serde_json.specs.View.{view}
+use Rattle.serde_json.specs.declared.value.Value.{Value}
 use Rattle.cyc_script.specs.declared.part.Part.{Part}
 use Rattle.cyc_script.specs.Parts.{data_of}
 use Rattle.cyc_script.specs.Tokens.{items_of_parts}
@@ -28,3 +32,12 @@ one_more_item parts part (Some p) = ap (λ ds. Some (ds, p.1)) (items_pushed par
 pub none_before : (read : Option (Items × List Token)) → read ≡ parse_map (λ ds. ds) read
 none_before None = refl
 none_before (Some p) = refl
+
+-- one value more is among the parts
+pub one_more_value : (parts : List Part) (part : Part) (values : List Value) (i : ℕ) (value : Value) → i < length values
+    → value ≡ get_or values i value → data_of part ≡ view value
+    → map data_of parts ++ map view (drop i values) ≡ map data_of (parts ++ part ∷ []) ++ map view (drop (i + 1) values)
+one_more_value parts part values i value h is same =
+    let left = map view (drop (i + 1) values) in
+    at_drop_more (λ rest. map data_of parts ++ map view rest) values i value h
+    ∙ ap (λ d. map data_of parts ++ (d ∷ left)) (ap view (sym is) ∙ sym same) ∙ simp (map-append, append_assoc)
