@@ -131,8 +131,8 @@ module _ {S L H X Y : Type 0} (f : S → X) (g : L → X) (p : S → Y) (q : H �
       let k = ap (λ (ws : List _). length ws) all in let m = length-append ys iter in
       omega (arith, a, b, c, d, e, h, i, j, k, m, long)
 
-  pub more_left : (h : H) (iter' : List H) (n : ℕ) → iter ≡ h ∷ iter' → n ≡ length rest → n ≡ 0 → ⊥
-  more_left h iter' n e m z = let a = same_rest in let b = ap (λ (ws : List _). length ws) e in omega (arith, a, b, m, z)
+  pub more_left : (h : H) (iter' : List H) (n : ℕ) → iter ≡ h ∷ iter' → n ≡ length rest → 0 < n
+  more_left h iter' n e m = let a = same_rest in let b = ap (λ (ws : List _). length ws) e in omega (arith, a, b, m)
 
   pub all_given : length iter ≡ 0 → map f xs ≡ map g ls
   all_given z = by rest (same_rest ∙ z) high

@@ -1,4 +1,5 @@
 pub mod Laid
 pub mod Rings
 pub mod Working
+pub mod Preparing
 pub mod Refusing

@@ -6,6 +6,7 @@ ghost use Rattle.cyc_thread_rings.specs.Laid.{two};
 ghost use Rattle.cyc_thread_rings.specs.Rings.{IsSeated, AreSeated, IsClosed, AreClosed};
 
 use crate::levels::Levels;
+use crate::taking::take_next;
 use cyc_ring::{Closed, Ring};
 use cyc_workers::Seats;
 use std::alloc::{AllocError, Global};
@@ -30,9 +31,7 @@ pub fn close_rings(
     let mut closed = Vec::with_capacity(alloc, seats.len())?;
     let mut rest = rings.into_iter();
     for own in seats {
-        let Some(of_cpu) = rest.next() else {
-            unreachable!()
-        };
+        let of_cpu = take_next(&mut rest);
         closed.push_reserved(Levels {
             lock: close_ring(of_cpu.lock, own.lock),
             low: close_ring(of_cpu.low, own.low),

@@ -5,6 +5,7 @@ ghost use Rattle.cyc_thread_rings.specs.Rings.{firing_seats, seats_on, soft_seat
 
 use crate::attaching::{Attached, detach};
 use crate::levels::{Levels, Seated};
+use crate::taking::take_next;
 use cyc_cpu::Hard;
 use cyc_ring::{DrainEnd, RaiseEnd};
 use cyc_workers::{Lead, SoftSide};
@@ -45,12 +46,8 @@ pub fn leave_all<'a, C: Drop>(
     let mut rest_leads = leads.into_iter();
     let mut rest_soft = soft.into_iter();
     for hard in hards {
-        let Some(lead) = rest_leads.next() else {
-            unreachable!()
-        };
-        let Some(own) = rest_soft.next() else {
-            unreachable!()
-        };
+        let lead = take_next(&mut rest_leads);
+        let own = take_next(&mut rest_soft);
         all.push_reserved(leave(hard, lead, own));
     }
     Ok(all)

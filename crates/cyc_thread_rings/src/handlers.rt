@@ -3,6 +3,7 @@
 ghost use Rattle.std.specs.Prelude.{◌≡◌, ◌*◌, flat_map, length, IfOk};
 ghost use Rattle.cyc_thread_rings.specs.Laid.{three};
 
+use crate::taking::take_next;
 use cyc_workers::Handlers;
 use std::alloc::{AllocError, Global};
 
@@ -19,15 +20,9 @@ pub fn by_cpu<C: Drop>(
     let mut all = Vec::with_capacity(alloc, cpus)?;
     let mut rest = calls.into_iter();
     for _ in 0..cpus {
-        let Some(high) = rest.next() else {
-            unreachable!()
-        };
-        let Some(lock) = rest.next() else {
-            unreachable!()
-        };
-        let Some(low) = rest.next() else {
-            unreachable!()
-        };
+        let high = take_next(&mut rest);
+        let lock = take_next(&mut rest);
+        let low = take_next(&mut rest);
         all.push_reserved(Handlers { high, lock, low });
     }
     Ok(all)

@@ -13,6 +13,7 @@ mod opening;
 mod preparing;
 mod refusing;
 mod seating;
+mod taking;
 mod working;
 
 pub use attaching::{Attached, attach, detach};

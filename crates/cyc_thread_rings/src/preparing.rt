@@ -1,7 +1,8 @@
 //! What the threads of a run are given.
 
-ghost use Rattle.std.specs.Prelude.{◌≡◌, ◌≤◌, [], map, vec_len, vec_capacity, IfOk, IfErr};
+ghost use Rattle.std.specs.Prelude.{◌≡◌, ℕ, ◌+◌, [], ◌∷◌, ◌++◌, map, IfOk, IfErr, OnOk};
 ghost use Rattle.cyc_types.specs.declared.refusal.Refusal.TheVariants.{Memory};
+ghost use Rattle.cyc_thread_rings.specs.Preparing.{HasRoom};
 ghost use Rattle.cyc_thread_rings.specs.Working.{sides_of};
 
 use crate::attaching::Attached;
@@ -10,7 +11,7 @@ use crate::working::Drainer;
 use crossbeam_utils::sync::Parker;
 use cyc_ring::{DrainEnd, RaiseEnd};
 use cyc_types::Refusal;
-use cyc_workers::{Lead, Wakers};
+use cyc_workers::{Lead, SoftSide, Wakers};
 use std::alloc::{AllocError, Global};
 use std::sync::Arc;
 
@@ -27,21 +28,19 @@ pub struct Prepared<'a, C> {
     pub wakers: Vec<Arc<Wakers, Global>>,
 }
 
-/// What the threads of one CPU are given.
+/// What the threads of a run are given, over any ends.
 #[derive(Drop)]
-struct OfCpu<'a, C> {
-    ends: (RaiseEnd<'a>, RaiseEnd<'a>),
-    lead: Lead<C>,
-    drainers: Levels<Drainer<DrainEnd<'a>, C>>,
-    wakers: Arc<Wakers, Global>,
+struct Lists<E, D, C> {
+    ends: Vec<E>,
+    leads: Vec<Lead<C>>,
+    drainers: Vec<Levels<Drainer<D, C>>>,
+    wakers: Vec<Arc<Wakers, Global>>,
 }
 
 /// Two beds, and what wakes those who sleep there, twice.
 fn beds(
     alloc: Global,
-) -> Result<(Levels<Parker>, Arc<Wakers, Global>, Arc<Wakers, Global>), Refusal>
-    ensures { IfErr result (λ e. e ≡ Memory) }
-{
+) -> Result<(Levels<Parker>, Arc<Wakers, Global>, Arc<Wakers, Global>), AllocError> {
     let lock = Parker::new(alloc)?;
     let low = Parker::new(alloc)?;
     let wakers = Wakers {
@@ -53,56 +52,65 @@ fn beds(
     Ok((Levels { lock, low }, wakers, same))
 }
 
-/// What the threads of one CPU are given, over its ends. Its memory may be refused.
-fn prepare_one<'a, C: Drop>(
-    alloc: Global,
-    attached: Attached<'a, C>,
-) -> Result<OfCpu<'a, C>, Refusal>
-    ensures ends { IfOk result (λ p. p.ends ≡ attached.entry.ends) }
-    ensures lead { IfOk result (λ p. p.lead.calls ≡ attached.entry.high) }
-    ensures drainers { IfOk result (λ p. sides_of p.drainers ≡ attached.entry.soft) }
-    ensures refused { IfErr result (λ e. e ≡ Memory) }
+/// The draining workers of a CPU over its soft sides, each with its bed.
+fn drainers_of<D, C>(beds: Levels<Parker>, soft: Levels<SoftSide<D, C>>) -> Levels<Drainer<D, C>>
+    ensures { sides_of result ≡ soft }
 {
-    let (parkers, own, wakers) = beds(alloc)?;
-    let Attached { ends, high, soft } = attached;
-    Ok(OfCpu {
-        ends,
-        lead: Lead {
-            calls: high,
-            wakers: own,
+    Levels {
+        lock: Drainer {
+            parker: beds.lock,
+            side: soft.lock,
         },
-        drainers: Levels {
-            lock: Drainer {
-                parker: parkers.lock,
-                side: soft.lock,
-            },
-            low: Drainer {
-                parker: parkers.low,
-                side: soft.low,
-            },
+        low: Drainer {
+            parker: beds.low,
+            side: soft.low,
         },
-        wakers,
-    })
+    }
 }
 
 /// Room for what the threads of so many CPUs are given. Its memory may be refused.
-fn room<'a, C: Drop>(alloc: Global, cpus: usize) -> Result<Prepared<'a, C>, AllocError>
-    ensures ends { IfOk result (λ p. (p.ends.items ≡ []) × ((vec_len p.ends ≡ 0) × (cpus ≤ vec_capacity p.ends))) }
-    ensures leads { IfOk result (λ p. (p.leads.items ≡ []) × ((vec_len p.leads ≡ 0) × (cpus ≤ vec_capacity p.leads))) }
-    ensures drainers { IfOk result
-        (λ p. (p.drainers.items ≡ []) × ((vec_len p.drainers ≡ 0) × (cpus ≤ vec_capacity p.drainers))) }
-    ensures wakers { IfOk result (λ p. (vec_len p.wakers ≡ 0) × (cpus ≤ vec_capacity p.wakers)) }
+fn room<E: Drop, D: Drop, C: Drop>(alloc: Global, cpus: usize) -> Result<Lists<E, D, C>, AllocError>
+    ensures none { IfOk result (λ l. (l.ends.items ≡ []) × ((l.leads.items ≡ []) × (l.drainers.items ≡ []))) }
+    ensures room { IfOk result (HasRoom cpus) }
 {
     let wakers = Vec::with_capacity(alloc, cpus)?;
     let leads = Vec::with_capacity(alloc, cpus)?;
     let drainers = Vec::with_capacity(alloc, cpus)?;
     let ends = Vec::with_capacity(alloc, cpus)?;
-    Ok(Prepared {
+    Ok(Lists {
         ends,
         leads,
         drainers,
         wakers,
     })
+}
+
+/// What the threads of one CPU more are given. Its memory may be refused.
+fn add<E: Drop, D: Drop, C: Drop>(
+    alloc: Global,
+    ends: E,
+    high: C,
+    soft: Levels<SoftSide<D, C>>,
+    lists: &mut Lists<E, D, C>,
+) -> Result<(), Refusal>
+    requires { HasRoom 1 lists.old }
+    ensures ends { OnOk result (lists.new.ends.items ≡ lists.old.ends.items ++ ends ∷ []) }
+    ensures leads { OnOk result (map (λ l. l.calls) lists.new.leads.items
+        ≡ map (λ l. l.calls) lists.old.leads.items ++ high ∷ []) }
+    ensures drainers { OnOk result (map sides_of lists.new.drainers.items
+        ≡ map sides_of lists.old.drainers.items ++ soft ∷ []) }
+    ensures room { OnOk result ((n : ℕ) → HasRoom (n + 1) lists.old → HasRoom n lists.new) }
+    ensures refused { IfErr result (λ e. e ≡ Memory) }
+{
+    let (parkers, own, wakers) = beds(alloc)?;
+    lists.ends.push_reserved(ends);
+    lists.leads.push_reserved(Lead {
+        calls: high,
+        wakers: own,
+    });
+    lists.drainers.push_reserved(drainers_of(parkers, soft));
+    lists.wakers.push_reserved(wakers);
+    Ok(())
 }
 
 /// What the threads of a run are given, over these ends. Its memory may be refused.
@@ -115,23 +123,15 @@ pub fn prepare<'a, C: Drop>(
     ensures drainers { IfOk result (λ p. map sides_of p.drainers.items ≡ map (λ a. a.soft) all.entry.items) }
     ensures refused { IfErr result (λ e. e ≡ Memory) }
 {
-    let Prepared {
-        mut ends,
-        mut leads,
-        mut drainers,
-        mut wakers,
-    } = room(alloc, all.len())?;
+    let mut lists = room(alloc, all.len())?;
     for attached in all {
-        let own = prepare_one(alloc, attached)?;
-        ends.push_reserved(own.ends);
-        leads.push_reserved(own.lead);
-        drainers.push_reserved(own.drainers);
-        wakers.push_reserved(own.wakers);
+        let Attached { ends, high, soft } = attached;
+        add(alloc, ends, high, soft, &mut lists)?;
     }
     Ok(Prepared {
-        ends,
-        leads,
-        drainers,
-        wakers,
+        ends: lists.ends,
+        leads: lists.leads,
+        drainers: lists.drainers,
+        wakers: lists.wakers,
     })
 }

@@ -3,6 +3,7 @@
 ghost use Rattle.std.specs.Prelude.{◌≡◌, map, length, IfOk};
 
 use crate::levels::{Levels, Seated};
+use crate::taking::take_next;
 use cyc_workers::{Handlers, Seats};
 use std::alloc::{AllocError, Global};
 
@@ -19,12 +20,9 @@ pub fn seat_all<C: Drop>(
     let mut all = Vec::with_capacity(alloc, seats.len())?;
     let mut rest = calls.into_iter();
     for own in seats {
-        let Some(handlers) = rest.next() else {
-            unreachable!()
-        };
         all.push_reserved(Seated {
             seats: own,
-            calls: handlers,
+            calls: take_next(&mut rest),
         });
     }
     Ok(all)

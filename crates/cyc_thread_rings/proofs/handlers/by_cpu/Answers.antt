@@ -7,9 +7,10 @@ use Rattle.cyc_thread_rings.proofs.handlers.by_cpu.Goals as goal
 
 pub loop-preserved : goal.loop-preserved
 loop-preserved g c =
-    let inv = c.loop.invariant in let one = c.in-Some.ensures in let two = c.in-Some-next.ensures in
-    let last = c.in-Some-next-2.ensures in let more = c.push_reserved.ensures.items in
-    let h : Handlers _ = record { high = c.in-Some.high; lock = c.in-Some-next.lock; low = c.in-Some-next-2.low } in
+    let inv = c.loop.invariant in let one = c.take_next-high.ensures in let two = c.take_next-lock.ensures in
+    let last = c.take_next-low.ensures in let more = c.push_reserved.ensures.items in
+    let h : Handlers _ =
+    record { high = c.take_next-high.result; lock = c.take_next-lock.result; low = c.take_next-low.result } in
     let many = taken_many _ _ h.low _ _ last.items last.len (taken_many _ _ h.lock _ _ two.items two.len
     (taken_many _ _ h.high _ _ one.items one.len inv.many)) in
     let long = one_longer c.loop.all.items _ h more in let was = inv.all in

@@ -3,19 +3,18 @@ use Rattle.cyc_thread_rings.specs.declared.levels.Seated.{Seated}
 use Rattle.cyc_thread_rings.proofs.Each.{as_many, given_all, map_given, map_one_more, same_all, taken_all, taken_many}
 use Rattle.cyc_thread_rings.proofs.seating.seat_all.Goals as goal
 
-pub unreachable-requires : goal.unreachable-requires
-unreachable-requires g c =
+pub take_next-requires : goal.take_next-requires
+take_next-requires g c =
     let inv = c.loop-own.invariant in
     let many = as_many (λ (x : Seated _). x.calls) (λ (x : Seated _). x.seats) c.loop-own.all.items _ c.args.calls.items
     c.loop-own.yielded _ c.args.seats.items inv.calls inv.seats inv.all c.requires in
     let left = inv.many in let given = c.in-Some.ensures.steps.1 in let calls = inv.many_calls in
-    let none = c.in_default.ensures.cases.0 in
-    omega (arith, many, left, given, calls, none)
+    omega (arith, many, left, given, calls)
 
 pub loop-own-preserved : goal.loop-own-preserved
 loop-own-preserved g c =
     let inv = c.loop-own.invariant in let x = c.in-Some.own in let step = c.in-Some.ensures.steps in
-    let calls = c.in-Some-next.ensures in let h = c.in-Some-next.handlers in let more = c.push_reserved.ensures.items in
+    let calls = c.take_next.ensures in let h = c.take_next.result in let more = c.push_reserved.ensures.items in
     let s : Seated _ = record { seats = x; calls = h } in
     record {
       all = taken_all c.loop-own.yielded x _ _ _ step.0 inv.all;

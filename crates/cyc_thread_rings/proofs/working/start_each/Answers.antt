@@ -1,4 +1,4 @@
-use Rattle.std.proofs.Common.{[], ◌∷◌, map, sym, subst, arith, rules}
+use Rattle.std.proofs.Common.{[], ◌∷◌, map, sym, subst, arith, ◌∙◌, List, ap, length}
 use Rattle.std.proofs.lemmas.List.{map-append}
 use Rattle.cyc_types.specs.Pairs.{EachTwo}
 use Rattle.cyc_thread_rings.specs.Working.{sides_of, HasPromised}
@@ -10,8 +10,10 @@ loop-of_cpu-init g c =
     let gives = c.into_iter-of_cpu-iterator.ensures.into_iter_gives in
     record {
       all = gives.0;
-      many = search rules;
-      room = search rules;
+      many = gives.1 ∙ c.args.drainers.ok.0 ∙ ap (λ (zs : List _). length zs) (sym gives.0);
+      room = let many = gives.1 in let long = c.args.drainers.ok.0 in let room = c.requires.room in
+          let none = ap (λ (zs : List _). length zs) c.requires.none in let done = c.args.workers.now.ok.0 in
+          omega (arith, many, long, room, none, done);
       started = subst (EachTwo HasPromised []) (sym c.requires.none) tt;
     }
 
