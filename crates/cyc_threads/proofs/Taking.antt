@@ -1,7 +1,7 @@
 -- Steps of a script, one after another.
 use Rattle.std.proofs.Common.{◌≡◌, ℕ, ◌+◌, ◌<◌, ◌≤◌, inl, inr, List, [], ◌∷◌, ◌++◌, length, drop, get_or, refl, sym, ap, subst}
 use Rattle.std.proofs.Common.{◌∙◌, arith}
-use Rattle.std.specs.Prelude.{Bool, true, false, ◌&&◌, take, slice_index_or, nat_le, nat_lt}
+use Rattle.std.specs.Prelude.{Bool, true, false, ◌&&◌, take, slice_index_or, nat_le, nat_lt, Result, Ok, Err, IfOk, IfErr}
 use Rattle.std.specs.List.{FoldsTo}
 use Rattle.std.proofs.lemmas.Bool.Decides.{nat_tests}
 use Rattle.std.proofs.lemmas.List.{take_more, take_all}
@@ -14,12 +14,12 @@ use Rattle.cyc_script.proofs.WellFormed.{moments_fit_next}
 use Rattle.cyc_script.specs.declared.step.Step.{Step}
 use Rattle.cyc_script.specs.declared.step.Step.TheVariants as steps
 use Rattle.cyc_threads.specs.declared.progress.Progress.{Progress}
-use Rattle.cyc_threads.specs.Words.{Begins, TakesStep}
-use Rattle.cyc_threads.specs.Steps.{IsBefore, TakesSteps, Runs, StepHalts, WhyHalted}
+use Rattle.cyc_threads.specs.Words.{Begins, Does, TakesStep, waits_first}
+use Rattle.cyc_threads.specs.Steps.{IsTold, IsBefore, TakesSteps, Runs, StepHalts, WhyHalted}
 use Rattle.cyc_threads.specs.StepCalls.{IsReady, Waits}
 use Rattle.cyc_threads.specs.declared.halt.Halt.{Halt}
 use Rattle.cyc_threads.proofs.Ready.{step_ready}
-use Rattle.cyc_threads.proofs.Refusing.{halts_at}
+use Rattle.cyc_threads.proofs.Refusing.{halts_begun, halts_at}
 
 second : (a b : Bool) → (a && b) ≡ true → b ≡ true
 second true b e = e
@@ -62,8 +62,9 @@ module _ {C R : Type 0} (handler : Calls C) (firing : Raise R) where
       → TakesSteps handler firing s xs t
   steps_all xs i s t far p = subst (λ ys. TakesSteps handler firing s ys t) (take_all i xs far) p
 
-  pub begun_true : (b : Bool) (s t : Progress R C) → b ≡ true → Waits firing s t → Begins firing b s t
-  begun_true b s t e w = subst (λ x. Begins firing x s t) (sym e) w
+  pub begun_true : (b : Bool) (s : Progress R C) (r : Result (Progress R C) Halt) → b ≡ true → IfOk r (λ t. Waits firing s t)
+      → IfOk r (λ t. Begins firing b s t)
+  begun_true b s r e w = subst (λ x. IfOk r (λ t. Begins firing x s t)) (sym e) w
 
   pub begun_false : (b : Bool) (s : Progress R C) → b ≡ false → Begins firing b s s
   begun_false b s e = subst (λ x. Begins firing x s s) (sym e) refl
@@ -95,9 +96,32 @@ module _ {C R : Type 0} (handler : Calls C) (firing : Raise R) where
       → Reached xs i s t → IsBefore x
   reached_before xs i x s t low is r = fit_before xs i x low is r.fit
 
-  pub reached_runs : (xs : List Step) (i : ℕ) (s t u : Progress R C) → length xs ≤ i → Reached xs i s t → Waits firing t u
-      → Runs handler firing s xs u
-  reached_runs xs i s t u far r w = runs xs i s t u far r.taken w
+  -- what the wait at the end answers, after all steps
+  pub reached_ends : (xs : List Step) (i : ℕ) (s u : Progress R C) (r : Result (Progress R C) Halt) → length xs ≤ i
+      → Reached xs i s u → IfOk r (λ t. Waits firing u t) → IfOk r (λ t. Runs handler firing s xs t)
+  reached_ends xs i s u (Ok t) far q w = runs xs i s u t far q.taken w
+  reached_ends xs i s u (Err h) far q w = tt
+
+  pub told_halts : (s : Progress R C) (xs : List Step) (r : Result (Progress R C) Halt)
+      → IfErr r (λ h. IsTold handler.may_refuse h) → IfErr r (λ h. WhyHalted handler firing s xs h)
+  told_halts s xs (Ok t) w = tt
+  told_halts s xs (Err h) w = inl w
+
+  -- what a word did, where the step is that word and it left this
+  pub does_same : (x y : Step) (s t u : Progress R C) → x ≡ y → u ≡ t → Does handler firing y s t → Does handler firing x s u
+  does_same x y s t u e f d = subst (λ (z : Step). Does handler firing z s u) (sym e)
+      (subst (λ (z : Progress R C). Does handler firing y s z) (sym f) d)
+
+  -- a step whose call came after what begins it
+  pub then_taken : (s u : Progress R C) (x : Step) (r : Result (Progress R C) Halt) → Begins firing (waits_first x) s u
+      → IfOk r (λ t. Does handler firing x u t) → IfOk r (λ t. TakesStep handler firing s x t)
+  then_taken s u x (Ok t) b d = (u, b, d)
+  then_taken s u x (Err h) b d = tt
+
+  pub then_halts : (s u : Progress R C) (x : Step) (r : Result (Progress R C) Halt) → Begins firing (waits_first x) s u
+      → IfErr r (λ h. StepHalts handler firing x u h) → IfErr r (λ h. StepHalts handler firing x s h)
+  then_halts s u x (Ok t) b w = tt
+  then_halts s u x (Err h) b w = halts_begun handler firing x s u h b w
 
   pub reached_halts : (xs : List Step) (i : ℕ) (x : Step) (s t : Progress R C) (h : Halt) → i < length xs → x ≡ get_or xs i x
       → Reached xs i s t → StepHalts handler firing x t h → WhyHalted handler firing s xs h

@@ -1,15 +1,16 @@
 //! The words that change where a cyclic is and when it expires, and those for a CPU.
 
 ghost use Rattle.cyc_script.specs.declared.step.Step.TheVariants as steps;
-ghost use Rattle.std.specs.Prelude.{◌≡◌, Option, Result};
+ghost use Rattle.std.specs.Prelude.{◌≡◌, Result};
 ghost use Rattle.cyc_types.specs.declared.refusal.Refusal.{Refusal as AnyRefusal};
-ghost use Rattle.cyc_system_workers.specs.Calls.{Changes, reprograms};
+ghost use Rattle.cyc_system_workers.specs.Calls.{Bind as BindCall, Changes, reprograms};
 ghost use Rattle.cyc_threads.specs.Names.{named_at, id_of};
-ghost use Rattle.cyc_threads.specs.Words.{Does};
+ghost use Rattle.cyc_threads.specs.StepCalls.{CallsFor};
+ghost use Rattle.cyc_threads.specs.Words.{WithId, Does};
 
 use crate::named::Named;
 use crate::progress::{Progress, sound};
-use cyc_script::{Bind, Name, Reprogram};
+use cyc_script::{Name, Reprogram};
 use cyc_system_workers::System;
 use cyc_types::{Calls, CyclicId, Moment, Raise, Refusal};
 
@@ -25,30 +26,16 @@ pub(crate) fn id_of(named: Named) -> Option<CyclicId>
     }
 }
 
-/// The word `bind`.
-pub(crate) fn bind<R: Raise, C: Calls>(progress: Progress<R, C>, bound: &Bind) -> Progress<R, C>
-    ensures { Does C.Calls R.Raise (steps.Bind bound.now) progress result }
-{
-    let Some(id) = id_of(progress.names.at(bound.name.number())) else {
-        return progress;
-    };
-    let mut progress = progress;
-    let _answer = progress.side.system.bind(id, Some(bound.cpu));
-    sound(&progress.side.system);
-    progress
-}
-
-/// The word `unbind`.
-pub(crate) fn unbind<R: Raise, C: Calls>(progress: Progress<R, C>, name: Name) -> Progress<R, C>
-    ensures { Does C.Calls R.Raise (steps.Unbind name) progress result }
+/// The words `bind`, to a CPU, and `unbind`, to none.
+pub(crate) fn bind<R: Raise, C>(progress: &mut Progress<R, C>, name: Name, cpu: Option<u32>)
+    ensures { WithId (id_of (named_at progress.old.names name)) (λ id. (answer : Result (Unit {0}) AnyRefusal)
+        × CallsFor R.Raise name (BindCall id cpu answer) progress.old progress.new) (progress.new ≡ progress.old) }
 {
     let Some(id) = id_of(progress.names.at(name.number())) else {
-        return progress;
+        return;
     };
-    let mut progress = progress;
-    let _answer = progress.side.system.bind(id, None);
+    let _answer = progress.side.system.bind(id, cpu);
     sound(&progress.side.system);
-    progress
 }
 
 /// A cyclic gets another next expiration, or its component on the CPU where one is named.
@@ -67,50 +54,39 @@ fn reprogram_at<R: Raise>(
 }
 
 /// The word `reprogram`.
-pub(crate) fn reprogram<R: Raise, C: Calls>(
-    progress: Progress<R, C>,
-    reprogram: &Reprogram,
-) -> Progress<R, C>
-    ensures { Does C.Calls R.Raise (steps.Reprogram reprogram.now) progress result }
+pub(crate) fn reprogram<R: Raise, C: Calls>(progress: &mut Progress<R, C>, reprogram: &Reprogram)
+    ensures { Does C.Calls R.Raise (steps.Reprogram reprogram.now) progress.old progress.new }
 {
     let Ok(moment) = Moment::new(reprogram.moment) else {
-        return progress;
+        return;
     };
     let Some(id) = id_of(progress.names.at(reprogram.name.number())) else {
-        return progress;
+        return;
     };
-    let mut progress = progress;
     let _answer = reprogram_at(&mut progress.side.system, id, reprogram.cpu, moment);
     sound(&progress.side.system);
-    progress
 }
 
 /// The word `juggle`.
-pub(crate) fn juggle<R: Raise, C: Calls>(progress: Progress<R, C>, cpu: u32) -> Progress<R, C>
-    ensures { Does C.Calls R.Raise (steps.Juggle cpu) progress result }
+pub(crate) fn juggle<R: Raise, C: Calls>(progress: &mut Progress<R, C>, cpu: u32)
+    ensures { Does C.Calls R.Raise (steps.Juggle cpu) progress.old progress.new }
 {
-    let mut progress = progress;
     let _answer = progress.side.system.juggle(cpu);
     sound(&progress.side.system);
-    progress
 }
 
 /// The word `offline`.
-pub(crate) fn offline<R: Raise, C: Calls>(progress: Progress<R, C>, cpu: u32) -> Progress<R, C>
-    ensures { Does C.Calls R.Raise (steps.Offline cpu) progress result }
+pub(crate) fn offline<R: Raise, C: Calls>(progress: &mut Progress<R, C>, cpu: u32)
+    ensures { Does C.Calls R.Raise (steps.Offline cpu) progress.old progress.new }
 {
-    let mut progress = progress;
     let _answer = progress.side.system.offline(cpu);
     sound(&progress.side.system);
-    progress
 }
 
 /// The word `online`: the CPU takes part again from the clock on.
-pub(crate) fn online<R: Raise, C: Calls>(progress: Progress<R, C>, cpu: u32) -> Progress<R, C>
-    ensures { Does C.Calls R.Raise (steps.Online cpu) progress result }
+pub(crate) fn online<R: Raise, C: Calls>(progress: &mut Progress<R, C>, cpu: u32)
+    ensures { Does C.Calls R.Raise (steps.Online cpu) progress.old progress.new }
 {
-    let mut progress = progress;
     let _answer = progress.side.system.online(cpu, progress.clock);
     sound(&progress.side.system);
-    progress
 }

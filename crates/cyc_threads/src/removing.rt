@@ -26,17 +26,15 @@ fn note(names: &mut Names, name: usize, id: CyclicId, answer: Result<SystemRemov
 }
 
 /// The word `remove`: begins the removal of a name's cyclic, and wakes the draining workers, which make the calls that it keeps.
-pub(crate) fn remove<R: Raise, C: Calls>(progress: Progress<R, C>, name: Name) -> Progress<R, C>
-    ensures { Does C.Calls R.Raise (steps.Remove name) progress result }
+pub(crate) fn remove<R: Raise, C: Calls>(progress: &mut Progress<R, C>, name: Name)
+    ensures { Does C.Calls R.Raise (steps.Remove name) progress.old progress.new }
 {
     let place = name.number();
     let Some(id) = id_of(progress.names.at(place)) else {
-        return progress;
+        return;
     };
-    let mut progress = progress;
     let answer = progress.side.system.begin_remove(id);
     sound(&progress.side.system);
     wake_all(progress.side.leads.as_slice());
     note(&mut progress.names, place, id, answer);
-    progress
 }

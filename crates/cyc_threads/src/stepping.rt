@@ -9,7 +9,7 @@ ghost use Rattle.cyc_threads.specs.Steps.{IsTold, IsBefore, Runs, StepHalts, Why
 
 use crate::adding::{add, add_omni};
 use crate::advancing::advance_clock;
-use crate::changing::{bind, juggle, offline, online, reprogram, unbind};
+use crate::changing::{bind, juggle, offline, online, reprogram};
 use crate::halt::Halt;
 use crate::progress::Progress;
 use crate::removing::remove;
@@ -47,8 +47,7 @@ fn begin_step<W: Wait, R: Raise + Drop, C: Calls + Drop>(
     if !waits_first(step) {
         return Ok(progress);
     }
-    let after = wait(rt, progress, signals)?;
-    Ok(after)
+    wait(rt, progress, signals)
 }
 
 /// The call of a step.
@@ -63,22 +62,21 @@ fn do_step<W: Threads + Wait, R: Raise + Send + Drop, C: Calls + Send + Drop>(
     ensures did { IfOk result (λ after. Does C.Calls R.Raise step.now progress after) }
     ensures halted { IfErr result (λ h. StepHalts C.Calls R.Raise step.now progress h) }
 {
+    let mut progress = progress;
     match step {
-        Step::Add(added) => Ok(add(progress, added)),
-        Step::Omni(added) => Ok(add_omni(progress, added)),
-        Step::Bind(bound) => Ok(bind(progress, bound)),
-        Step::Unbind(name) => Ok(unbind(progress, *name)),
-        Step::Reprogram(moved) => Ok(reprogram(progress, moved)),
-        Step::Remove(name) => Ok(remove(progress, *name)),
-        Step::Advance(now) => match advance_clock(rt, alloc, progress, *now) {
-            Ok(after) => Ok(after),
-            Err(halt) => Err(halt),
-        },
-        Step::Softint(_) => Ok(progress),
-        Step::Juggle(cpu) => Ok(juggle(progress, *cpu)),
-        Step::Offline(cpu) => Ok(offline(progress, *cpu)),
-        Step::Online(cpu) => Ok(online(progress, *cpu)),
+        Step::Add(added) => add(&mut progress, added),
+        Step::Omni(added) => add_omni(&mut progress, added),
+        Step::Bind(bound) => bind(&mut progress, bound.name, Some(bound.cpu)),
+        Step::Unbind(name) => bind(&mut progress, *name, None),
+        Step::Reprogram(moved) => reprogram(&mut progress, moved),
+        Step::Remove(name) => remove(&mut progress, *name),
+        Step::Advance(now) => return advance_clock(rt, alloc, progress, *now),
+        Step::Softint(_) => (),
+        Step::Juggle(cpu) => juggle(&mut progress, *cpu),
+        Step::Offline(cpu) => offline(&mut progress, *cpu),
+        Step::Online(cpu) => online(&mut progress, *cpu),
     }
+    Ok(progress)
 }
 
 /// One step.
@@ -95,8 +93,7 @@ fn take_step<W: Threads + Wait + Sync, R: Raise + Send + Drop, C: Calls + Send +
     ensures halted { IfErr result (λ h. StepHalts C.Calls R.Raise step.now progress h) }
 {
     let begun = begin_step(rt, progress, step, signals)?;
-    let after = do_step(rt, alloc, begun, step)?;
-    Ok(after)
+    do_step(rt, alloc, begun, step)
 }
 
 /// Takes the steps of a script, one after another, and then waits until no removal is open and every CPU has settled.
@@ -124,6 +121,5 @@ pub fn take_steps<W: Threads + Wait + Sync, R: Raise + Send + Drop, C: Calls + S
     for place in 0..script.steps.len() {
         progress = take_step(rt, alloc, progress, &script.steps[place], signals)?;
     }
-    let settled = wait(rt, progress, signals)?;
-    Ok(settled)
+    wait(rt, progress, signals)
 }

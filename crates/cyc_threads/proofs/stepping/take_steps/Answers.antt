@@ -1,7 +1,7 @@
-use Rattle.std.proofs.Common.{arith, inl}
+use Rattle.std.proofs.Common.{arith}
 use Rattle.cyc_workers.proofs.Joining.{at_err}
 use Rattle.cyc_threads.specs.Steps.{WhyHalted}
-use Rattle.cyc_threads.proofs.Taking.{reached_first, reached_before, reached_next, reached_runs, reached_halts}
+use Rattle.cyc_threads.proofs.Taking.{reached_first, reached_before, reached_next, reached_ends, reached_halts, told_halts}
 use Rattle.cyc_threads.proofs.stepping.take_steps.Goals as goal
 
 pub loop-place-init : goal.loop-place-init
@@ -29,15 +29,13 @@ returns-in_err-progress-clause-halted g c = let test = c.loop-place-test.true in
     c.loop-place.place c.index.result.now c.args.progress c.loop-place.progress c.in_err-progress.field-0.0
     (omega (arith, test, long)) c.index.ensures c.loop-place.invariant c.in_err-progress.ensures.halted)
 
-pub returns-in_err-settled-clause-halted : goal.returns-in_err-settled-clause-halted
-returns-in_err-settled-clause-halted g c =
-    at_err (λ h. WhyHalted g.C.Calls g.R.Raise c.args.progress c.args.script.now.steps.items h)
-    c.from_residual-in_err-settled.result c.in_err-settled.field-0.0 c.from_residual-in_err-settled.ensures.1
-    (inl c.in_err-settled.ensures.halted)
+pub returns-clause-halted : goal.returns-clause-halted
+returns-clause-halted g c = told_halts g.C.Calls g.R.Raise c.args.progress c.args.script.now.steps.items c.wait.result
+    c.wait.ensures.halted
 
 pub returns-clause-ran : goal.returns-clause-ran
 returns-clause-ran g c = let test = c.loop-place-test.false in let long = c.len-place-end.ensures in
-    reached_runs g.C.Calls g.R.Raise c.args.script.now.steps.items
-    c.loop-place.place c.args.progress c.loop-place.progress c.in_ok-settled.settled
+    reached_ends g.C.Calls g.R.Raise c.args.script.now.steps.items
+    c.loop-place.place c.args.progress c.loop-place.progress c.wait.result
     (omega (arith, test, long)) c.loop-place.invariant
-    c.in_ok-settled.ensures.waited
+    c.wait.ensures.waited
