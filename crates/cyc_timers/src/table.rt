@@ -231,10 +231,10 @@ impl Table {
         ensures size { self.new.size ≡ self.old.size }
         ensures room { self.new.room ≡ self.old.room }
     {
-        self.heap.lower_root(moment);
         let kept = &mut self.records[index.number() as usize];
         kept.expired = expired;
         kept.lost = lost;
+        self.heap.lower_root(moment);
     }
 
     /// The number of indexes, those in use and those that are free (`cyp_size`).
