@@ -1,5 +1,6 @@
 -- From few in a heap to many that play, and back.
-use Rattle.std.proofs.Common.{◌≡◌, ◌≢◌, ℕ, suc, ◌+◌, ◌*◌, ◌<◌, ◌≤◌, inl, inr, true, false, List, [], ◌∷◌, ◌++◌, length, take, refl}
+use Rattle.std.proofs.Common.{◌≡◌, ◌≢◌, ℕ, suc, ◌+◌, ◌*◌, ◌<◌, ◌≤◌, inl, inr, true, false, List, [], ◌∷◌, ◌++◌, length, take}
+use Rattle.std.proofs.Common.{refl}
 use Rattle.std.proofs.Common.{replicate}
 use Rattle.std.proofs.Common.{sym, ap, ◌∙◌}
 use Rattle.std.proofs.Common.{subst, subst₂, arith}
@@ -186,13 +187,14 @@ module _ (leaves : ℕ) (xs few ys : List Entry) (h : IsDrawn leaves xs few ys) 
         (subst (λ (few : List Entry). (p : ℕ) → p < length few → (entry_at few p).moment ≤ never) (sym front) h.used) behind
 
     pub front_kept : (i : ℕ) → i < leaves → entry_at (shown true (length few) zs) i ≡ entry_at xs i
-    front_kept i low = ap (λ l. entry_at (spread l (replicate (length zs) free_entry)) i) front ∙ elim (member (length few) i few) [
-      | inl (p, at, is) ↦ ap (entry_at (spread few (replicate (length zs) free_entry))) (sym is)
-          ∙ stands few leaves (length zs) h.heap h.low h.used wide p at ∙ sym (h.own p at) ∙ ap (entry_at xs) is
-      | inr none ↦ (let w = wide in
-          free_else few leaves (length zs) h.heap h.low h.used wide i (omega (arith, low, w)) none
-          ∙ sym (bare_now i low) ∙ h.rest i low none)
-    ]
+    front_kept i low = ap (λ l. entry_at (spread l (replicate (length zs) free_entry)) i) front
+        ∙ elim (member (length few) i few) [
+          | inl (p, at, is) ↦ ap (entry_at (spread few (replicate (length zs) free_entry))) (sym is)
+              ∙ stands few leaves (length zs) h.heap h.low h.used wide p at ∙ sym (h.own p at) ∙ ap (entry_at xs) is
+          | inr none ↦ (let w = wide in
+              free_else few leaves (length zs) h.heap h.low h.used wide i (omega (arith, low, w)) none
+              ∙ sym (bare_now i low) ∙ h.rest i low none)
+        ]
 
 -- the few play
 module _ (held leaves : ℕ) (es ys zs : List Entry) (t : IsTree true held leaves es) (long : length ys ≡ length es)
@@ -201,7 +203,8 @@ module _ (held leaves : ℕ) (es ys zs : List Entry) (t : IsTree true held leave
   played_free g within = let l = t.long in
       winner_at free_entry free_entry free_entry (entry_at ys (leaves + g)) (entry_at ys (2 * g))
       (entry_at ys (2 * g + 1)) (free (leaves + g) (omega arith) (omega (arith, within, l, long)))
-      (free (2 * g) (omega arith) (omega (arith, within, l, long))) (free (2 * g + 1) (omega arith) (omega (arith, within, l, long)))
+      (free (2 * g) (omega arith) (omega (arith, within, l, long)))
+      (free (2 * g + 1) (omega arith) (omega (arith, within, l, long)))
       (record { one = inl refl; left = comes_self free_entry; right = comes_self free_entry })
 
   module _ (long_after : length zs ≡ length ys) (here : StandsIn zs (take held es)) (played : IsPlayed leaves zs)
@@ -216,7 +219,8 @@ module _ (held leaves : ℕ) (es ys zs : List Entry) (t : IsTree true held leave
     kept_playing i low = elim (member (length (take held es)) i (take held es)) [
       | inl (p, at, is) ↦ ap (entry_at zs) (sym is) ∙ here p at ∙ sym (f.own p at) ∙ ap (entry_at (shown true held es)) is
       | inr none ↦ (let l = t.long in free_now i low none
-          ∙ sym (free_else (take held es) leaves (length es) f.heap f.low f.used (omega (arith, l)) i (omega (arith, low, l)) none))
+          ∙ sym (free_else (take held es) leaves (length es) f.heap f.low f.used (omega (arith, l)) i (omega (arith, low, l))
+          none))
     ]
 
     pub playing_tree : IsTree false 0 leaves zs

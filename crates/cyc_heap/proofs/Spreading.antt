@@ -1,8 +1,10 @@
 -- Few in front, each as if in its leaf.
-use Rattle.std.proofs.Common.{◌≡◌, ◌≢◌, ℕ, zero, suc, ◌*◌, ◌<◌, ◌≤◌, ◌⊎◌, inl, inr, Bool, true, false, List, [], ◌∷◌, length, take, replicate}
+use Rattle.std.proofs.Common.{◌≡◌, ◌≢◌, ℕ, zero, suc, ◌*◌, ◌<◌, ◌≤◌, ◌⊎◌, inl, inr, Bool, true, false, List, [], ◌∷◌, length}
+use Rattle.std.proofs.Common.{take, replicate}
 use Rattle.std.proofs.Common.{refl, sym, ap, ◌∙◌, subst, arith}
 use Rattle.std.proofs.lemmas.Bool.{cases_eq, cases_lt, false≢true}
-use Rattle.std.proofs.lemmas.List.{length-set, length-replicate, length-take-le, get_or-set_same, get_or-set_other, get_or-replicate}
+use Rattle.std.proofs.lemmas.List.{length-set, length-replicate, length-take-le, get_or-set_same, get_or-set_other}
+use Rattle.std.proofs.lemmas.List.{get_or-replicate}
 use Rattle.cyc_types.specs.Series.{never}
 use Rattle.cyc_heap.specs.declared.entry.Entry.{Entry}
 use Rattle.cyc_heap.specs.Tournament.{nowhere, entry_at, index_of, free_entry, IsPlayed}
@@ -147,7 +149,8 @@ module _ (held after leaves : ℕ) (es new : List Entry) (x : ℕ) (e : Entry) (
 
     now_free : (i : ℕ) → i < leaves → HasNo i (take after new) → entry_at (shown true after new) i ≡ free_entry
     now_free i inside none = let w = wide in
-        free_else (take after new) leaves (length new) heap low used (omega (arith, w, same)) i (omega (arith, inside, w, same)) none
+        free_else (take after new) leaves (length new) heap low used (omega (arith, w, same)) i
+        (omega (arith, inside, w, same)) none
 
     length_after : length (shown true after new) ≡ length (shown true held es)
     length_after = length-spread (take after new) (replicate (length new) free_entry) ∙ length-replicate (length new) free_entry

@@ -15,7 +15,8 @@ returns-clause-tree c =
     let g = c.enter_all.ensures in
     let few = c.as_slice.ensures.value ∙ f.few in
     let zs = c.enter_all.new.entries.items in
-    playing_tree c.args.held c.args.leaves c.args.entries.now.items c.take_front.new.entries.items zs c.requires.tree f.long f.free
+    playing_tree c.args.held c.args.leaves c.args.entries.now.items c.take_front.new.entries.items zs c.requires.tree f.long
+    f.free
     g.long (subst (StandsIn zs) few g.here) g.played (λ i low none. g.others i low (subst (HasNo i) (sym few) none))
 
 pub returns-clause-kept : goal.returns-clause-kept
@@ -24,5 +25,6 @@ returns-clause-kept c =
     let g = c.enter_all.ensures in
     let few = c.as_slice.ensures.value ∙ f.few in
     let zs = c.enter_all.new.entries.items in
-    kept_playing c.args.held c.args.leaves c.args.entries.now.items c.take_front.new.entries.items zs c.requires.tree f.long f.free
+    kept_playing c.args.held c.args.leaves c.args.entries.now.items c.take_front.new.entries.items zs c.requires.tree f.long
+    f.free
     g.long (subst (StandsIn zs) few g.here) g.played (λ i low none. g.others i low (subst (HasNo i) (sym few) none))

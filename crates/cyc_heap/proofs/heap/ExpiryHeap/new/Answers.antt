@@ -1,4 +1,5 @@
-use Rattle.std.proofs.Common.{◌≡◌, ◌<◌, ◌++◌, ℕ, true, List, [], replicate, Option, None, length, refl, sym, ap, ◌∙◌, subst, arith}
+use Rattle.std.proofs.Common.{◌≡◌, ◌<◌, ◌++◌, ℕ, true, List, [], replicate, Option, None, length, refl, sym, ap, ◌∙◌, subst}
+use Rattle.std.proofs.Common.{arith}
 use Rattle.std.proofs.lemmas.Bool.{false≢true}
 use Rattle.cyc_types.specs.Series.{never}
 use Rattle.cyc_types.specs.Expirations.{Expiration}
@@ -19,7 +20,8 @@ no_heap = record {
 }
 
 none_at : (es : List Entry) → length es ≡ 1 → (i : ℕ) → i < 1 → entry_at (shown true 0 es) i ≡ free_entry
-none_at es one i low = free_else [] 1 (length es) no_heap (λ p at. absurd (omega (arith, at))) (λ p at. absurd (omega (arith, at)))
+none_at es one i low = free_else [] 1 (length es) no_heap (λ p at. absurd (omega (arith, at)))
+    (λ p at. absurd (omega (arith, at)))
     (omega (arith, one)) i (omega (arith, low, one)) (λ p at. absurd (omega (arith, at)))
 
 pub invariant_of-result : goal.invariant_of-result

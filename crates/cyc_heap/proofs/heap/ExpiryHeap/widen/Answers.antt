@@ -41,7 +41,8 @@ invariant_of-self c =
     let cap = c.self.invariant.3 in
     let was = h.long in
     let l = length-shown i.is_few i.held new in
-    let kept = wide_kept i.is_few i.held i.leaves wider es new t q.none more (omega (arith, long)) f.front f.behind f.kept f.unused
+    let kept = wide_kept i.is_few i.held i.leaves wider es new t q.none more (omega (arith, long)) f.front f.behind f.kept
+    f.unused
     f.played in
     let unused = wide_unused i.is_few i.held i.leaves wider es new t q.none more (omega (arith, long)) f.front f.behind f.kept
     f.unused f.played in
@@ -100,7 +101,8 @@ returns-then-size-self-clause-slots c =
     let some = h.some in
     let larger = c.if-size-self.true in
     let l = length-shown i.is_few i.held new in
-    let kept = wide_kept i.is_few i.held i.leaves wider es new t q.none more (omega (arith, long)) f.front f.behind f.kept f.unused
+    let kept = wide_kept i.is_few i.held i.leaves wider es new t q.none more (omega (arith, long)) f.front f.behind f.kept
+    f.unused
     f.played in
     let unused = wide_unused i.is_few i.held i.leaves wider es new t q.none more (omega (arith, long)) f.front f.behind f.kept
     f.unused f.played in
@@ -137,7 +139,8 @@ returns-then-size-self-clause-root c =
     let ys = shown i.is_few i.held new in
     let long = f.long in
     let more = f.more in
-    let kept = wide_kept i.is_few i.held i.leaves wider es new t q.none more (omega (arith, long)) f.front f.behind f.kept f.unused
+    let kept = wide_kept i.is_few i.held i.leaves wider es new t q.none more (omega (arith, long)) f.front f.behind f.kept
+    f.unused
     f.played in
     let unused = wide_unused i.is_few i.held i.leaves wider es new t q.none more (omega (arith, long)) f.front f.behind f.kept
     f.unused f.played in
