@@ -64,6 +64,13 @@ module _ (is_few : Bool) (held root leaves size given : ℕ) (es : List Entry) (
     | inr many ↦ (let at = f.first ∙ ap (λ b. root_position b leaves) many in omega (arith, l, some, at))
   ]
 
+  -- where some stand in front they are few
+  pub few_held : 0 < held → is_few ≡ true
+  few_held some = elim (few_or_many is_few) [
+    | inl small ↦ small
+    | inr many ↦ absurd (let none = f.none many in omega (arith, none, some))
+  ]
+
   pub root_is : is_few ≡ true → root ≡ 0
   root_is small = f.first ∙ ap (λ b. root_position b leaves) small
 
@@ -159,6 +166,16 @@ module _ (is_few : Bool) (held root leaves size given : ℕ) (es : List Entry) (
       | inr used ↦ (let (least, at) = root_used x here used in (least.holds, at))
     ]
 
+    -- where there is one and none stands in front they are many
+    pub many_held : IsSome v.root → held ≤ 0 → is_few ≡ false
+    many_held some none = elim (few_or_many is_few) [
+      | inr many ↦ many
+      | inl small ↦ absurd (let n = long small in
+          let nowhere = root_few is_few (take held es) leaves size given (shown is_few held es) free room v h is small
+          ∙ no_first (take held es) (omega (arith, n, none)) in
+          false≢true (subst IsSome nowhere some))
+    ]
+
     -- where many play, its leaf has it
     pub leaf_is : is_few ≡ false → IsSome v.root → (x : Entry) → entry_at es root ≡ x → entry_at es (index_of x) ≡ x
     leaf_is many some x here = elim (cases_lt never x.moment) [
@@ -182,7 +199,8 @@ module _ (is_few : Bool) (held root leaves size given : ℕ) (es : List Entry) (
           let g = h.heap small in
           let at : entry_at (shown is_few held es) i ≡ free_entry
           = ap (λ b. entry_at (shown b held es) i) small
-          ∙ free_else (take held es) leaves (length es) g.heap g.low g.used (omega (arith, l)) i (omega (arith, low, l, w)) none in
+          ∙ free_else (take held es) leaves (length es) g.heap g.low g.used (omega (arith, l)) i (omega (arith, low, l, w))
+          none in
           let m = ap (λ (e : Entry). e.moment) at in
           at_free is_few (take held es) leaves size given (shown is_few held es) free room v h is i low (omega (arith, m)))
     ]
@@ -207,7 +225,8 @@ module _ (is_few : Bool) (held root leaves size given : ℕ) (es : List Entry) (
         (omega (arith, m, k, u)) ∙ ap (λ (e : Entry). Some (key e)) at
 
     -- another moment for an index that has one
-    module _ (x : Entry) (has : expiration_at v (index_of x) ≡ Some (key x)) (new : List Entry) (moment : ℕ) (valid : moment ≤ never)
+    module _ (x : Entry) (has : expiration_at v (index_of x) ≡ Some (key x)) (new : List Entry) (moment : ℕ)
+        (valid : moment ≤ never)
         (e : IsChanged leaves (index_of x) (record x { moment = moment }) (shown is_few held es) (shown is_few held new))
         (t : IsTree is_few held leaves new) where
       pub tournament_after : IsTournament is_few (take held new) leaves size given (shown is_few held new) free

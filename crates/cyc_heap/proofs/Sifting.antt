@@ -1,5 +1,6 @@
 -- The few in front, after one of them was changed, put in or taken out.
-use Rattle.std.proofs.Common.{◌≡◌, ◌≢◌, ℕ, ◌+◌, ◌-◌, ◌<◌, ◌≤◌, ◌⊎◌, inl, inr, true, List, length, take, drop, sym, ap, ◌∙◌}
+use Rattle.std.proofs.Common.{◌≡◌, ◌≢◌, ℕ, ◌+◌, ◌-◌, ◌<◌, ◌≤◌, ◌⊎◌, inl, inr, true, List, [], ◌∷◌, length, take, drop, sym}
+use Rattle.std.proofs.Common.{ap, ◌∙◌}
 use Rattle.std.proofs.Common.{Option, Some, None, IfSome, IfNone, IsSome, refl, subst, subst₂, arith}
 use Rattle.std.proofs.Math.ListN.{set}
 use Rattle.std.proofs.lemmas.Bool.{cases_eq, cases_lt}
@@ -8,7 +9,7 @@ use Rattle.cyc_types.specs.Series.{never}
 use Rattle.cyc_heap.specs.declared.entry.Entry.{Entry}
 use Rattle.cyc_heap.specs.Tournament.{nowhere, entry_at, index_of, free_entry, comes}
 use Rattle.cyc_heap.specs.Few.{shown, HasNo, IsHeap, IsHeapBut, IsFilled, IsFew, IsFreeBehind, IsTree, IsChanged}
-use Rattle.cyc_heap.proofs.Moving.{child_low, hole_made}
+use Rattle.cyc_heap.proofs.Moving.{child_low, hole_made, alone_heap, alone_filled}
 use Rattle.cyc_heap.proofs.Spreading.{tree_after, changed_to, changed_free}
 
 -- what stands in front
@@ -28,7 +29,8 @@ behind_kept n es new same long free p past low =
 
 -- one has this entry, and the others are the old ones
 module _ (held after leaves : ℕ) (es new : List Entry) (x : ℕ) (e : Entry) (t : IsTree true held leaves es) (low_x : x < leaves)
-    (same : length new ≡ length es) (within : after ≤ length new) (heap : IsHeap (take after new)) (behind : IsFreeBehind after new)
+    (same : length new ≡ length es) (within : after ≤ length new) (heap : IsHeap (take after new))
+    (behind : IsFreeBehind after new)
     (to : (q : ℕ) → q < held → index_of (entry_at (take held es) q) ≢ x
     → (p : ℕ) × (p < after) × (entry_at (take after new) p ≡ entry_at (take held es) q)) where
   was : IsFew (take held es) leaves (shown true held es)
@@ -127,6 +129,36 @@ module _ (held leaves place x : ℕ) (es new : List Entry) (e : Entry) (t : IsTr
     pub changed_leaf : IsChanged leaves x e (shown true held es) (shown true held new)
     changed_leaf = put_changed held held leaves es new x e t place_low same inside heap free_behind to mine valid from there
 
+-- one by itself has another entry
+module _ (leaves : ℕ) (es : List Entry) (e : Entry) (t : IsTree true 1 leaves es)
+    (mine : index_of e ≡ index_of (entry_at es 0)) (valid : e.moment ≤ never) where
+  abbrev alone : List Entry
+  alone = set es 0 e
+
+  same : length alone ≡ length es
+  same = length-set es 0 e
+
+  one : length (take 1 alone) ≡ 1
+  one = let w = t.within in let s = same in front_long 1 alone (omega (arith, w, s))
+
+  at : entry_at (take 1 alone) 0 ≡ e
+  at = let w = t.within in front 1 alone 0 (omega arith) ∙ get_or-set_same es 0 e nowhere (omega (arith, w))
+
+  rest : (es : List Entry) → 1 ≤ length es → drop 1 (set es 0 e) ≡ drop 1 es
+  rest [] some = absurd (omega (arith, some))
+  rest (x ∷ xs) some = refl
+
+  filled : IsFilled 0 (take 1 es) e (take 1 alone)
+  filled = alone_filled (take 1 es) (take 1 alone) e (front_long 1 es t.within) one at
+
+  pub alone_tree : IsTree true 1 leaves (set es 0 e)
+  alone_tree = changed_tree 1 leaves 0 (index_of (entry_at es 0)) es alone e t (omega arith) refl same
+      (alone_heap (take 1 alone) one) filled (rest es t.within) mine valid
+
+  pub alone_leaf : IsChanged leaves (index_of (entry_at es 0)) e (shown true 1 es) (shown true 1 (set es 0 e))
+  alone_leaf = changed_leaf 1 leaves 0 (index_of (entry_at es 0)) es alone e t (omega arith) refl same
+      (alone_heap (take 1 alone) one) filled (rest es t.within) mine valid
+
 -- one more, of an index that none has
 module _ (held leaves x : ℕ) (es new : List Entry) (e : Entry) (t : IsTree true held leaves es) (low_x : x < leaves)
     (space : held < length es) (same : length new ≡ length es) (heap : IsHeap (take (held + 1) new))
@@ -160,7 +192,8 @@ module _ (held leaves x : ℕ) (es new : List Entry) (e : Entry) (t : IsTree tru
   added_tree = put_tree held (held + 1) leaves es new x e t low_x same more heap add_behind add_to mine valid add_from add_there
 
   pub added_leaf : IsChanged leaves x e (shown true held es) (shown true (held + 1) new)
-  added_leaf = put_changed held (held + 1) leaves es new x e t low_x same more heap add_behind add_to mine valid add_from add_there
+  added_leaf = put_changed held (held + 1) leaves es new x e t low_x same more heap add_behind add_to mine valid add_from
+      add_there
 
 -- the one at this place is taken out
 module _ (held leaves place x : ℕ) (es : List Entry) (t : IsTree true held leaves es) (low : place < held)

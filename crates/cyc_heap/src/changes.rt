@@ -22,6 +22,20 @@ fn at_moment(entry: &Entry, moment: Moment) -> Entry
     }
 }
 
+/// One by itself has another moment, and stays where it is.
+#[inline(always)]
+pub(crate) fn lower_alone(entries: &mut Vec<Entry>, leaves: usize, moment: Moment)
+    requires leaves { leaves ≤ cyclics }
+    requires tree { IsTree true 1 leaves entries.old.items }
+    ensures tree { IsTree true 1 leaves entries.new.items }
+    ensures changed { IsChanged leaves (index_of (entry_at entries.old.items 0)) (record (entry_at entries.old.items 0) { moment = moment })
+        (shown true 1 entries.old.items) (shown true 1 entries.new.items) }
+    ensures valid { moment ≤ never }
+    ensures room { vec_capacity entries.new ≡ vec_capacity entries.old }
+{
+    entries[0].moment = moment.nanoseconds();
+}
+
 /// The first of few has another moment.
 #[inline(always)]
 pub(crate) fn lower_first(entries: &mut Vec<Entry>, held: usize, leaves: usize, moment: Moment)

@@ -11,7 +11,7 @@ ghost use Rattle.cyc_heap.specs.Few.{most_few, root_position, shown, IsTree};
 ghost use Rattle.cyc_heap.specs.Heap.{HeapView, new_heap, size_of, len_of, expiration_at, with_moment, pair_of, IsEmpty, IsLeast};
 
 use crate::between::{MOST_FEW, draw_few, play_few};
-use crate::changes::{add, change, change_many, lower_first, take};
+use crate::changes::{add, change, change_many, lower_alone, lower_first, take};
 use crate::entry::Entry;
 use crate::few::find;
 use crate::games::play_all;
@@ -187,7 +187,11 @@ impl ExpiryHeap {
         ensures slots { IfSome self.old.root (λ index. self.new.slots ≡ with_moment self.old.slots index moment) }
         ensures room { self.new.room ≡ self.old.room }
     {
-        if self.is_few {
+        if self.held == 1 {
+            lower_alone(&mut self.entries, self.leaves, moment);
+            return;
+        }
+        if self.held > 0 {
             lower_first(&mut self.entries, self.held, self.leaves, moment);
             return;
         }
