@@ -8,21 +8,23 @@ cd "$(dirname "$0")/.."
 work=$(mktemp -d)
 trap 'rm -rf "$work"' EXIT
 ${CC:-cc} -shared -fPIC -O1 -o "$work/shim.so" tests/shim.c || exit 2
-program=$work/cyclic # a copy, so that its processes are told from others
-cp crates/cyclic/out/cyclic "$program"
+program=$PWD/crates/cyclic/out/cyclic
 failed=0
 
-# go SCRIPT [SETTING..]: a run in threads, for at most 20 seconds; its threads are counted at its end
+# go SCRIPT [SETTING..]: a run in threads, for at most 20 seconds, in a group of processes of its own; its threads are counted at its
+# end
 go() {
   local script=$1
   shift
-  timeout 20 env LEFT=1 "$@" LD_PRELOAD="$work/shim.so" "$program" run \
-    < "$script" 2> "$work/said" 7> "$work/left" 9> "$work/refused"
+  setsid timeout 20 env LEFT=1 "$@" LD_PRELOAD="$work/shim.so" "$program" run \
+    < "$script" 2> "$work/said" 7> "$work/left" 9> "$work/refused" &
+  echo "$!" > "$work/group"
+  wait "$!"
 }
 
-# over NAME: no process of the program is there
+# over NAME: no process of the last run's group is there
 over() {
-  if ls -l /proc/[0-9]*/exe 2> /dev/null | grep -qF -- "-> $program"; then
+  if kill -0 -- "-$(cat "$work/group")" 2> /dev/null; then
     echo "early: $1: a process is left"
     failed=1
   fi
@@ -112,7 +114,8 @@ made a_cpu_that_is_offline_for_one_advance $((4 + 2 + 1 + 2))
 # a signal in the middle of a run
 script 4 "[\"omni\",\"a\",\"low\",1,1,0],$(lines '["advance",&]' 60000)"
 for signal in TERM KILL; do
-  "$program" run < "$work/script" > "$work/got" 2> "$work/said" & run=$!
+  setsid "$program" run < "$work/script" > "$work/got" 2> "$work/said" & run=$!
+  echo "$run" > "$work/group"
   sleep 0.3
   kill -s "$signal" "$run"
   wait "$run" 2> /dev/null

@@ -8,7 +8,7 @@ failed=0
 work=$(mktemp -d)
 trap 'rm -rf "$work"' EXIT
 
-if [ -z "${EMBED_BUILT:-}" ] && ! tools/prove cyclic_c > "$work/lib" 2>&1; then
+if [ -z "${EMBED_BUILT:-}" ] && ! (cd crates/cyclic_c && rt lib) > "$work/lib" 2>&1; then
   cat "$work/lib"
   echo "embed: cyclic_c is not built"
   exit 1

@@ -1,18 +1,18 @@
 #!/usr/bin/env python3
-"""Tries the start scripts `cyclic` and `look`, and `tools/prove` under them, over a toolchain that only pretends: what they say, when they build, what a stop leaves.
+"""Tries the start scripts `cyclic` and `look`, and `tools/is-built` under them, over a kit's command that only pretends: what they
+say, when they build, what a stop leaves.
 
     tests/start.py
 
-In a scratch copy of the start scripts the program stands on two crates, a third has no part in it, and one word has a program of its
-own, which stands on one. The pretended prover notes each crate that it is given, and can be told to hang, to be slow or to fail at
-one. Each fault is printed, and the status is then 1.
+In a scratch copy of the start scripts the program stands on two crates, a third has no part in it, and `replay` has a program of
+its own, which stands on one. The pretended `rt` notes each call, and can be told to hang, to fail, to build a program that writes
+another text, or to change a file meanwhile. Each fault is printed, and the status is then 1.
 """
 import os
 import sys
 
 # this folder has a random.py that is not the library's
 sys.path = [it for it in sys.path if os.path.abspath(it or ".") != os.path.dirname(os.path.abspath(__file__))]
-import re
 import shutil
 import signal
 import subprocess
@@ -21,38 +21,34 @@ import time
 
 TOP = os.path.join(os.path.dirname(os.path.abspath(__file__)), "..")
 RT = r"""#!/usr/bin/env bash
-cd "$FAKE" && [ ! -e broken ] || exit 9
-case "$1" in
-version) cat kit/name ;;
-doc) echo "$FAKE/kit/START-HERE.md" ;;
-try) echo "$*" >> calls; shift; echo "look $*"; cat; exit 3 ;;
-*) echo "$*" >> calls ;;
-esac
+crate=$(basename "$PWD")
+echo "$crate: $*" >> "$FAKE/calls"
+echo "the kit's line"  >&2
+is() { [ "$(cat "$FAKE/does" 2> /dev/null)" = "$1" ]; }
+[ "$1" != try ] || { shift; echo "look $*"; cat; exit 3; }
+is hang && exec sleep 100
+is fail && exit 1
+is change && echo changed > "$FAKE/crates/low/src/lib.rt"
+mkdir -p out
+is other && printf '#!/bin/sh\necho other\n' > "out/$crate" || cat > "out/$crate" <<PROGRAM
+#!/bin/sh
+text=\$(cat)
+[ "\$text" != example ] || { echo "the example's text"; exit 0; }
+echo "$crate \$*, \$text"
+exit 7
+PROGRAM
+chmod +x "out/$crate"
+shift
+[ "$1" != -- ] || shift
+exec "out/$crate" "$@"
 """
-PROVER = r"""#!/usr/bin/env bash
-name=$3
-while [ $# -gt 1 ]; do [ "$1" != -o ] || made=$2; shift; done
-cd "$FAKE" || exit 9
-echo "$name" >> calls
-printf '%s\n' "${TMPDIR:-}" >> scratch
-[ "$(cat hang 2> /dev/null)" != "$name" ] || { echo hangs >> calls; exec sleep 100; }
-[ "$(cat fail 2> /dev/null)" != "$name" ] || { printf 'statements std: many\nerror: %s\n' "$name"; exit 1; }
-[ "$(cat slow 2> /dev/null)" != "$name" ] || sleep 0.6
-echo "logic=proved functions=1"
-case $made in *.rlib) mkdir "$made" ;; *) echo "$name" > "$made" ;; esac
-"""
-LINKER = r"""#!/usr/bin/env bash
-echo link >> "$FAKE/calls"
-while [ "$1" != -o ]; do shift; done
-[ ! -e "$FAKE/unlinked" ] || exit 2
-printf '#!/bin/sh\necho %s "$@"; cat\n' "${2##*/}" > "$2" && chmod +x "$2"
-"""
-FIRST = """cyclic: proving and building the program first: 3 crates, some minutes
-cyclic: for a look within a minute, at the same sources unproved: ./look replay < SCRIPT
-"""
-ALL = "".join(f"cyclic: proved {n} of 3: {name}, T\n" for n, name in enumerate(("low", "high", "cyclic"), 1))
-DONE = "cyclic: proved and built, T\n"
-STOPPED = "cyclic: stopped; the next start goes on from what is proved\n"
+WRONG = "usage: cyclic replay|run\n"
+FIRST = {
+    name: f"{name}: proving and building the program first, with all that it stands on; "
+    f"./look {word} < SCRIPT runs it unproved in a minute\nthe kit's line\n"
+    for name, word in (("cyclic_replay", "replay"), ("cyclic", "run"))
+}
+REPLAY, RUN = ["cyclic_replay: run"], ["cyclic: run -- replay"]
 
 
 class Start:
@@ -62,19 +58,18 @@ class Start:
         self.top, self.faults = top, 0
         for name in ("low", "high", "apart"):
             self.write(f"crates/{name}/src/lib.rt", name)
-        self.write("crates/cyclic/src/main.rt", "cyclic")
-        self.write("crates/cyclic_replay/src/main.rt", "replay")
-        self.write("crates/high/specs/Lib.antt", "")
-        self.write("crates.txt", "# lowest first\nlow: thiserror\napart staticlib: low\nhigh: low\ncyclic: high low\ncyclic_replay: low\n")
-        self.write("examples/first.json", "{}")
-        self.write("kit/name", "kit 1")
-        for file, text in (("kit/bin/rt", RT), ("kit/bin/rattle", PROVER), ("kit/bin/rattle-link", LINKER)):
-            self.write(file, text)
-            os.chmod(f"{top}/{file}", 0o755)
+        for name in ("cyclic", "cyclic_replay"):
+            self.write(f"crates/{name}/src/main.rt", name)
+        self.write("crates.txt", "# lowest first\nlow: thiserror\napart staticlib: low\nhigh: low\ncyclic_replay: low\ncyclic: high low\n")
+        self.write("examples/first.json", "example\n")
+        self.write("examples/first.txt", "the example's text\n")
+        self.write("kit/rt", RT)
+        os.chmod(f"{top}/kit/rt", 0o755)
         os.mkdir(f"{top}/tools")
-        for name in ("cyclic", "look", "tools/prove"):
+        os.mkdir(f"{top}/scratch")
+        for name in ("cyclic", "look", "tools/is-built"):
             shutil.copy(f"{TOP}/{name}", f"{top}/{name}")
-        self.env = {**os.environ, "FAKE": top, "PATH": f"{top}/kit/bin:{os.environ['PATH']}"}
+        self.env = {**os.environ, "FAKE": top, "PATH": f"{top}/kit:{os.environ['PATH']}", "TMPDIR": f"{top}/scratch"}
 
     def write(self, file, text):
         os.makedirs(os.path.dirname(f"{self.top}/{file}") or self.top, exist_ok=True)
@@ -82,10 +77,13 @@ class Start:
             it.write(text)
 
     def calls(self):
-        """What the toolchain was asked for since the last time: the crates that it was given, and to link."""
-        with open(f"{self.top}/calls", encoding="utf-8") as it:
-            found = it.read().splitlines()
-        self.write("calls", "")
+        """The calls of the kit's command since the last time."""
+        try:
+            with open(f"{self.top}/calls", encoding="utf-8") as it:
+                found = it.read().splitlines()
+        except FileNotFoundError:
+            return []
+        os.remove(f"{self.top}/calls")
         return found
 
     def want(self, name, got, wanted):
@@ -93,170 +91,108 @@ class Start:
             print(f"start: {name}: {got!r}, and not {wanted!r}")
             self.faults += 1
 
-    def run(self, name, status, said, calls, word="cyclic", more=("x",), out="cyclic replay x\nscript", at_work=""):
-        """Runs a start script, and wants of it this status, these words on standard error and these calls of the toolchain. Where it
-        is to say what is still at work, it may say more of that, as a machine that is slow itself has it."""
-        words = [f"{self.top}/{word}", "replay", *more]
-        ran = subprocess.run(words, input="script", capture_output=True, text=True, env=self.env, timeout=60)
-        got = re.sub(r"\b\d+m\d\d\b", "T", ran.stderr)
-        if at_work:
-            self.want(f"{name}, at work", at_work in got, True)
-            got = re.sub(r"cyclic: still at work: .*\n", "", got)
+    def run(self, name, words, status, out, said, calls, script="cyclic"):
+        """Runs a start script, and wants of it this status, this output, these words on standard error and these calls of `rt`."""
+        ran = subprocess.run([f"{self.top}/{script}", *words], input="script", capture_output=True, text=True, env=self.env, timeout=60)
         self.want(f"{name}, status", ran.returncode, status)
         self.want(f"{name}, output", ran.stdout, out)
-        self.want(f"{name}, words", got, said)
+        self.want(f"{name}, words", ran.stderr, said)
         self.want(f"{name}, calls", self.calls(), calls)
+        self.want(f"{name}, left behind", os.listdir(f"{self.top}/scratch"), [])
 
-    def take(self, name, crate, status):
-        """Has the program of a crate taken as it stands."""
-        ran = subprocess.run([f"{self.top}/tools/prove", "--take", crate], capture_output=True, env=self.env, timeout=60)
-        self.want(f"{name}, status", ran.returncode, status)
+    def builds(self, name, word="replay"):
+        """A start that builds the program of the word first."""
+        program, calls = ("cyclic", RUN) if word == "run" else ("cyclic_replay", REPLAY)
+        self.run(name, [word], 7, "cyclic run, script\n" if word == "run" else "cyclic_replay , script\n", FIRST[program], calls)
 
-    def left(self):
-        """The processes that work in the scratch copy."""
-        found = []
-        for pid in filter(str.isdigit, os.listdir("/proc")):
+    def is_there(self, name, program, word="replay"):
+        """A start of a program that is built."""
+        self.run(name, [word], 7, f"{program}, script\n", "", [])
+
+    def fails(self, name, does):
+        """A start whose program can't be built."""
+        self.write("does", does)
+        self.run(name, ["run"], 4, "", FIRST["cyclic"] + "cyclic: not proved and built\n", RUN)
+        os.remove(f"{self.top}/does")
+
+    def is_left(self, group):
+        """Whether a process of this group is there, after two seconds at the most."""
+        for _ in range(40):
             try:
-                if os.readlink(f"/proc/{pid}/cwd").startswith(self.top):
-                    found.append(pid)
-            except OSError:
-                pass
-        return found
+                os.killpg(group, 0)
+            except ProcessLookupError:
+                return False
+            time.sleep(0.05)
+        return True
 
-    def stop(self, name, number):
-        """Starts the program, and stops it by a signal while a crate is being proved."""
-        self.write("hang", "high")
+    def stop(self, number):
+        """Starts the program, and stops it and the kit's command by a signal while that is at work, as a terminal's key does."""
+        self.write("does", "hang")
         words = [f"{self.top}/cyclic", "run"]
-        ran = subprocess.Popen(words, stdin=subprocess.DEVNULL, stderr=subprocess.PIPE, text=True, env=self.env)
+        ran = subprocess.Popen(words, stdin=subprocess.DEVNULL, stderr=subprocess.PIPE, env=self.env, start_new_session=True)
         for _ in range(200):
-            if "hangs" in open(f"{self.top}/calls", encoding="utf-8").read():
+            if os.path.exists(f"{self.top}/calls"):
                 break
             time.sleep(0.05)
-        ran.send_signal(number)
-        said = ran.communicate(timeout=20)[1]
-        self.want(f"{name}, status", ran.returncode, 128 + number)
-        self.want(f"{name}, words", said.endswith(STOPPED), True)
-        self.want(f"{name}, processes left", self.left(), [])
+        os.killpg(ran.pid, number)
+        ran.communicate(timeout=20)
+        self.want(f"{number.name}, stopped", ran.returncode != 0, True)
+        self.want(f"{number.name}, a process left", self.is_left(ran.pid), False)
         self.calls()
-        os.remove(f"{self.top}/hang")
-
-
-BUILDS = ["low", "high", "cyclic", "link"]
-STOPS = (signal.SIGINT, signal.SIGTERM, signal.SIGHUP)
-
-
-def from_the(first, last=3):
-    """What is said of these crates."""
-    return "".join(ALL.splitlines(keepends=True)[first - 1:last])
-
-
-def tries_alone(start):
-    """The word that has a program of its own, which answers until the whole program is built."""
-    alone = "cyclic_replay"
-    said = (FIRST.replace("3 crates", "2 crates") + f"cyclic: proved 1 of 2: low, T\ncyclic: proved 2 of 2: {alone}, T\n" + DONE
-            ).replace("cyclic:", f"{alone}:")
-    def run(name, program, said="", calls=()):
-        start.run(name, 0, said, list(calls), more=(), out=f"{program} replay\nscript")
-    start.write("kit/name", "kit 5")
-    os.remove(f"{start.top}/crates/cyclic/out/cyclic")
-    run("a word alone", alone, said, ["low", alone, "link"])
-    run("a word again", alone)
-    time.sleep(1.2)
-    run("a word seen", alone)
-    start.env["FAKE"] = "/nowhere"
-    run("a word not read again", alone)
-    start.env["FAKE"] = start.top
-    start.run("another word", 0, FIRST + from_the(2) + DONE, BUILDS[1:])
-    run("the whole program for it", "cyclic")
-    start.write("crates/low/src/lib.rt", "changed")
-    run("the whole program is old", alone, said, ["low", alone, "link"])
+        os.remove(f"{self.top}/does")
 
 
 def tries(start):
-    start.write("calls", "")
-    start.run("first", 0, FIRST + ALL + DONE, BUILDS)
-    start.run("again", 0, "", [])
+    for words in ([], ["--help"], ["help"], ["replay", "x"], ["--", "replay"], [""]):
+        start.run(f"the words {words}", words, 1, "", WRONG, [])
+    start.builds("first")
+    start.is_there("again", "cyclic_replay ")
+    start.fails("not proved", "fail")
+    start.fails("another text", "other")
+    shutil.rmtree(f"{start.top}/crates/cyclic/out", ignore_errors=True)
+    start.builds("the other word", "run")
+    start.is_there("the whole program for both", "cyclic replay")
     start.write("crates/apart/src/lib.rt", "other")
-    start.run("a crate apart", 0, "", [])
-    start.write("crates/high/src/more.rt", "more")
-    start.run("a new file", 0, FIRST + from_the(2) + DONE, BUILDS[1:])
+    start.is_there("a crate apart", "cyclic run", "run")
+    for file in ("crates/high/src/more.rt", "crates/high/specs/Lib.antt", "crates/low/proofs/Lib.antt", "crates/cyclic/src/main.rt"):
+        start.write(file, "more")
+        start.builds(file, "run")
     os.remove(f"{start.top}/crates/high/src/more.rt")
-    start.run("a file less", 0, FIRST + from_the(2) + DONE, BUILDS[1:])
-    start.write("crates/high/specs/Lib.antt", "-- other")
-    start.run("a definition", 0, FIRST + from_the(2) + DONE, BUILDS[1:])
-    start.write("crates/cyclic/src/main.rt", "other")
-    start.run("the program alone", 0, FIRST + from_the(3) + DONE, BUILDS[2:])
-    start.write("kit/name", "kit 2")
-    start.run("another kit", 0, FIRST + ALL + DONE, BUILDS)
-    start.write("crates/cyclic/out/cyclic", "#!/bin/sh\necho other\n")
-    start.run("another program", 0, FIRST + from_the(3) + DONE, BUILDS[2:])
-    start.write("crates/cyclic/src/main.rt", "built by another")
-    start.write("crates/cyclic/out/cyclic", "#!/bin/sh\necho taken\n")
-    start.take("taken", "cyclic", 0)
-    start.run("a program that was taken", 0, "", [], out="taken\n")
-    start.take("no program", "high", 4)
-    start.write("crates/cyclic/src/main.rt", "changed since")
-    start.run("changed since it was taken", 0, FIRST + from_the(3) + DONE, BUILDS[2:])
-
-    start.write("crates/high/src/lib.rt", "wrong")
-    start.write("fail", "high")
-    for name in ("not proved", "not proved again"):
-        start.run(name, 4, FIRST + "error: high\n" + "cyclic: high was not proved and built\n", ["high"], out="")
-    os.remove(f"{start.top}/fail")
-    start.write("unlinked", "")
-    start.run("not linked", 4, FIRST + from_the(2, 2) + "cyclic: cyclic was not proved and built\n", BUILDS[1:], out="")
-    os.remove(f"{start.top}/unlinked")
-    start.run("mended", 0, FIRST + from_the(3) + DONE, BUILDS[2:])
-
-    for number in STOPS:
-        start.write("kit/name", f"kit for {number}")
-        start.stop(number.name, number)
-        start.run(f"after {number.name}", 0, FIRST + from_the(2) + DONE, BUILDS[1:])
-
-    start.write("kit/name", "a slow kit")
-    start.write("slow", "high")
-    start.env["PROVE_PATIENCE"] = "0.4"
-    start.run("slow", 0, FIRST + ALL + DONE, BUILDS, at_work="cyclic: still at work: high, T\n")
-    start.write("broken", "")
-    start.run("no kit", 4, "cyclic: the kit's command rt is not there\n", [], out="")
-    os.remove(f"{start.top}/broken")
-    start.run("a look", 3, "", ["try -- replay x"], word="look", out="look -- replay x\nscript")
-
-    # what was seen a second after its last change is not read again: the kit is not even asked its name
-    start.env["PROVE_PATIENCE"] = "20"
-    time.sleep(1.2)
-    start.run("seen", 0, "", [])
-    start.env["FAKE"] = "/nowhere"
-    start.run("not read again", 0, "", [])
-    start.env["FAKE"] = start.top
+    start.builds("a file less", "run")
+    with open(f"{start.top}/crates.txt", "a", encoding="utf-8") as it:
+        it.write("another: low\n")
+    start.builds("the list of crates", "run")
     start.write("crates/low/src/lib.rt", "of an old time")
     os.utime(f"{start.top}/crates/low/src/lib.rt", (0, 0))
-    start.run("a text of an old time", 0, FIRST + ALL + DONE, BUILDS)
-    time.sleep(1.2)
-    start.run("seen again", 0, "", [])
-    start.write("kit/name", "kit 3")
-    start.run("a kit after that", 0, FIRST + ALL + DONE, BUILDS)
-
-    # the prover's own files are not left in memory, not even where it was stopped, and go where the environment says
-    with open(f"{start.top}/scratch", encoding="utf-8") as it:
-        rooms = {line for line in it.read().splitlines() if line != os.environ.get("TMPDIR", "")}
-    start.want("left in memory", [room for room in rooms if os.path.exists(room)], [])
-    start.env["TMPDIR"] = start.top
-    start.write("scratch", "")
-    start.write("kit/name", "kit 4")
-    start.run("a folder for the prover's files", 0, FIRST + ALL + DONE, BUILDS)
-    with open(f"{start.top}/scratch", encoding="utf-8") as it:
-        start.want("the folder", set(it.read().splitlines()), {start.top})
+    start.builds("a file of an old time", "run")
+    start.write("crates/low/src/lib.rt", "changed")
+    start.builds("the whole program is old")
+    start.write("does", "change")
+    start.builds("a file that changes meanwhile", "run")
+    os.remove(f"{start.top}/does")
+    start.builds("and is seen", "run")
+    for number in (signal.SIGINT, signal.SIGTERM, signal.SIGHUP):
+        start.write("crates/low/src/lib.rt", number.name)
+        start.stop(number)
+        for left in os.listdir(f"{start.top}/scratch"):
+            start.want(f"{number.name}, left behind", left, None)
+            os.remove(f"{start.top}/scratch/{left}")
+        start.builds(f"after {number.name}", "run")
+    said, calls = "the kit's line\n", ["cyclic: try -- replay x"]
+    start.run("a look", ["replay", "x"], 3, "look -- replay x\nscript", said, calls, script="look")
+    start.write("crates/low/src/lib.rt", "no kit")
+    os.remove(f"{start.top}/kit/rt")
+    os.symlink("/bin/false", f"{start.top}/kit/rt")
+    start.run("no kit", ["run"], 4, "", FIRST["cyclic"].replace("the kit's line\n", "") + "cyclic: not proved and built\n", [])
 
 
 def main():
     # a shell can't trap what was ignored when it began, as these are below nohup or in the background
-    for number in STOPS:
+    for number in (signal.SIGINT, signal.SIGTERM, signal.SIGHUP):
         signal.signal(number, signal.SIG_DFL)
     with tempfile.TemporaryDirectory(prefix="start-") as top:
         start = Start(top)
         tries(start)
-        tries_alone(start)
     if not start.faults:
         print("start: passed")
     return 1 if start.faults else 0

@@ -1,4 +1,4 @@
-//! Links the proved library, which `tools/prove cyclic_c` builds, and the Rattle kit's heap.
+//! Links the proved library, which `rt lib` builds in `crates/cyclic_c`, and the Rattle kit's heap.
 
 use std::path::{Path, PathBuf};
 use std::process::exit;
@@ -26,7 +26,7 @@ fn main() {
     let built = here.join("../../crates/cyclic_c/out");
     let Some(kit) = kit().filter(|_| built.join("libcyclic_c.a").exists()) else {
         eprintln!(
-            "run 'tools/prove cyclic_c' first, with the Rattle kit's bin folder in PATH: it builds the proved library"
+            "run 'rt lib' in crates/cyclic_c first, with the Rattle kit's bin folder in PATH: it builds the proved library"
         );
         exit(1);
     };
