@@ -1,56 +1,15 @@
 -- The tournament after another moment for an index that has one.
-use Rattle.std.proofs.Common.{◌≡◌, ◌≢◌, ℕ, ◌<◌, ◌≤◌, inl, inr, Bool, true, false, List, [], ◌∷◌, length, Some, IsSome, refl, ap}
-use Rattle.std.proofs.Common.{◌∙◌, subst, arith}
-use Rattle.std.proofs.lemmas.Bool.{cases_lt, false≢true}
+use Rattle.std.proofs.Common.{◌≡◌, ◌≢◌, ℕ, ◌<◌, ◌≤◌, Bool, true, false, List, length, Some, refl, ap}
+use Rattle.std.proofs.Common.{◌∙◌, arith}
 use Rattle.std.proofs.Math.ListN.{set}
 use Rattle.cyc_types.specs.Series.{never}
 use Rattle.cyc_heap.specs.declared.entry.Entry.{Entry}
-use Rattle.cyc_heap.specs.Tournament.{key, entry_at, index_of, slots, last_position, IsPlayed}
-use Rattle.cyc_heap.specs.Few.{IsFew, IsTournament, first_of}
+use Rattle.cyc_heap.specs.Tournament.{key, entry_at, index_of, slots, IsPlayed}
+use Rattle.cyc_heap.specs.Few.{IsFew, IsTournament}
 use Rattle.cyc_heap.specs.Heap.{HeapView, expiration_at, with_moment}
 use Rattle.cyc_heap.proofs.Slots.{slot_used}
-use Rattle.cyc_heap.proofs.Views.{IsTop, view_of, within, held, leaf_given, moment_slots, top_used, winner_top, first_top}
-use Rattle.cyc_heap.proofs.Views.{root_many, root_few}
-use Rattle.cyc_heap.proofs.Views.{winner_used, winner_free}
+use Rattle.cyc_heap.proofs.Views.{view_of, within, held, leaf_given, moment_slots}
 use Rattle.cyc_heap.proofs.Listed.{set_slots, moved, after}
-
-first_is : (few : List Entry) → 0 < length few → first_of few ≡ Some (index_of (entry_at few 0))
-first_is [] some = absurd (omega (arith, some))
-first_is (e ∷ es) some = refl
-
-pub some_first : (few : List Entry) → IsSome (first_of few) → 0 < length few
-some_first [] some = absurd (false≢true some)
-some_first (e ∷ es) some = omega arith
-
--- what the root holds
-module _ (is_few : Bool) (few : List Entry) (leaves size given : ℕ) (xs : List Entry) (free : List ℕ) (room : ℕ) (v : HeapView)
-    (h : IsTournament is_few few leaves size given xs free) (is : view_of is_few few leaves size xs room ≡ v) (x : Entry)
-    (some : IsSome v.root) where
-  pub first_held : is_few ≡ true → ((0 < length few) → entry_at few 0 ≡ x)
-      → (expiration_at v (index_of x) ≡ Some (key x)) × (v.root ≡ Some (index_of x))
-  first_held small here =
-      let root = root_few is_few few leaves size given xs free room v h is small in
-      let filled = some_first few (subst IsSome root some) in
-      let heap = h.heap small in
-      let used = subst (λ (e : Entry). e.moment ≤ never) (here filled) (heap.used 0 filled) in (
-        top_used is_few few leaves size given xs free room v h is x
-            (subst (IsTop leaves xs) (here filled) (first_top few leaves xs heap filled)) used,
-        root ∙ first_is few filled ∙ ap (λ (e : Entry). Some (index_of e)) (here filled),
-      )
-
-  pub winner_held : is_few ≡ false → entry_at xs (last_position leaves) ≡ x
-      → (expiration_at v (index_of x) ≡ Some (key x)) × (v.root ≡ Some (index_of x))
-  winner_held many here =
-      let root = root_many is_few few leaves size given xs free room v h is many in
-      let m = ap (λ (e : Entry). e.moment) here in
-      elim (cases_lt never x.moment) [
-        | inl unused ↦ absurd (false≢true (subst IsSome (root ∙ winner_free leaves xs (omega (arith, m, unused))) some))
-        | inr used ↦ (
-          top_used is_few few leaves size given xs free room v h is x
-              (subst (IsTop leaves xs) here (winner_top leaves xs (h.played many) h.some)) used,
-          root ∙ winner_used leaves xs (omega (arith, m, used)) ∙ ap (λ (e : Entry). Some (index_of e)) here,
-        )
-      ]
 
 module _ (is_few : Bool) (few : List Entry) (leaves size given : ℕ) (xs : List Entry) (free : List ℕ) (room : ℕ) (v : HeapView)
     (h : IsTournament is_few few leaves size given xs free) (is : view_of is_few few leaves size xs room ≡ v) (x : Entry)

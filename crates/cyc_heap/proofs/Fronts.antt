@@ -1,6 +1,6 @@
 -- What callers see, where few stand in front and where many play.
 use Rattle.std.proofs.Common.{◌≡◌, ℕ, suc, ◌*◌, ◌<◌, ◌≤◌, inl, inr, Bool, true, false, List, [], ◌∷◌, length, take}
-use Rattle.std.proofs.Common.{Some, None, IsSome, refl, sym, ap, ◌∙◌, subst, subst₂, arith}
+use Rattle.std.proofs.Common.{Some, None, IsSome, refl, sym, ap, ◌∙◌, subst, arith}
 use Rattle.std.proofs.lemmas.Bool.{cases_lt, false≢true}
 use Rattle.cyc_types.specs.Series.{never}
 use Rattle.cyc_heap.specs.declared.entry.Entry.{Entry}
@@ -23,10 +23,6 @@ shown_many false held es many = refl
 -- one tree by either name
 pub tree_few : (b : Bool) (held leaves : ℕ) (es : List Entry) → b ≡ true → IsTree b held leaves es → IsTree true held leaves es
 tree_few b held leaves es small t = subst (λ b. IsTree b held leaves es) small t
-
-pub tree_many : (b : Bool) (held leaves : ℕ) (es : List Entry) → b ≡ false → held ≡ 0 → IsTree b held leaves es
-    → IsTree false 0 leaves es
-tree_many b held leaves es many none t = subst₂ (λ b held. IsTree b held leaves es) many none t
 
 no_first : (few : List Entry) → length few ≡ 0 → first_of few ≡ None
 no_first [] none = refl
@@ -53,7 +49,7 @@ module _ (is_few : Bool) (held root leaves size given : ℕ) (es : List Entry) (
     long = entries_long;
     within = let l = entries_long in let w = held_within in let wide = h.wide in omega (arith, l, w, wide);
     heap = h.heap;
-    behind = f.behind;
+    front = f.front;
     played = h.played;
     bare = h.bare;
   }
@@ -111,8 +107,8 @@ module _ (is_few : Bool) (held root leaves size given : ℕ) (es : List Entry) (
               root_few is_few (take held es) leaves size given (shown is_few held es) free room v h is small
                   ∙ first_is (take held es) filled ∙ ap (λ (e : Entry). Some (index_of e)) at,
             ))
-        | inr none ↦ absurd (let low = root_low in
-            let m = ap (λ (e : Entry). e.moment) (sym here ∙ f.behind small root (omega (arith, none)) low) in
+        | inr none ↦ absurd (
+            let m = ap (λ (e : Entry). e.moment) (sym here ∙ ap (entry_at es) at_root ∙ f.front small (omega (arith, none))) in
             omega (arith, m, used))
       ]
 
@@ -234,7 +230,7 @@ module _ (is_few : Bool) (held root leaves size given : ℕ) (es : List Entry) (
           (take held new) (shown is_few held new) moment valid e.long e.here e.others t.heap t.played
 
       pub front_after : IsFront is_few held root leaves given new free
-      front_after = record { first = f.first; used = f.used; most = f.most; none = f.none; behind = t.behind }
+      front_after = record { first = f.first; used = f.used; most = f.most; none = f.none; front = t.front }
 
       pub slots_after : slots size (shown is_few held new) ≡ with_moment v.slots (index_of x) moment
       slots_after = changed_slots is_few (take held es) leaves size given (shown is_few held es) free room v h is x has

@@ -1,14 +1,13 @@
 -- The leaves of more indexes, and the games among them.
-use Rattle.std.proofs.Common.{◌≡◌, ℕ, suc, ◌+◌, ◌*◌, ◌<◌, ◌≤◌, inl, inr, true, List, [], ◌∷◌, ◌++◌, length, take, get_or}
+use Rattle.std.proofs.Common.{◌≡◌, ℕ, ◌<◌, ◌≤◌, inl, inr, true, List, [], length, get_or}
 use Rattle.std.proofs.Common.{Some, is_some, count_by, refl, sym, ap, ◌∙◌, subst, arith}
-use Rattle.std.proofs.lemmas.Bool.{cases_eq, cases_lt}
-use Rattle.std.proofs.lemmas.List.{get_or_push, get_or_append_left, get_or-take}
+use Rattle.std.proofs.lemmas.Bool.{cases_lt}
 use Rattle.cyc_types.specs.Series.{never}
 use Rattle.cyc_heap.specs.declared.entry.Entry.{Entry}
-use Rattle.cyc_heap.specs.Tournament.{nowhere, entry_at, index_of, slots, last_position, winner_of, comes, IsWinner, IsPlayedAt}
+use Rattle.cyc_heap.specs.Tournament.{entry_at, index_of, slots, last_position, winner_of, comes}
 use Rattle.cyc_heap.specs.Tournament.{IsPlayed, IsListed}
 use Rattle.cyc_heap.proofs.Slots.{slots_kept}
-use Rattle.cyc_heap.proofs.Playing.{winner_at, comes_antisym, least_of_all, one_of_all}
+use Rattle.cyc_heap.proofs.Playing.{comes_antisym, least_of_all, one_of_all}
 use Rattle.cyc_heap.proofs.Views.{winner_used, winner_free, comes_later}
 
 -- no index was given
@@ -36,31 +35,6 @@ kept_listed size xs ys free long_xs long_ys same h = record {
   count = (let s = ap (count_by is_some) (slots_kept size xs ys long_xs long_ys same) in let count = h.count in omega
       (arith, s, count));
 }
-
--- the leaves alone
-pub cut_leaf : (size : ℕ) (xs : List Entry) (i : ℕ) → i < size → entry_at (take size xs) i ≡ entry_at xs i
-cut_leaf size xs i low = get_or-take size xs i nowhere low
-
--- one more game is played
-pub played_more : (size g : ℕ) (xs : List Entry) (won : Entry) → length xs ≡ size + g → suc g < size
-    → IsWinner won (entry_at xs (2 * g)) (entry_at xs (2 * g + 1)) → ((k : ℕ) → k < g → IsPlayedAt k size xs)
-    → (k : ℕ) → k < g + 1 → IsPlayedAt k size (xs ++ won ∷ [])
-played_more size g xs won long within best played k low = elim (cases_eq k g) [
-  | inl is ↦ winner_at won (entry_at xs (2 * g)) (entry_at xs (2 * g + 1)) (entry_at (xs ++ won ∷ []) (size + k))
-      (entry_at (xs ++ won ∷ []) (2 * k)) (entry_at (xs ++ won ∷ []) (2 * k + 1))
-      (get_or_push xs won nowhere (size + k) (omega (arith, long, is)))
-      (old (2 * k) (omega (arith, within, is)) ∙ ap (λ k. entry_at xs (2 * k)) is)
-      (old (2 * k + 1) (omega (arith, within, is)) ∙ ap (λ k. entry_at xs (2 * k + 1)) is)
-      best
-  | inr off ↦ winner_at (entry_at xs (size + k)) (entry_at xs (2 * k)) (entry_at xs (2 * k + 1))
-      (entry_at (xs ++ won ∷ []) (size + k)) (entry_at (xs ++ won ∷ []) (2 * k)) (entry_at (xs ++ won ∷ []) (2 * k + 1))
-      (old (size + k) (omega (arith, low, off))) (old (2 * k) (omega (arith, within, low))) (old (2 * k + 1) (omega
-      (arith, within, low)))
-      (played k (omega (arith, low, off)))
-]
-  where
-    old : (i : ℕ) → i < size + g → entry_at (xs ++ won ∷ []) i ≡ entry_at xs i
-    old i low = get_or_append_left xs (won ∷ []) nowhere i (omega (arith, low, long))
 
 -- more free leaves keep the winner as it is
 module _ (leaves more : ℕ) (xs ys : List Entry) (played : IsPlayed leaves xs) (played_after : IsPlayed more ys)

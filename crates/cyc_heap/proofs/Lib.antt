@@ -6,7 +6,7 @@ pub mod Growing
 pub mod Moving
 pub mod Spreading
 pub mod Sifting
-pub mod Drawing
+pub mod Gathering
 pub mod Changing
 pub mod Fronts
 pub mod Widening

@@ -35,22 +35,6 @@ first_of_both place m few left right c (inl eq) low = subst (λ c. comes (entry_
 first_of_both place m few left right c (inr eq) low =
     subst (λ c. comes (entry_at few m) (entry_at few c) ≡ true) (sym eq) (right (omega (arith, eq, low)))
 
--- one by itself is a heap, and fills the hole
-pub alone_heap : (few : List Entry) → length few ≡ 1 → IsHeap few
-alone_heap few one = record {
-  rising = λ a c is low. absurd (let l = child_low a c is in omega (arith, l, low, one));
-  apart = λ p q low_p low_q off. absurd (off (omega (arith, low_p, low_q, one)));
-}
-
-pub alone_filled : (old few : List Entry) (e : Entry) → length old ≡ 1 → length few ≡ 1 → entry_at few 0 ≡ e
-    → IsFilled 0 old e few
-alone_filled old few e was one here = record {
-  long = one ∙ sym was;
-  here = (0, omega (arith, one), here);
-  from = λ p low. inl (ap (entry_at few) (omega (arith, low, one)) ∙ here);
-  to = λ q low off. absurd (off (omega (arith, low, was)));
-}
-
 -- the first comes before all
 pub first_least : (few : List Entry) → IsHeap few → (p : ℕ) → p < length few → comes (entry_at few 0) (entry_at few p) ≡ true
 first_least few h p low = to p (suc p) low (omega arith)

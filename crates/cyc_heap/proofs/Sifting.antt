@@ -1,15 +1,15 @@
 -- The few in front, after one of them was changed, put in or taken out.
-use Rattle.std.proofs.Common.{◌≡◌, ◌≢◌, ℕ, ◌+◌, ◌-◌, ◌<◌, ◌≤◌, ◌⊎◌, inl, inr, true, List, [], ◌∷◌, length, take, drop, sym}
+use Rattle.std.proofs.Common.{◌≡◌, ◌≢◌, ℕ, ◌+◌, ◌-◌, ◌<◌, ◌≤◌, ◌⊎◌, inl, inr, true, List, length, take, sym}
 use Rattle.std.proofs.Common.{ap, ◌∙◌}
-use Rattle.std.proofs.Common.{Option, Some, None, IfSome, IfNone, IsSome, refl, subst, subst₂, arith}
+use Rattle.std.proofs.Common.{Option, Some, IfSome, refl, subst, subst₂, arith}
 use Rattle.std.proofs.Math.ListN.{set}
-use Rattle.std.proofs.lemmas.Bool.{cases_eq, cases_lt}
-use Rattle.std.proofs.lemmas.List.{length-set, length-take-le, get_or-take, get_or-drop, get_or-set_same, get_or-set_other}
+use Rattle.std.proofs.lemmas.Bool.{cases_lt}
+use Rattle.std.proofs.lemmas.List.{length-set, length-take-le, get_or-take, get_or-set_same, get_or-set_other}
 use Rattle.cyc_types.specs.Series.{never}
 use Rattle.cyc_heap.specs.declared.entry.Entry.{Entry}
 use Rattle.cyc_heap.specs.Tournament.{nowhere, entry_at, index_of, free_entry, comes}
-use Rattle.cyc_heap.specs.Few.{shown, HasNo, IsHeap, IsHeapBut, IsFilled, IsFew, IsFreeBehind, IsTree, IsChanged}
-use Rattle.cyc_heap.proofs.Moving.{child_low, hole_made, alone_heap, alone_filled}
+use Rattle.cyc_heap.specs.Few.{shown, IsHeap, IsHeapBut, IsFilled, IsFew, IsBareFront, IsTree, IsChanged}
+use Rattle.cyc_heap.proofs.Moving.{child_low, hole_made}
 use Rattle.cyc_heap.proofs.Spreading.{tree_after, changed_to, changed_free}
 
 -- what stands in front
@@ -19,18 +19,10 @@ front n es p low = get_or-take n es p nowhere low
 pub front_long : (n : ℕ) (es : List Entry) → n ≤ length es → length (take n es) ≡ n
 front_long n es within = length-take-le n es within
 
--- and behind
-pub behind_kept : (n : ℕ) (es new : List Entry) → drop n new ≡ drop n es → length new ≡ length es → IsFreeBehind n es
-    → IsFreeBehind n new
-behind_kept n es new same long free p past low =
-    let at : n + (p - n) ≡ p = omega (arith, past) in
-    sym (ap (entry_at new) at) ∙ sym (get_or-drop n new (p - n) nowhere) ∙ ap (λ l. entry_at l (p - n)) same
-    ∙ get_or-drop n es (p - n) nowhere ∙ ap (entry_at es) at ∙ free p past (omega (arith, low, long))
-
 -- one has this entry, and the others are the old ones
 module _ (held after leaves : ℕ) (es new : List Entry) (x : ℕ) (e : Entry) (t : IsTree true held leaves es) (low_x : x < leaves)
     (same : length new ≡ length es) (within : after ≤ length new) (heap : IsHeap (take after new))
-    (behind : IsFreeBehind after new)
+    (bare : IsBareFront after new)
     (to : (q : ℕ) → q < held → index_of (entry_at (take held es) q) ≢ x
     → (p : ℕ) × (p < after) × (entry_at (take after new) p ≡ entry_at (take held es) q)) where
   was : IsFew (take held es) leaves (shown true held es)
@@ -55,11 +47,11 @@ module _ (held after leaves : ℕ) (es new : List Entry) (x : ℕ) (e : Entry) (
     used_after = each (λ (e : Entry). e.moment ≤ never) valid was.used
 
     pub put_tree : IsTree true after leaves new
-    put_tree = tree_after held after leaves es new x e t low_x same within heap behind to low_after used_after
+    put_tree = tree_after held after leaves es new x e t low_x same within heap bare to low_after used_after
 
     pub put_changed : IsChanged leaves x e (shown true held es) (shown true after new)
     put_changed = (let (p, low, is) = there in
-        changed_to held after leaves es new x e t low_x same within heap behind to low_after used_after from p low is mine)
+        changed_to held after leaves es new x e t low_x same within heap bare to low_after used_after from p low is mine)
 
   -- none has its index
   module _ (off : (p : ℕ) → p < after → index_of (entry_at (take after new) p) ≢ x)
@@ -76,10 +68,10 @@ module _ (held after leaves : ℕ) (es new : List Entry) (x : ℕ) (e : Entry) (
     used_left = all (λ (e : Entry). e.moment ≤ never) was.used
 
     pub left_tree : IsTree true after leaves new
-    left_tree = tree_after held after leaves es new x e t low_x same within heap behind to low_left used_left
+    left_tree = tree_after held after leaves es new x e t low_x same within heap bare to low_left used_left
 
     pub left_changed : IsChanged leaves x free_entry (shown true held es) (shown true after new)
-    left_changed = changed_free held after leaves es new x e t low_x same within heap behind to low_left used_left off from
+    left_changed = changed_free held after leaves es new x e t low_x same within heap bare to low_left used_left off from
 
 -- another entry for the index of the one at this place
 module _ (held leaves place x : ℕ) (es new : List Entry) (e : Entry) (t : IsTree true held leaves es) (low : place < held)
@@ -92,13 +84,8 @@ module _ (held leaves place x : ℕ) (es new : List Entry) (e : Entry) (t : IsTr
   pub place_open : IsHeapBut place (take held es)
   place_open = let l = front_long held es t.within in hole_made place (take held es) (t.heap refl).heap (omega (arith, low, l))
 
-  pub place_apart : (p : ℕ) → p < held → p ≢ place → index_of (entry_at es p) ≢ x
-  place_apart p less off same = let l = front_long held es t.within in
-      (t.heap refl).heap.apart p place (omega (arith, less, l)) (omega (arith, low, l)) off
-      (ap index_of (front held es p less) ∙ same ∙ sym here ∙ sym (ap index_of (front held es place low)))
-
   module _ (same : length new ≡ length es) (heap : IsHeap (take held new)) (f : IsFilled place (take held es) e (take held new))
-      (rest : drop held new ≡ drop held es) (mine : index_of e ≡ x) (valid : e.moment ≤ never) where
+      (mine : index_of e ≡ x) (valid : e.moment ≤ never) where
     inside : held ≤ length new
     inside = let w = t.within in omega (arith, w, same)
 
@@ -120,49 +107,19 @@ module _ (held leaves place x : ℕ) (es new : List Entry) (e : Entry) (t : IsTr
     there : (p : ℕ) × (p < held) × (entry_at (take held new) p ≡ e)
     there = let n = front_long held new inside in let (p, at, is) = f.here in (p, omega (arith, at, n), is)
 
-    free_behind : IsFreeBehind held new
-    free_behind = behind_kept held es new rest same (t.behind refl)
+    some_held : IsBareFront held new
+    some_held none = absurd (omega (arith, none, low))
 
     pub changed_tree : IsTree true held leaves new
-    changed_tree = put_tree held held leaves es new x e t place_low same inside heap free_behind to mine valid from there
+    changed_tree = put_tree held held leaves es new x e t place_low same inside heap some_held to mine valid from there
 
     pub changed_leaf : IsChanged leaves x e (shown true held es) (shown true held new)
-    changed_leaf = put_changed held held leaves es new x e t place_low same inside heap free_behind to mine valid from there
-
--- one by itself has another entry
-module _ (leaves : ℕ) (es : List Entry) (e : Entry) (t : IsTree true 1 leaves es)
-    (mine : index_of e ≡ index_of (entry_at es 0)) (valid : e.moment ≤ never) where
-  abbrev alone : List Entry
-  alone = set es 0 e
-
-  same : length alone ≡ length es
-  same = length-set es 0 e
-
-  one : length (take 1 alone) ≡ 1
-  one = let w = t.within in let s = same in front_long 1 alone (omega (arith, w, s))
-
-  at : entry_at (take 1 alone) 0 ≡ e
-  at = let w = t.within in front 1 alone 0 (omega arith) ∙ get_or-set_same es 0 e nowhere (omega (arith, w))
-
-  rest : (es : List Entry) → 1 ≤ length es → drop 1 (set es 0 e) ≡ drop 1 es
-  rest [] some = absurd (omega (arith, some))
-  rest (x ∷ xs) some = refl
-
-  filled : IsFilled 0 (take 1 es) e (take 1 alone)
-  filled = alone_filled (take 1 es) (take 1 alone) e (front_long 1 es t.within) one at
-
-  pub alone_tree : IsTree true 1 leaves (set es 0 e)
-  alone_tree = changed_tree 1 leaves 0 (index_of (entry_at es 0)) es alone e t (omega arith) refl same
-      (alone_heap (take 1 alone) one) filled (rest es t.within) mine valid
-
-  pub alone_leaf : IsChanged leaves (index_of (entry_at es 0)) e (shown true 1 es) (shown true 1 (set es 0 e))
-  alone_leaf = changed_leaf 1 leaves 0 (index_of (entry_at es 0)) es alone e t (omega arith) refl same
-      (alone_heap (take 1 alone) one) filled (rest es t.within) mine valid
+    changed_leaf = put_changed held held leaves es new x e t place_low same inside heap some_held to mine valid from there
 
 -- one more, of an index that none has
 module _ (held leaves x : ℕ) (es new : List Entry) (e : Entry) (t : IsTree true held leaves es) (low_x : x < leaves)
     (space : held < length es) (same : length new ≡ length es) (heap : IsHeap (take (held + 1) new))
-    (f : IsFilled held (take (held + 1) es) e (take (held + 1) new)) (rest : drop (held + 1) new ≡ drop (held + 1) es)
+    (f : IsFilled held (take (held + 1) es) e (take (held + 1) new))
     (mine : index_of e ≡ x) (valid : e.moment ≤ never) where
   more : held + 1 ≤ length new
   more = omega (arith, space, same)
@@ -185,14 +142,14 @@ module _ (held leaves x : ℕ) (es new : List Entry) (e : Entry) (t : IsTree tru
   add_there : (p : ℕ) × (p < held + 1) × (entry_at (take (held + 1) new) p ≡ e)
   add_there = let n = front_long (held + 1) new more in let (p, at, is) = f.here in (p, omega (arith, at, n), is)
 
-  add_behind : IsFreeBehind (held + 1) new
-  add_behind = behind_kept (held + 1) es new rest same (λ p past low. t.behind refl p (omega (arith, past)) low)
+  some_added : IsBareFront (held + 1) new
+  some_added none = absurd (omega (arith, none))
 
   pub added_tree : IsTree true (held + 1) leaves new
-  added_tree = put_tree held (held + 1) leaves es new x e t low_x same more heap add_behind add_to mine valid add_from add_there
+  added_tree = put_tree held (held + 1) leaves es new x e t low_x same more heap some_added add_to mine valid add_from add_there
 
   pub added_leaf : IsChanged leaves x e (shown true held es) (shown true (held + 1) new)
-  added_leaf = put_changed held (held + 1) leaves es new x e t low_x same more heap add_behind add_to mine valid add_from
+  added_leaf = put_changed held (held + 1) leaves es new x e t low_x same more heap some_added add_to mine valid add_from
       add_there
 
 -- the one at this place is taken out
@@ -240,13 +197,9 @@ module _ (held leaves place x : ℕ) (es : List Entry) (t : IsTree true held lea
       (front held es (held - 1) (omega (arith, low)))
       (apart p (held - 1) (omega (arith, less)) (omega (arith, low)) (λ e. absurd (omega (arith, e, less))))
 
-  cut_behind : IsFreeBehind (held - 1) cut
-  cut_behind p past at = let l = cut_long in elim (cases_eq p (held - 1)) [
-    | inl is ↦ ap (entry_at cut) is
-        ∙ get_or-set_same es (held - 1) free_entry nowhere (let w = t.within in omega (arith, w, low))
-    | inr off ↦ get_or-set_other es (held - 1) p free_entry nowhere off
-        ∙ t.behind refl p (omega (arith, past, off)) (omega (arith, at, l))
-  ]
+  cut_bare : IsBareFront (held - 1) cut
+  cut_bare none = ap (entry_at cut) (sym none)
+      ∙ get_or-set_same es (held - 1) free_entry nowhere (let w = t.within in omega (arith, w, low))
 
   taken_low : x < leaves
   taken_low = place_low held leaves place x es es free_entry t low here
@@ -269,17 +222,16 @@ module _ (held leaves place x : ℕ) (es : List Entry) (t : IsTree true held lea
     last_from p less = (p, omega (arith, less), before p less)
 
     pub last_tree : IsTree true (held - 1) leaves cut
-    last_tree = left_tree held (held - 1) leaves es cut x free_entry t taken_low cut_long cut_inside cut_heap cut_behind last_to
+    last_tree = left_tree held (held - 1) leaves es cut x free_entry t taken_low cut_long cut_inside cut_heap cut_bare last_to
         last_off last_from
 
     pub last_changed : IsChanged leaves x free_entry (shown true held es) (shown true (held - 1) cut)
-    last_changed = left_changed held (held - 1) leaves es cut x free_entry t taken_low cut_long cut_inside cut_heap cut_behind
+    last_changed = left_changed held (held - 1) leaves es cut x free_entry t taken_low cut_long cut_inside cut_heap cut_bare
         last_to last_off last_from
 
   -- the last fills its place
   module _ (new : List Entry) (less : place < held - 1) (same : length new ≡ length cut) (heap : IsHeap (take (held - 1) new))
-      (f : IsFilled place (take (held - 1) cut) (entry_at es (held - 1)) (take (held - 1) new))
-      (rest : drop (held - 1) new ≡ drop (held - 1) cut) where
+      (f : IsFilled place (take (held - 1) cut) (entry_at es (held - 1)) (take (held - 1) new)) where
     new_inside : held - 1 ≤ length new
     new_inside = let i = cut_inside in omega (arith, i, same)
 
@@ -326,15 +278,15 @@ module _ (held leaves place x : ℕ) (es : List Entry) (t : IsTree true held lea
     old_from : (p : ℕ) → p < held - 1 → (q : ℕ) × (q < held) × (entry_at (take (held - 1) new) p ≡ entry_at (take held es) q)
     old_from p inside = let (q, at, _, is) = moved_from p inside in (q, at, is)
 
-    new_behind : IsFreeBehind (held - 1) new
-    new_behind = behind_kept (held - 1) cut new rest same cut_behind
+    some_left : IsBareFront (held - 1) new
+    some_left none = absurd (omega (arith, none, less))
 
     pub moved_tree : IsTree true (held - 1) leaves new
-    moved_tree = left_tree held (held - 1) leaves es new x free_entry t taken_low new_long new_inside heap new_behind moved_to
+    moved_tree = left_tree held (held - 1) leaves es new x free_entry t taken_low new_long new_inside heap some_left moved_to
         moved_off old_from
 
     pub moved_changed : IsChanged leaves x free_entry (shown true held es) (shown true (held - 1) new)
-    moved_changed = left_changed held (held - 1) leaves es new x free_entry t taken_low new_long new_inside heap new_behind
+    moved_changed = left_changed held (held - 1) leaves es new x free_entry t taken_low new_long new_inside heap some_left
         moved_to moved_off old_from
 
 -- the place of an index that one of the few has
@@ -346,13 +298,6 @@ found held es l o place i within is some has =
     (subst (λ o. IfSome o (λ p. (p < length (take held l)) × (index_of (entry_at (take held l) p) ≡ i))) some has) in
     let n = front_long held es within in
     let less : place < held = omega (arith, low, n) in (less, sym (ap index_of (front held es place less)) ∙ at)
-
--- it is there
-pub found_some : (held leaves : ℕ) (es l : List Entry) (o : Option ℕ) (i : ℕ) → IsTree true held leaves es → l ≡ es → i < leaves
-    → (entry_at (shown true held es) i).moment ≤ never → IfNone o (HasNo i (take held l)) → IsSome o
-found_some held leaves es l (Some p) i t is low used none = refl
-found_some held leaves es l None i t is low used none = absurd (let (p, at, index, _) = (t.heap refl).all i low used in
-    subst (λ l. HasNo i (take held l)) is none p at index)
 
 -- what its leaf is shown to have
 pub place_shown : (held leaves place x : ℕ) (es : List Entry) → IsTree true held leaves es → place < held

@@ -8,7 +8,7 @@ use Rattle.std.proofs.lemmas.List.{get_or-replicate}
 use Rattle.cyc_types.specs.Series.{never}
 use Rattle.cyc_heap.specs.declared.entry.Entry.{Entry}
 use Rattle.cyc_heap.specs.Tournament.{nowhere, entry_at, index_of, free_entry, IsPlayed}
-use Rattle.cyc_heap.specs.Few.{spread, shown, HasNo, StandsIn, HasBareLeaves, IsHeap, IsFew, IsFreeBehind, IsTree, IsChanged}
+use Rattle.cyc_heap.specs.Few.{spread, shown, HasNo, StandsIn, HasBareLeaves, IsHeap, IsFew, IsBareFront, IsTree, IsChanged}
 
 -- whether one of the first n has this index
 pub member : (n i : ℕ) (few : List Entry)
@@ -64,9 +64,6 @@ module _ (few : List Entry) (leaves n : ℕ) (heap : IsHeap few)
   abbrev pub spreads : List Entry
   spreads = spread few (replicate n free_entry)
 
-  pub length-spreads : length spreads ≡ n
-  length-spreads = length-spread few (replicate n free_entry) ∙ length-replicate n free_entry
-
   pub stands : StandsIn spreads few
   stands = spread_stands few (replicate n free_entry) heap.apart
       (λ p at. let m = low p at in let l = length-replicate n free_entry in omega (arith, m, l, wide))
@@ -85,8 +82,6 @@ module _ (few : List Entry) (leaves n : ℕ) (heap : IsHeap few)
       | inr none ↦ absurd (let m = ap (λ (e : Entry). e.moment) (free_else i (omega (arith, inside, wide)) none) in
           omega (arith, m, has))
     ];
-    blank = λ p past inside. let l = length-spreads in
-        free_else p (omega (arith, inside, l)) (λ q at e. absurd (let m = low q at in omega (arith, m, e, past)));
   }
 
   pub spread_bare : HasBareLeaves leaves spreads
@@ -99,13 +94,13 @@ module _ (few : List Entry) (leaves n : ℕ) (heap : IsHeap few)
 -- a tree of few, and one of many
 pub few_tree : (held leaves : ℕ) (es : List Entry) → suc (length es) ≡ 2 * leaves → held ≤ length es → IsHeap (take held es)
     → ((p : ℕ) → p < length (take held es) → index_of (entry_at (take held es) p) < leaves)
-    → ((p : ℕ) → p < length (take held es) → (entry_at (take held es) p).moment ≤ never) → IsFreeBehind held es
+    → ((p : ℕ) → p < length (take held es) → (entry_at (take held es) p).moment ≤ never) → IsBareFront held es
     → IsTree true held leaves es
-few_tree held leaves es long within heap low used behind = record {
+few_tree held leaves es long within heap low used front = record {
   long = long;
   within = within;
   heap = λ _. few_spread (take held es) leaves (length es) heap low used (omega (arith, long));
-  behind = λ _. behind;
+  front = λ _. front;
   played = λ no. absurd (false≢true (sym no));
   bare = spread_bare (take held es) leaves (length es) heap low used (omega (arith, long));
 }
@@ -116,7 +111,7 @@ many_tree leaves es long played bare = record {
   long = long;
   within = omega arith;
   heap = λ no. absurd (false≢true no);
-  behind = λ no. absurd (false≢true no);
+  front = λ no. absurd (false≢true no);
   played = λ _. played;
   bare = bare;
 }
@@ -124,7 +119,7 @@ many_tree leaves es long played bare = record {
 -- the few, after a change
 module _ (held after leaves : ℕ) (es new : List Entry) (x : ℕ) (e : Entry) (t : IsTree true held leaves es) (low_x : x < leaves)
     (same : length new ≡ length es) (within : after ≤ length new) (heap : IsHeap (take after new))
-    (behind : IsFreeBehind after new)
+    (bare : IsBareFront after new)
     (to : (q : ℕ) → q < held → index_of (entry_at (take held es) q) ≢ x
     → (p : ℕ) × (p < after) × (entry_at (take after new) p ≡ entry_at (take held es) q)) where
   was : IsFew (take held es) leaves (shown true held es)
@@ -142,7 +137,7 @@ module _ (held after leaves : ℕ) (es new : List Entry) (x : ℕ) (e : Entry) (
   module _ (low : (p : ℕ) → p < length (take after new) → index_of (entry_at (take after new) p) < leaves)
       (used : (p : ℕ) → p < length (take after new) → (entry_at (take after new) p).moment ≤ never) where
     pub tree_after : IsTree true after leaves new
-    tree_after = few_tree after leaves new (let long = t.long in omega (arith, long, same)) within heap low used behind
+    tree_after = few_tree after leaves new (let long = t.long in omega (arith, long, same)) within heap low used bare
 
     now_stands : StandsIn (shown true after new) (take after new)
     now_stands = stands (take after new) leaves (length new) heap low used (let w = wide in omega (arith, w, same))

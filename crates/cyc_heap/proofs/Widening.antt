@@ -14,8 +14,7 @@ use Rattle.cyc_heap.proofs.Fronts.{shown_many}
 
 -- where they are few
 module _ (held leaves more : ℕ) (es new : List Entry) (t : IsTree true held leaves es) (wider : leaves ≤ more)
-    (long : suc (length new) ≡ 2 * more) (front : (p : ℕ) → p < length es → entry_at new p ≡ entry_at es p)
-    (behind : (p : ℕ) → length es ≤ p → p < length new → entry_at new p ≡ free_entry) where
+    (long : suc (length new) ≡ 2 * more) (front : (p : ℕ) → p < length es → entry_at new p ≡ entry_at es p) where
   few : IsFew (take held es) leaves (shown true held es)
   few = t.heap refl
 
@@ -67,16 +66,12 @@ module _ (held leaves more : ℕ) (es new : List Entry) (t : IsTree true held le
   few_wider = few_tree held more new long inside (subst IsHeap (sym same_front) few.heap)
       (subst (λ few. (p : ℕ) → p < length few → index_of (entry_at few p) < more) (sym same_front) low_more)
       (subst (λ (few : List Entry). (p : ℕ) → p < length few → (entry_at few p).moment ≤ never) (sym same_front) few.used)
-      (λ p past low. elim (cases_lt p (length es)) [
-        | inl before ↦ front p before ∙ t.behind refl p past before
-        | inr after ↦ behind p after low
-      ])
+      (λ none. let l = t.long in front 0 (omega (arith, l)) ∙ t.front refl none)
 
 -- by either name
 module _ (b : Bool) (held leaves more : ℕ) (es new : List Entry) (t : IsTree b held leaves es) (none : b ≡ false → held ≡ 0)
     (wider : leaves ≤ more) (long : suc (length new) ≡ 2 * more)
     (front : b ≡ true → (p : ℕ) → p < length es → entry_at new p ≡ entry_at es p)
-    (behind : b ≡ true → (p : ℕ) → length es ≤ p → p < length new → entry_at new p ≡ free_entry)
     (kept : b ≡ false → (i : ℕ) → i < leaves → entry_at new i ≡ entry_at es i)
     (unused : b ≡ false → (i : ℕ) → leaves ≤ i → i < more → entry_at new i ≡ free_entry)
     (played : b ≡ false → IsPlayed leaves es → IsPlayed more new) where
@@ -86,7 +81,7 @@ module _ (b : Bool) (held leaves more : ℕ) (es new : List Entry) (t : IsTree b
   pub wide_kept : (i : ℕ) → i < leaves → entry_at (shown b held new) i ≡ entry_at (shown b held es) i
   wide_kept i low = elim (few_or_many b) [
     | inl small ↦ subst (λ b. entry_at (shown b held new) i ≡ entry_at (shown b held es) i) (sym small)
-        (few_kept held leaves more es new (as_few small) wider long (front small) (behind small) i low)
+        (few_kept held leaves more es new (as_few small) wider long (front small) i low)
     | inr many ↦ ap (λ l. entry_at l i) (shown_many b held new many) ∙ kept many i low
         ∙ ap (λ l. entry_at l i) (sym (shown_many b held es many))
   ]
@@ -94,7 +89,7 @@ module _ (b : Bool) (held leaves more : ℕ) (es new : List Entry) (t : IsTree b
   pub wide_unused : (i : ℕ) → leaves ≤ i → i < more → entry_at (shown b held new) i ≡ free_entry
   wide_unused i past low = elim (few_or_many b) [
     | inl small ↦ subst (λ b. entry_at (shown b held new) i ≡ free_entry) (sym small)
-        (few_unused held leaves more es new (as_few small) wider long (front small) (behind small) i past low)
+        (few_unused held leaves more es new (as_few small) wider long (front small) i past low)
     | inr many ↦ ap (λ l. entry_at l i) (shown_many b held new many) ∙ unused many i past low
   ]
 
@@ -105,12 +100,12 @@ module _ (b : Bool) (held leaves more : ℕ) (es new : List Entry) (t : IsTree b
   pub wide_tree : IsTree b held more new
   wide_tree = elim (few_or_many b) [
     | inl small ↦ subst (λ b. IsTree b held more new) (sym small)
-        (few_wider held leaves more es new (as_few small) wider long (front small) (behind small))
+        (few_wider held leaves more es new (as_few small) wider long (front small))
     | inr many ↦ record {
       long = long;
       within = let n = none many in omega (arith, n);
       heap = λ small. absurd (false≢true (sym many ∙ small));
-      behind = λ small. absurd (false≢true (sym many ∙ small));
+      front = λ small. absurd (false≢true (sym many ∙ small));
       played = played_new;
       bare = λ i low free. elim (cases_lt i leaves) [
         | inl before ↦ (let same = wide_kept i before in

@@ -1,5 +1,6 @@
 -- Few expirations as a heap in an array (`cyp_heap` of sys/cyclic_impl.h), each with an index of its own.
-use Rattle.std.specs.Prelude.{◌≡◌, ◌≢◌, ℕ, suc, ◌+◌, ◌*◌, ◌<◌, ◌≤◌, ◌⊎◌, Bool, true, false, List, [], ◌∷◌, length, Option, Some}
+use Rattle.std.specs.Prelude.{◌≡◌, ◌≢◌, ℕ, suc, ◌+◌, ◌*◌, ◌/◌, ◌<◌, ◌≤◌, ◌⊎◌, Bool, true, false, List, [], ◌∷◌, length, Option}
+use Rattle.std.specs.Prelude.{Some}
 use Rattle.std.specs.Prelude.{None, if◌then◌else◌, take, replicate, slice_set}
 use Rattle.cyc_types.specs.Limits.{cyclics}
 use Rattle.cyc_types.specs.Series.{never}
@@ -7,9 +8,9 @@ use Rattle.cyc_heap.specs.declared.entry.Entry.{Entry}
 use Rattle.cyc_heap.specs.Tournament.{entry_at, index_of, free_entry, comes, last_position, winner_of, IsPlayed}
 use Rattle.cyc_heap.specs.Tournament.{IsListed}
 
--- the most that are ever few (our own)
-abbrev pub most_few : ℕ
-most_few = 16
+-- the most that are ever few, of so many leaves (our own)
+abbrev pub most_few : ℕ → ℕ
+most_few leaves = leaves / 2 + 16
 
 -- c is one of the two places below a (`CYC_HEAP_LEFT` and `CYC_HEAP_RIGHT` of sys/cyclic_impl.h)
 abbrev pub IsChild : ℕ → ℕ → Type 0
@@ -53,11 +54,7 @@ HasNo i few = (p : ℕ) → p < length few → index_of (entry_at few p) ≢ i
 abbrev pub StandsIn : List Entry → List Entry → Type 0
 StandsIn entries few = (p : ℕ) → p < length few → entry_at entries (index_of (entry_at few p)) ≡ entry_at few p
 
--- all games are as if all leaves were free
-abbrev pub IsBlank : ℕ → List Entry → Type 0
-IsBlank leaves entries = (p : ℕ) → leaves ≤ p → p < length entries → entry_at entries p ≡ free_entry
-
--- they are the leaves that have a moment, and these play no games
+-- they are the leaves that have a moment
 pub record IsFew (few : List Entry) (leaves : ℕ) (entries : List Entry) : Type 0 where
   pub heap : IsHeap few
   pub low : (p : ℕ) → p < length few → index_of (entry_at few p) < leaves
@@ -65,7 +62,6 @@ pub record IsFew (few : List Entry) (leaves : ℕ) (entries : List Entry) : Type
   pub used : (p : ℕ) → p < length few → (entry_at few p).moment ≤ never
   pub all : (i : ℕ) → i < leaves → (entry_at entries i).moment ≤ never
       → (p : ℕ) × (p < length few) × (index_of (entry_at few p) ≡ i) × (entry_at few p ≡ entry_at entries i)
-  pub blank : IsBlank leaves entries
 
 -- a leaf with no moment is the free entry
 abbrev pub HasBareLeaves : ℕ → List Entry → Type 0
@@ -85,14 +81,14 @@ unfoldable pub spread : List Entry → List Entry → List Entry
 spread [] entries = entries
 spread (e ∷ few) entries = slice_set (spread few entries) (index_of e) e
 
--- what the leaves have: where they are few, so many stand in front, each as if in its leaf, and all others are free
+-- what the leaves have: where they are few, so many stand in front, each as if in its leaf, and what stands behind means nothing
 abbrev pub shown : Bool → ℕ → List Entry → List Entry
 shown is_few held entries =
     (if is_few then spread (take held entries) (replicate (length entries) free_entry) else entries)
 
--- behind so many stand free entries
-abbrev pub IsFreeBehind : ℕ → List Entry → Type 0
-IsFreeBehind held entries = (p : ℕ) → held ≤ p → p < length entries → entry_at entries p ≡ free_entry
+-- where none stands in front the first entry is free
+abbrev pub IsBareFront : ℕ → List Entry → Type 0
+IsBareFront held entries = held ≡ 0 → entry_at entries 0 ≡ free_entry
 
 -- where the least expiration stands: in front where they are few, and as the last winner else
 abbrev pub root_position : Bool → ℕ → ℕ
@@ -103,7 +99,7 @@ pub record IsTree (is_few : Bool) (held leaves : ℕ) (entries : List Entry) : T
   pub long : suc (length entries) ≡ 2 * leaves
   pub within : held ≤ length entries
   pub heap : is_few ≡ true → IsFew (take held entries) leaves (shown is_few held entries)
-  pub behind : is_few ≡ true → IsFreeBehind held entries
+  pub front : is_few ≡ true → IsBareFront held entries
   pub played : is_few ≡ false → IsPlayed leaves (shown is_few held entries)
   pub bare : HasBareLeaves leaves (shown is_few held entries)
 
@@ -131,6 +127,6 @@ pub record IsTournament (is_few : Bool) (few : List Entry) (leaves size given : 
 pub record IsFront (is_few : Bool) (held root leaves given : ℕ) (entries : List Entry) (free : List ℕ) : Type 0 where
   pub first : root ≡ root_position is_few leaves
   pub used : is_few ≡ true → held + length free ≤ given
-  pub most : is_few ≡ true → held ≤ most_few
+  pub most : is_few ≡ true → held ≤ most_few leaves
   pub none : is_few ≡ false → held ≡ 0
-  pub behind : is_few ≡ true → IsFreeBehind held entries
+  pub front : is_few ≡ true → IsBareFront held entries

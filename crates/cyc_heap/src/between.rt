@@ -1,118 +1,110 @@
-//! From few in front to many that play, and back. Either way plays at most eight games for each of the few, however many
-//! leaves there are: while they are few, all behind them is free.
+//! From few in front to many that play, and back. Either way goes over the leaves once.
 
-ghost use Rattle.std.specs.Prelude.{◌≡◌, ◌≢◌, ◌<◌, ◌≤◌, ◌+◌, ◌*◌, ℕ, length, take, vec_capacity, true, false, IfSome, IfNone};
+ghost use Rattle.std.specs.Prelude.{◌≡◌, ◌<◌, ◌≤◌, ◌+◌, ◌*◌, ◌/◌, ℕ, length, take, is_some, count_by, vec_capacity, true, false};
 ghost use Rattle.cyc_types.specs.Limits.{cyclics};
 ghost use Rattle.cyc_types.specs.Series.{never};
-ghost use Rattle.cyc_heap.specs.Tournament.{entry_at, index_of, free_entry, IsPlayed};
-ghost use Rattle.cyc_heap.specs.Few.{most_few, HasNo, StandsIn, IsHeap, IsFreeBehind, shown, IsTree};
+ghost use Rattle.cyc_heap.specs.Tournament.{entry_at, index_of, free_entry, slots};
+ghost use Rattle.cyc_heap.specs.Few.{most_few, HasNo, StandsIn, IsHeap, shown, IsTree};
 
 use crate::entry::Entry;
-use crate::games::enter;
+use crate::few::put;
+use crate::games::play_all;
 
-/// The most expirations that are few. More of them are worth their games, of which each change plays as many as there are
-/// halvings of the leaves.
-pub(crate) const MOST_FEW: usize = 16;
-
-/// Moves so many out of the front.
-fn take_front(few: &mut Vec<Entry>, entries: &mut Vec<Entry>, held: usize)
-    requires within { held ≤ length entries.old.items }
-    requires space { held ≤ vec_capacity few.old }
-    requires behind { IsFreeBehind held entries.old.items }
-    ensures few { few.new.items ≡ take held entries.old.items }
-    ensures free { IsFreeBehind 0 entries.new.items }
-    ensures long { length entries.new.items ≡ length entries.old.items }
-    ensures room { vec_capacity entries.new ≡ vec_capacity entries.old }
-    ensures few_room { vec_capacity few.new ≡ vec_capacity few.old }
+/// The most expirations that are few, of so many leaves. More of them are worth their games, of which each change plays as many
+/// as there are halvings of the leaves. Up to 32 leaves they are always few.
+pub(crate) fn few_at_most(leaves: usize) -> usize
+    requires { leaves ≤ cyclics }
+    ensures { result ≡ most_few leaves }
 {
-    few.clear();
-    for place in 0..held {
-        few.push_reserved(entries[place]);
-        entries[place] = Entry::free();
+    leaves / 2 + 16
+}
+
+/// Makes all leaves free.
+fn clear(leaves: &mut [Entry])
+    ensures free { (i : ℕ) → i < length leaves.new → entry_at leaves.new i ≡ free_entry }
+    ensures long { length leaves.new ≡ length leaves.old }
+{
+    for position in 0..leaves.len() {
+        leaves[position] = Entry::free();
     }
 }
 
-/// Puts these in front.
-fn put_front(few: &[Entry], entries: &mut Vec<Entry>)
-    requires within { length few.now ≤ length entries.old.items }
-    requires free { IsFreeBehind 0 entries.old.items }
-    ensures front { take (length few.now) entries.new.items ≡ few.now }
-    ensures behind { IsFreeBehind (length few.now) entries.new.items }
-    ensures long { length entries.new.items ≡ length entries.old.items }
-    ensures room { vec_capacity entries.new ≡ vec_capacity entries.old }
-{
-    for place in 0..few.len() {
-        entries[place] = few[place];
-    }
-}
-
-/// Puts the few into their leaves, and plays the games above them.
-fn enter_all(few: &[Entry], entries: &mut Vec<Entry>, leaves: usize)
-    requires few { leaves ≤ cyclics }
-    requires long { length entries.old.items + 1 ≡ 2 * leaves }
+/// Puts each of the few into the leaf of its index.
+fn enter_few(few: &[Entry], leaves: &mut [Entry])
     requires heap { IsHeap few.now }
-    requires low { (p : ℕ) → p < length few.now → index_of (entry_at few.now p) < leaves }
-    requires played { IsPlayed leaves entries.old.items }
-    ensures long { length entries.new.items ≡ length entries.old.items }
-    ensures here { StandsIn entries.new.items few.now }
-    ensures others { (i : ℕ) → i < leaves → HasNo i few.now → entry_at entries.new.items i ≡ entry_at entries.old.items i }
-    ensures played { IsPlayed leaves entries.new.items }
-    ensures room { vec_capacity entries.new ≡ vec_capacity entries.old }
+    requires low { (p : ℕ) → p < length few.now → index_of (entry_at few.now p) < length leaves.old }
+    ensures here { StandsIn leaves.new few.now }
+    ensures others { (i : ℕ) → i < length leaves.old → HasNo i few.now → entry_at leaves.new i ≡ entry_at leaves.old i }
+    ensures long { length leaves.new ≡ length leaves.old }
 {
     for entry in few {
-        enter(entries, leaves, usize::from(entry.index().number()), *entry);
+        leaves[usize::from(entry.index().number())] = *entry;
     }
+}
+
+/// Moves so many from the front into the leaves of their indexes, by way of what stands behind the leaves. All other leaves are
+/// free from now on.
+fn leave_front(leaves: &mut [Entry], behind: &mut [Entry], held: usize)
+    requires within { held ≤ length leaves.old }
+    requires space { held ≤ length behind.old }
+    requires heap { IsHeap (take held leaves.old) }
+    requires low { (p : ℕ) → p < length (take held leaves.old) → index_of (entry_at (take held leaves.old) p) < length leaves.old }
+    ensures here { StandsIn leaves.new (take held leaves.old) }
+    ensures free { (i : ℕ) → i < length leaves.old → HasNo i (take held leaves.old) → entry_at leaves.new i ≡ free_entry }
+    ensures long { length leaves.new ≡ length leaves.old }
+    ensures long_behind { length behind.new ≡ length behind.old }
+{
+    let few = &mut behind[..held];
+    few.copy_from_slice(&leaves[..held]);
+    clear(leaves);
+    enter_few(few, leaves);
+}
+
+/// Each of the few stands in the leaf of its index from now on, and all other leaves are free.
+fn spread_few(entries: &mut [Entry], held: usize, leaves: usize)
+    requires low { held < leaves }
+    requires tree { IsTree true held leaves entries.old }
+    ensures here { StandsIn entries.new (take held entries.old) }
+    ensures free { (i : ℕ) → i < leaves → HasNo i (take held entries.old) → entry_at entries.new i ≡ free_entry }
+    ensures long { length entries.new ≡ length entries.old }
+{
+    let (front, behind) = entries.split_at_mut(leaves);
+    leave_front(front, behind, held);
 }
 
 /// The few play from now on.
-pub(crate) fn play_few(few: &mut Vec<Entry>, entries: &mut Vec<Entry>, held: usize, leaves: usize)
+pub(crate) fn play_few(entries: &mut Vec<Entry>, held: usize, leaves: usize)
     requires few { leaves ≤ cyclics }
-    requires space { held ≤ vec_capacity few.old }
+    requires low { held < leaves }
     requires tree { IsTree true held leaves entries.old.items }
     ensures tree { IsTree false 0 leaves entries.new.items }
     ensures long { length entries.new.items ≡ length entries.old.items }
     ensures kept { (i : ℕ) → i < leaves → entry_at entries.new.items i ≡ entry_at (shown true held entries.old.items) i }
     ensures room { vec_capacity entries.new ≡ vec_capacity entries.old }
-    ensures few_room { vec_capacity few.new ≡ vec_capacity few.old }
 {
-    take_front(few, entries, held);
-    enter_all(few.as_slice(), entries, leaves);
+    spread_few(entries.as_mut_slice(), held, leaves);
+    play_all(entries.as_mut_slice(), leaves);
 }
 
-/// Takes the winners out one by one: in this order they are a heap. Where they are at most so many, they stand in front from
-/// now on, and it says how many they are. Where they aren't, all play as before.
-pub(crate) fn draw_few(
-    few: &mut Vec<Entry>,
-    entries: &mut Vec<Entry>,
-    leaves: usize,
-    most: usize,
-) -> Option<usize>
+/// Those of the leaves that have a moment stand in front from now on, as a heap. Says how many they are.
+pub(crate) fn gather(entries: &mut Vec<Entry>, leaves: usize) -> usize
     requires some { 0 < leaves }
     requires leaves { leaves ≤ cyclics }
-    requires within { most ≤ leaves }
-    requires space { most < vec_capacity few.old }
     requires own { (i : ℕ) → i < leaves → (entry_at entries.old.items i).moment ≤ never → index_of (entry_at entries.old.items i) ≡ i }
     requires tree { IsTree false 0 leaves entries.old.items }
-    ensures few { IfSome result (λ held. (held ≤ most) × IsTree true held leaves entries.new.items) }
-    ensures kept { IfSome result (λ held. (i : ℕ) → i < leaves
-        → entry_at (shown true held entries.new.items) i ≡ entry_at entries.old.items i) }
-    ensures many { IfNone result (IsTree false 0 leaves entries.new.items) }
-    ensures kept_many { IfNone result ((i : ℕ) → i < leaves → entry_at entries.new.items i ≡ entry_at entries.old.items i) }
+    ensures tree { IsTree true result leaves entries.new.items }
+    ensures kept { (i : ℕ) → i < leaves → entry_at (shown true result entries.new.items) i ≡ entry_at entries.old.items i }
+    ensures count { result ≡ count_by is_some (slots leaves entries.old.items) }
     ensures long { length entries.new.items ≡ length entries.old.items }
     ensures room { vec_capacity entries.new ≡ vec_capacity entries.old }
-    ensures few_room { vec_capacity few.new ≡ vec_capacity few.old }
 {
-    few.clear();
-    for count in 0..most + 1 {
-        let first = entries[2 * (leaves - 1)];
-        if first.moment().is_none() {
-            put_front(few.as_slice(), entries);
-            return Some(count);
+    let mut held = 0;
+    for position in 0..leaves {
+        let entry = entries[position];
+        if entry.moment().is_some() {
+            put(entries, held + 1, held, entry);
+            held += 1;
         }
-        few.push_reserved(first);
-        let position = usize::from(first.index().number());
-        enter(entries, leaves, position, Entry::free());
     }
-    enter_all(few.as_slice(), entries, leaves);
-    None
+    held
 }

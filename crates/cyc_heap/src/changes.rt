@@ -22,20 +22,6 @@ fn at_moment(entry: &Entry, moment: Moment) -> Entry
     }
 }
 
-/// One by itself has another moment, and stays where it is.
-#[inline(always)]
-pub(crate) fn lower_alone(entries: &mut Vec<Entry>, leaves: usize, moment: Moment)
-    requires leaves { leaves ≤ cyclics }
-    requires tree { IsTree true 1 leaves entries.old.items }
-    ensures tree { IsTree true 1 leaves entries.new.items }
-    ensures changed { IsChanged leaves (index_of (entry_at entries.old.items 0)) (record (entry_at entries.old.items 0) { moment = moment })
-        (shown true 1 entries.old.items) (shown true 1 entries.new.items) }
-    ensures valid { moment ≤ never }
-    ensures room { vec_capacity entries.new ≡ vec_capacity entries.old }
-{
-    entries[0].moment = moment.nanoseconds();
-}
-
 /// The first of few has another moment.
 #[inline(always)]
 pub(crate) fn lower_first(entries: &mut Vec<Entry>, held: usize, leaves: usize, moment: Moment)
@@ -70,7 +56,7 @@ fn change_few(entries: &mut Vec<Entry>, held: usize, leaves: usize, index: Index
 }
 
 /// One of many has another moment.
-pub(crate) fn change_many(entries: &mut Vec<Entry>, leaves: usize, index: Index, moment: Moment)
+fn change_many(entries: &mut Vec<Entry>, leaves: usize, index: Index, moment: Moment)
     requires leaves { leaves ≤ cyclics }
     requires index { index < leaves }
     requires tree { IsTree false 0 leaves entries.old.items }
@@ -83,6 +69,22 @@ pub(crate) fn change_many(entries: &mut Vec<Entry>, leaves: usize, index: Index,
     let position = usize::from(index.number());
     let entry = at_moment(&entries[position], moment);
     enter(entries, leaves, position, entry);
+}
+
+/// The last winner has another moment. A fire calls this, so that in the loop of one among few nothing has to outlast a call.
+#[cold]
+#[inline(never)]
+pub(crate) fn lower_winner(entries: &mut Vec<Entry>, leaves: usize, index: Index, moment: Moment)
+    requires leaves { leaves ≤ cyclics }
+    requires index { index < leaves }
+    requires tree { IsTree false 0 leaves entries.old.items }
+    ensures tree { IsTree false 0 leaves entries.new.items }
+    ensures changed { IsChanged leaves index (record (entry_at entries.old.items index) { moment = moment })
+        entries.old.items entries.new.items }
+    ensures valid { moment ≤ never }
+    ensures room { vec_capacity entries.new ≡ vec_capacity entries.old }
+{
+    change_many(entries, leaves, index, moment);
 }
 
 /// The expiration of this index has another moment.

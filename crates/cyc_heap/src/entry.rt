@@ -1,4 +1,4 @@
-//! An entry of the tournament, and which of two expires first.
+//! An expiration with the index of its cyclic, among few and among many, and which of two expires first.
 
 ghost use Rattle.std.specs.Prelude.{◌≡◌, ◌+◌, ◌*◌, ◌/◌, ◌%◌, ◌<◌, ◌≤◌, ◌^◌, ◌↔◌, true, IfSome, IfNone};
 ghost use Rattle.std.specs.Bool.{OnTrue, OnFalse};
@@ -109,6 +109,14 @@ impl Entry {
     {
         let nanoseconds = i64::try_from(self.moment).ok()?;
         Moment::new(nanoseconds).ok()
+    }
+
+    /// The moment of an expiration that has one.
+    pub(crate) fn reached(&self) -> Moment
+        requires { self.now.moment ≤ never }
+        ensures { result ≡ self.now.moment }
+    {
+        Moment::new(self.moment as i64).unwrap()
     }
 
     /// The id of the cyclic.

@@ -117,17 +117,15 @@ pub(crate) fn enter(entries: &mut Vec<Entry>, leaves: usize, index: usize, entry
 }
 
 /// Plays all games among the leaves: their winners come after them.
-pub(crate) fn play_all(entries: &mut Vec<Entry>)
-    requires some { 0 < length entries.old.items }
-    requires few { length entries.old.items ≤ cyclics }
-    requires room { 2 * length entries.old.items ≤ vec_capacity entries.old + 1 }
-    ensures long { length entries.new.items + 1 ≡ 2 * length entries.old.items }
-    ensures kept { (i : ℕ) → i < length entries.old.items → entry_at entries.new.items i ≡ entry_at entries.old.items i }
-    ensures played { IsPlayed (length entries.old.items) entries.new.items }
-    ensures room { vec_capacity entries.new ≡ vec_capacity entries.old }
+pub(crate) fn play_all(entries: &mut [Entry], leaves: usize)
+    requires some { 0 < leaves }
+    requires few { leaves ≤ cyclics }
+    requires long { length entries.old + 1 ≡ 2 * leaves }
+    ensures long { length entries.new ≡ length entries.old }
+    ensures kept { (i : ℕ) → i < leaves → entry_at entries.new i ≡ entry_at entries.old i }
+    ensures played { IsPlayed leaves entries.new }
 {
-    for game in 0..entries.len() - 1 {
-        let won = winner(entries[2 * game], entries[2 * game + 1]);
-        entries.push_reserved(won);
+    for game in 0..leaves - 1 {
+        entries[leaves + game] = winner(entries[2 * game], entries[2 * game + 1]);
     }
 }

@@ -1,17 +1,18 @@
 //! The heap of expirations, with a look-up by index.
 
-ghost use Rattle.std.specs.Prelude.{◌≡◌, ℕ, ◌+◌, ◌-◌, ◌*◌, ◌<◌, ◌≤◌, ◌⊎◌, ◌↔◌, ◌++◌, [], ◌∷◌, true, false, max, length, replicate, slice_set};
+ghost use Rattle.std.specs.Prelude.{◌≡◌, ℕ, ◌+◌, ◌-◌, ◌*◌, ◌/◌, ◌<◌, ◌≤◌, ◌⊎◌, ◌↔◌, ◌++◌, [], ◌∷◌, true, false, max, length, replicate, slice_set};
 ghost use Rattle.std.specs.Prelude.{option_map, Some, None, IsSome, IfSome, IfNone, IfOk, IfErr, OnOk, OnErr, vec_len};
-ghost use Rattle.std.specs.Prelude.{vec_capacity};
+ghost use Rattle.std.specs.Prelude.{vec_capacity, is_some, count_by};
 ghost use Rattle.cyc_types.specs.Limits.{cyclics};
 ghost use Rattle.cyc_types.specs.declared.refusal.Refusal.TheVariants.{Memory};
+ghost use Rattle.cyc_types.specs.Expirations.{Expiration};
 ghost use Rattle.cyc_types.specs.Series.{never};
-ghost use Rattle.cyc_heap.specs.Tournament.{key, index_of, entry_at, free_entry, IsPlayed};
+ghost use Rattle.cyc_heap.specs.Tournament.{key, index_of, entry_at, free_entry, slots, IsPlayed};
 ghost use Rattle.cyc_heap.specs.Few.{most_few, root_position, shown, IsTree};
 ghost use Rattle.cyc_heap.specs.Heap.{HeapView, new_heap, size_of, len_of, expiration_at, with_moment, pair_of, IsEmpty, IsLeast};
 
-use crate::between::{MOST_FEW, draw_few, play_few};
-use crate::changes::{add, change, change_many, lower_alone, lower_first, take};
+use crate::between::{few_at_most, gather, play_few};
+use crate::changes::{add, change, lower_first, lower_winner, take};
 use crate::entry::Entry;
 use crate::few::find;
 use crate::games::play_all;
@@ -22,16 +23,17 @@ use std::marker::Model;
 /// The expirations of one CPU's cyclics by their indexes, with the least at hand (`cyp_heap` of sys/cyclic_impl.h).
 /// The size is the number of indexes; of equal moments the smaller id expires first (our own rule).
 ///
-/// Up to 16 expirations are a heap in an array, as the kernel's, and more are a tournament (our own): a change of any
-/// expiration sifts it among the few, or plays the games above its index again, at most eight. An insertion or a removal that
-/// leads from the one to the other plays as many for each of the few.
+/// Few expirations are a heap in an array, as the kernel's, and many are a tournament (our own): a change of any expiration sifts
+/// it among the few, or plays the games above its index again, at most eight. An insertion that leads from few to many plays all
+/// games, and a removal that leads back sifts all that are left; of the same leaves at least 16 others lie between two such calls.
 #[derive(Drop)]
 pub struct ExpiryHeap {
-    /// Few expirations as a heap in front, and free entries behind; or the leaves, and after them the winner of each game.
+    /// Few expirations as a heap in front, where what stands behind means nothing; or the leaves, and after them the winner of each
+    /// game.
     entries: Vec<Entry>,
     /// Where the least expiration stands: in front, or as the last winner.
     root: usize,
-    /// Whether they are few. More than `MOST_FEW` play, until no more than three quarters of so many are left.
+    /// Whether they are few. More than `few_at_most` play, until no more than half of so many are left.
     is_few: bool,
     /// How many stand in front.
     held: usize,
@@ -46,15 +48,13 @@ pub struct ExpiryHeap {
     given: usize,
     /// The size for which memory was taken.
     room: usize,
-    /// Where the few stand on their way to their leaves and back.
-    few: Vec<Entry>,
 }
 
 impl Model for ExpiryHeap {
     ghost use Rattle.std.specs.Prelude.{suc, ◌*◌, ◌≤◌, vec_capacity, take};
     ghost use Rattle.cyc_heap.specs.Heap.{HeapView};
     ghost use Rattle.cyc_heap.specs.Tournament.{slots};
-    ghost use Rattle.cyc_heap.specs.Few.{most_few, shown, root_of, IsTournament, IsFront};
+    ghost use Rattle.cyc_heap.specs.Few.{shown, root_of, IsTournament, IsFront};
 
     ghost Value = { HeapView };
 
@@ -67,8 +67,7 @@ impl Model for ExpiryHeap {
 
     ghost invariant = { λ h. IsTournament h.is_few (take h.held h.entries.items) h.leaves h.size h.given
         (shown h.is_few h.held h.entries.items) h.free.items × IsFront h.is_few h.held h.root h.leaves h.given h.entries.items h.free.items
-        × (h.size ≤ h.room) × (2 * h.room ≤ suc (vec_capacity h.entries)) × (h.room ≤ vec_capacity h.free)
-        × (most_few ≤ vec_capacity h.few) };
+        × (h.size ≤ h.room) × (2 * h.room ≤ suc (vec_capacity h.entries)) × (h.room ≤ vec_capacity h.free) };
 }
 
 impl ExpiryHeap {
@@ -79,7 +78,6 @@ impl ExpiryHeap {
     {
         let mut entries = Vec::with_capacity(alloc, 1)?;
         let free = Vec::with_capacity(alloc, 1)?;
-        let few = Vec::with_capacity(alloc, MOST_FEW)?;
         add_free(&mut entries, 1);
         Ok(ExpiryHeap {
             entries,
@@ -91,7 +89,6 @@ impl ExpiryHeap {
             free,
             given: 0,
             room: 1,
-            few,
         })
     }
 
@@ -114,8 +111,8 @@ impl ExpiryHeap {
         Ok(())
     }
 
-    /// Adds free indexes up to this size (`cyclic_expand`). Takes no memory. O(1), but for a call that lays out more leaves: it plays
-    /// all games, at most 255, and makes the leaves twice as many where the memory is there.
+    /// Adds free indexes up to this size (`cyclic_expand`). Takes no memory. O(1), but for a call that lays out more leaves, twice as
+    /// many where the memory is there: it writes at most 511 entries, and where many play it plays all games.
     pub fn widen(&mut self, size: usize)
         requires few { size ≤ cyclics }
         requires reserved { size ≤ self.old.room }
@@ -138,13 +135,7 @@ impl ExpiryHeap {
         ensures slots { self.new.slots ≡ slice_set self.old.slots result (Some (record { moment = moment; id = id })) }
         ensures room { self.new.room ≡ self.old.room }
     {
-        self.is_few = make_room(
-            &mut self.few,
-            &mut self.entries,
-            self.is_few,
-            &mut self.held,
-            self.leaves,
-        );
+        self.is_few = make_room(&mut self.entries, self.is_few, &mut self.held, self.leaves);
         self.root = root_at(self.is_few, self.leaves);
         let index = next_index(&mut self.free, &mut self.given);
         let entry = Entry::new(moment, id, index);
@@ -171,6 +162,21 @@ impl ExpiryHeap {
         Some((first.index(), moment, first.id()))
     }
 
+    /// The root where its moment has come. None where that is later than `now`, and where no index is in use: one comparison tells
+    /// both, since the entry of a free index comes after every moment.
+    pub fn due_root(&self, now: Moment) -> Option<(Index, Moment, CyclicId)>
+        ensures none { IfNone result (IsEmpty self.now ⊎ ((i : ℕ) × (e : Expiration) × IsLeast self.now i e × (now < e.moment))) }
+        ensures due { IfSome result (λ found. found.1 ≤ now) }
+        ensures root { IfSome result (λ found. self.now.root ≡ Some found.0) }
+        ensures least { IfSome result (λ found. IsLeast self.now found.0 (record { moment = found.1; id = found.2 })) }
+    {
+        let first = self.first();
+        if first.moment > now.nanoseconds() {
+            return None;
+        }
+        Some((first.index(), first.reached(), first.id()))
+    }
+
     /// The entry at the root, which may be that of a free index.
     #[inline(always)]
     fn first(&self) -> Entry
@@ -182,21 +188,19 @@ impl ExpiryHeap {
     }
 
     /// Gives the least expiration another moment (`cyclic_downheap` in `cyclic_fire`).
+    #[inline(always)]
     pub fn lower_root(&mut self, moment: Moment)
         requires { IsSome self.old.root }
         ensures slots { IfSome self.old.root (λ index. self.new.slots ≡ with_moment self.old.slots index moment) }
         ensures room { self.new.room ≡ self.old.room }
     {
-        if self.held == 1 {
-            lower_alone(&mut self.entries, self.leaves, moment);
-            return;
-        }
-        if self.held > 0 {
-            lower_first(&mut self.entries, self.held, self.leaves, moment);
+        let held = self.held;
+        if held > 0 {
+            lower_first(&mut self.entries, held, self.leaves, moment);
             return;
         }
         let index = self.entries[self.root].index();
-        change_many(&mut self.entries, self.leaves, index, moment);
+        lower_winner(&mut self.entries, self.leaves, index, moment);
     }
 
     /// Gives the expiration of this index another moment, earlier or later (`cyclic_reprogram_cyclic`).
@@ -231,7 +235,6 @@ impl ExpiryHeap {
         self.free.push_reserved(index);
         let len = self.given.saturating_sub(self.free.len());
         self.is_few = is_few_now(
-            &mut self.few,
             &mut self.entries,
             self.is_few,
             &mut self.held,
@@ -297,41 +300,32 @@ fn root_at(is_few: bool, leaves: usize) -> usize
 
 /// Where the few are as many as may be few, they play from now on. Says whether they are few, so that there is room for one
 /// more.
-fn make_room(
-    few: &mut Vec<Entry>,
-    entries: &mut Vec<Entry>,
-    is_few: bool,
-    held: &mut usize,
-    leaves: usize,
-) -> bool
+fn make_room(entries: &mut Vec<Entry>, is_few: bool, held: &mut usize, leaves: usize) -> bool
     requires leaves { leaves ≤ cyclics }
-    requires space { most_few ≤ vec_capacity few.old }
-    requires most { is_few ≡ true → held.old ≤ most_few }
+    requires low { held.old < leaves }
     requires none { is_few ≡ false → held.old ≡ 0 }
     requires tree { IsTree is_few held.old leaves entries.old.items }
     ensures tree { IsTree result held.new leaves entries.new.items }
     ensures long { length entries.new.items ≡ length entries.old.items }
     ensures kept { (i : ℕ) → i < leaves
         → entry_at (shown result held.new entries.new.items) i ≡ entry_at (shown is_few held.old entries.old.items) i }
-    ensures few { result ≡ true → (is_few ≡ true) × (held.new ≡ held.old) × (held.new < most_few) }
+    ensures few { result ≡ true → (is_few ≡ true) × (held.new ≡ held.old) × (held.new < most_few leaves) }
     ensures none { result ≡ false → held.new ≡ 0 }
     ensures room { vec_capacity entries.new ≡ vec_capacity entries.old }
-    ensures few_room { vec_capacity few.new ≡ vec_capacity few.old }
 {
     if !is_few {
         return false;
     }
-    if *held < MOST_FEW {
+    if *held < few_at_most(leaves) {
         return true;
     }
-    play_few(few, entries, *held, leaves);
+    play_few(entries, *held, leaves);
     *held = 0;
     false
 }
 
 /// Whether they are few, now that so many are left. Where they were many and few are left, these stand in front from now on.
 fn is_few_now(
-    few: &mut Vec<Entry>,
     entries: &mut Vec<Entry>,
     is_few: bool,
     held: &mut usize,
@@ -340,8 +334,6 @@ fn is_few_now(
 ) -> bool
     requires some { 0 < leaves }
     requires leaves { leaves ≤ cyclics }
-    requires within { len ≤ leaves }
-    requires space { most_few ≤ vec_capacity few.old }
     requires none { is_few ≡ false → held.old ≡ 0 }
     requires own { (i : ℕ) → i < leaves → (entry_at (shown is_few held.old entries.old.items) i).moment ≤ never
         → index_of (entry_at (shown is_few held.old entries.old.items) i) ≡ i }
@@ -351,25 +343,20 @@ fn is_few_now(
     ensures kept { (i : ℕ) → i < leaves
         → entry_at (shown result held.new entries.new.items) i ≡ entry_at (shown is_few held.old entries.old.items) i }
     ensures few { is_few ≡ true → (result ≡ true) × (held.new ≡ held.old) }
-    ensures drawn { is_few ≡ false → result ≡ true → (held.new ≤ len) × (held.new ≤ most_few) }
+    ensures left { is_few ≡ false → result ≡ true → (len ≤ most_few leaves / 2)
+        × (held.new ≡ count_by is_some (slots leaves (shown is_few held.old entries.old.items))) }
     ensures none { result ≡ false → held.new ≡ 0 }
     ensures room { vec_capacity entries.new ≡ vec_capacity entries.old }
-    ensures few_room { vec_capacity few.new ≡ vec_capacity few.old }
 {
     if is_few {
         return true;
     }
     // so much fewer that the way there and back isn't gone at each call
-    if len > MOST_FEW / 4 * 3 {
+    if len > few_at_most(leaves) / 2 {
         return false;
     }
-    match draw_few(few, entries, leaves, len) {
-        Some(drawn) => {
-            *held = drawn;
-            true
-        }
-        None => false,
-    }
+    *held = gather(entries, leaves);
+    true
 }
 
 /// The index that is given next: the last of those that are free again, or else the smallest that was never given.
@@ -403,8 +390,6 @@ fn lay_out(entries: &mut Vec<Entry>, is_few: bool, leaves: usize, size: usize) -
     ensures long { length entries.new.items + 1 ≡ 2 * result }
     ensures front { is_few ≡ true → (p : ℕ) → p < length entries.old.items
         → entry_at entries.new.items p ≡ entry_at entries.old.items p }
-    ensures behind { is_few ≡ true → (p : ℕ) → length entries.old.items ≤ p → p < length entries.new.items
-        → entry_at entries.new.items p ≡ free_entry }
     ensures kept { is_few ≡ false → (i : ℕ) → i < leaves → entry_at entries.new.items i ≡ entry_at entries.old.items i }
     ensures unused { is_few ≡ false → (i : ℕ) → leaves ≤ i → i < result → entry_at entries.new.items i ≡ free_entry }
     ensures played { is_few ≡ false → IsPlayed leaves entries.old.items → IsPlayed result entries.new.items }
@@ -420,8 +405,8 @@ fn lay_out(entries: &mut Vec<Entry>, is_few: bool, leaves: usize, size: usize) -
         return more;
     }
     entries.truncate(leaves);
-    add_free(entries, more);
-    play_all(entries);
+    add_free(entries, 2 * more - 1);
+    play_all(entries.as_mut_slice(), more);
     more
 }
 

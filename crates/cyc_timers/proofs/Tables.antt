@@ -271,7 +271,7 @@ timer_at slots records entries k d low =
     timer_of_row (rows_of slots records entries) k d r (omega (arith, l, low))
     ∙ ap (λ (x : Row). x.timer) (row_at slots records entries k r low)
 
-rows_long : (slots : List (Option Expiration)) (records : List Record) (entries : List Entry)
+pub rows_long : (slots : List (Option Expiration)) (records : List Record) (entries : List Entry)
     → length (timers_of (rows_of slots records entries)) ≡ length entries
 rows_long slots records entries = timers_long (rows_of slots records entries) ∙ length-map entries (row_of slots records)
 

@@ -1,7 +1,6 @@
 //! One fire: every expiration that is due, in order.
 
 ghost use Rattle.std.specs.Prelude.{◌≡◌, ℕ, ◌+◌, ◌<◌, ◌≤◌, ◌++◌, ◌∷◌, [], length, min, All, List, Some, IfOk, IfErr, OnOk, OnErr};
-ghost use Rattle.std.specs.Prelude.{IfNone, IfSome};
 ghost use Rattle.std.specs.Bool.{OnTrue, OnFalse};
 ghost use Rattle.cyc_types.specs.Series.{due, next, never, late};
 ghost use Rattle.cyc_types.specs.Firing.{MayRaise, Sound};
@@ -9,14 +8,14 @@ ghost use Rattle.cyc_types.specs.Levels.{at_level};
 ghost use Rattle.cyc_types.specs.declared.level.Level.TheVariants.{Low, Lock, High};
 ghost use Rattle.cyc_types.specs.Timers.{earliest};
 ghost use Rattle.cyc_types.specs.Expirations.{Expiration, expirations};
-ghost use Rattle.cyc_timers.specs.Rows.{Row, IsRow, timers_of, cyclics_of, IsFirstAt};
+ghost use Rattle.cyc_timers.specs.Rows.{timers_of, cyclics_of};
 ghost use Rattle.cyc_timers.specs.Ends.{IsReady};
 ghost use Rattle.cyc_timers.specs.Made.{Makes, WhyStopped};
 ghost use Rattle.cyc_timers.specs.Acts.{Sides, Acts, RaisedOnce, id_at, way_losses};
 
 use crate::table::Table;
 use cyc_types::{
-    Calls, CyclicId, Index, Interval, LATE, Level, Moment, Raise, Raised, Refusal, Refused, next,
+    Calls, CyclicId, Interval, LATE, Level, Moment, Raise, Raised, Refusal, Refused, next,
 };
 
 /// The moment of this many nanoseconds, at most never.
@@ -103,21 +102,6 @@ pub fn expire_at<C: Calls, R: Raise>(
     }
 }
 
-/// The cyclic that expires first, where it is due.
-fn due_root(table: &Table, now: Moment) -> Option<(Index, Moment, CyclicId)>
-    ensures none { IfNone result (All (λ t. now < t.moment) (timers_of table.now.rows)) }
-    ensures due { IfSome result (λ found. found.1 ≤ now) }
-    ensures root { IfSome result (λ found. table.now.root ≡ Some found.0) }
-    ensures first { IfSome result (λ found. (k : ℕ) × (r : Row) × IsRow table.now.rows k r × (r.index ≡ found.0)
-        × (r.timer.moment ≡ found.1) × (r.timer.id ≡ found.2) × IsFirstAt table.now.rows k) }
-{
-    let root = table.root()?;
-    if root.1.nanoseconds() > now.nanoseconds() {
-        return None;
-    }
-    Some(root)
-}
-
 /// What a fire did.
 #[derive(Clone, Copy, Debug, PartialEq, Eq)]
 pub struct Fired {
@@ -192,7 +176,7 @@ pub fn fire_all<C: Calls, R: Raise>(
     let _size = table.size();
     let mut expired = 0;
     let mut lost = 0;
-    while let Some(root) = due_root(table, now) {
+    while let Some(root) = table.due_root(now) {
         let index = root.0;
         let moment = root.1;
         let id = root.2;

@@ -220,8 +220,20 @@ impl Table {
         self.heap.root()
     }
 
+    /// The cyclic that expires first, as `root` gives it, where it is due. None where none is. O(1).
+    pub fn due_root(&self, now: Moment) -> Option<(Index, Moment, CyclicId)>
+        ensures none { IfNone result (All (λ t. now < t.moment) (timers_of self.now.rows)) }
+        ensures due { IfSome result (λ found. found.1 ≤ now) }
+        ensures root { IfSome result (λ found. self.now.root ≡ Some found.0) }
+        ensures first { IfSome result (λ found. (k : ℕ) × (r : Row) × IsRow self.now.rows k r × (r.index ≡ found.0)
+            × (r.timer.moment ≡ found.1) × (r.timer.id ≡ found.2) × IsFirstAt self.now.rows k) }
+    {
+        self.heap.due_root(now)
+    }
+
     /// Gives the cyclic that expires first, with the index of `root`, another next expiration, and other counts of those so far
     /// and of those that were lost (`cyclic_fire`). O(log n), and takes no memory.
+    #[inline(always)]
     pub fn expire_root(&mut self, index: Index, moment: Moment, expired: u64, lost: u64)
         requires root { self.old.root ≡ Some index }
         requires moment { moment ≤ never }

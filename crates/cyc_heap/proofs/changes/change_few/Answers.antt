@@ -28,7 +28,7 @@ returns-clause-tree c =
     let valid = e.valid in
     let f = c.put.ensures in
     changed_tree c.args.held c.args.leaves c.unwrap-place.result c.args.index es c.put.new.entries.items
-    c.at_moment-entry.result t low here f.long f.heap f.filled f.behind (ap index_of e.value ∙ ap index_of (sym at) ∙ here)
+    c.at_moment-entry.result t low here f.long f.heap f.filled (ap index_of e.value ∙ ap index_of (sym at) ∙ here)
     (omega (arith, m, valid))
 
 pub returns-clause-changed : goal.returns-clause-changed
@@ -51,7 +51,7 @@ returns-clause-changed c =
     = e.value ∙ ap (λ (e : Entry). with_moment e c.args.moment) (sym at ∙ sym shows) in
     subst (λ e. IsChanged c.args.leaves c.args.index e old new) word
     (changed_leaf c.args.held c.args.leaves c.unwrap-place.result c.args.index es c.put.new.entries.items
-    c.at_moment-entry.result t low here f.long f.heap f.filled f.behind (ap index_of e.value ∙ ap index_of (sym at) ∙ here)
+    c.at_moment-entry.result t low here f.long f.heap f.filled (ap index_of e.value ∙ ap index_of (sym at) ∙ here)
     (omega (arith, m, valid)))
   where
     with_moment : Entry → ℕ → Entry

@@ -18,7 +18,7 @@ returns-clause-tree c =
     let m = ap (λ (e : Entry). e.moment) e.value in
     let valid = e.valid in
     changed_tree c.args.held c.args.leaves 0 (index_of (entry_at es 0)) es c.put_first.new.entries.items
-    c.at_moment-entry.result c.requires.tree some refl f.long f.heap f.filled f.behind
+    c.at_moment-entry.result c.requires.tree some refl f.long f.heap f.filled
     (ap index_of e.value ∙ ap index_of (sym at)) (omega (arith, m, valid))
 
 pub returns-clause-changed : goal.returns-clause-changed
@@ -38,7 +38,7 @@ returns-clause-changed c =
     = e.value ∙ ap (λ (e : Entry). with_moment e c.args.moment) (sym at) in
     subst (λ e. IsChanged c.args.leaves (index_of (entry_at es 0)) e old new) word
     (changed_leaf c.args.held c.args.leaves 0 (index_of (entry_at es 0)) es c.put_first.new.entries.items
-    c.at_moment-entry.result c.requires.tree some refl f.long f.heap f.filled f.behind
+    c.at_moment-entry.result c.requires.tree some refl f.long f.heap f.filled
     (ap index_of e.value ∙ ap index_of (sym at)) (omega (arith, m, valid)))
   where
     with_moment : Entry → ℕ → Entry

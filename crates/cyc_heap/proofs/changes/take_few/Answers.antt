@@ -1,4 +1,4 @@
-use Rattle.std.proofs.Common.{◌-◌, true, List, length, take, drop, sym, ap, ◌∙◌, subst, arith}
+use Rattle.std.proofs.Common.{◌-◌, true, List, length, take, sym, ap, ◌∙◌, subst, arith}
 use Rattle.std.proofs.Math.ListN.{set}
 use Rattle.std.proofs.lemmas.List.{get_or_default}
 use Rattle.cyc_heap.specs.declared.entry.Entry.{Entry}
@@ -45,7 +45,6 @@ returns-then-place-last-clause-tree c =
     (f.long ∙ ap (λ e. length (cut e)) c.free.ensures) f.heap
     (subst (λ e. IsFilled c.unwrap-place.result (take last (cut free_entry)) e (take last new)) (sym at)
     (subst (λ e. IsFilled c.unwrap-place.result (take last (cut e)) x (take last new)) c.free.ensures f.filled))
-    (f.behind ∙ ap (λ e. drop last (cut e)) c.free.ensures)
 
 pub returns-then-place-last-clause-changed : goal.returns-then-place-last-clause-changed
 returns-then-place-last-clause-changed c =
@@ -64,7 +63,6 @@ returns-then-place-last-clause-changed c =
     (f.long ∙ ap (λ e. length (cut e)) c.free.ensures) f.heap
     (subst (λ e. IsFilled c.unwrap-place.result (take last (cut free_entry)) e (take last new)) (sym at)
     (subst (λ e. IsFilled c.unwrap-place.result (take last (cut e)) x (take last new)) c.free.ensures f.filled))
-    (f.behind ∙ ap (λ e. drop last (cut e)) c.free.ensures)
 
 pub returns-else-place-last-clause-tree : goal.returns-else-place-last-clause-tree
 returns-else-place-last-clause-tree c =

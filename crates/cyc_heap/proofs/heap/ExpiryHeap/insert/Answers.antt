@@ -19,6 +19,23 @@ make_room-self-inside-requires-clause-tree c =
     let i = c.self.inside in
     tree i.is_few i.held i.root i.leaves i.size i.given i.entries.items i.free.items c.self.invariant.0 c.self.invariant.1
 
+pub make_room-self-inside-requires-clause-low : goal.make_room-self-inside-requires-clause-low
+make_room-self-inside-requires-clause-low c =
+    let i = c.self.inside in
+    let h = c.self.invariant.0 in
+    let q = c.self.invariant.1 in
+    let xs = shown i.is_few i.held i.entries.items in
+    let few = take i.held i.entries.items in
+    let len = len_is i.is_few few i.leaves i.size i.given xs i.free.items i.room c.args.self.now h c.self.view_is in
+    let size = size_is i.is_few few i.leaves i.size i.given xs i.free.items i.room c.args.self.now h c.self.view_is in
+    let less = c.requires in
+    let wide = h.wide in
+    let some = h.some in
+    elim (few_or_many i.is_few) [
+      | inl small ↦ (let used = q.used small in omega (arith, used, len, size, less, wide))
+      | inr many ↦ (let none = q.none many in omega (arith, none, some))
+    ]
+
 pub next_index-index-requires : goal.next_index-index-requires
 next_index-index-requires c = λ none. (
     let i = c.self.inside in
@@ -110,9 +127,7 @@ invariant_of-self c =
     let room_before = m.room in
     let cap = c.self.invariant.3 in
     let kept = x.ensures.room in
-    let free = c.self.invariant.4 in
-    let few_room = m.few_room in
-    let few_cap = c.self.invariant.5 in (
+    let free = c.self.invariant.4 in (
       after i.is_few r.result few (take c.add-self-inside.result new) i.leaves i.size i.given x.new.given
           xs ys i.free.items x.new.free.items x.result c.new-entry.result h length_is f.tree.heap f.tree.played f.changed.here
           (λ unused. absurd (let valid = c.new-entry.ensures.valid in omega (arith, unused, valid))) others low more known
@@ -133,12 +148,11 @@ invariant_of-self c =
             ];
         most = λ small. let (_, _, most) = m.few small in let one = f.few small in omega (arith, most, one);
         none = f.many;
-        behind = f.tree.behind;
+        front = f.tree.front;
       },
       c.self.invariant.2,
       omega (arith, room, cap, room_before),
       omega (arith, kept, free),
-      omega (arith, few_room, few_cap),
     )
 
 pub returns-clause-below : goal.returns-clause-below

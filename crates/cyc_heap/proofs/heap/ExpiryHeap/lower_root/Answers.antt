@@ -1,4 +1,4 @@
-use Rattle.std.proofs.Common.{◌≡◌, true, take, IfSome, sym, ap, ◌∙◌, subst, subst₂, arith}
+use Rattle.std.proofs.Common.{◌≡◌, take, IfSome, sym, ap, ◌∙◌, subst, subst₂, arith}
 use Rattle.std.proofs.lemmas.List.{get_or_default}
 use Rattle.cyc_heap.specs.Tournament.{nowhere, entry_at, index_of, slots}
 use Rattle.cyc_heap.specs.Few.{shown, IsTree, IsChanged}
@@ -8,78 +8,20 @@ use Rattle.cyc_heap.proofs.Fronts.{tree, tree_few, few_held, many_held, root_low
 use Rattle.cyc_heap.proofs.Fronts.{tournament_after, front_after, slots_after}
 use Rattle.cyc_heap.proofs.heap.ExpiryHeap.lower_root.Goals as goal
 
-pub lower_alone-requires-clause-tree : goal.lower_alone-requires-clause-tree
-lower_alone-requires-clause-tree c =
+pub lower_first-requires-clause-tree : goal.lower_first-requires-clause-tree
+lower_first-requires-clause-tree c =
     let i = c.self.inside in
-    let one = c.if-self-eq1.true in
-    let small = few_held i.is_few i.held i.root i.leaves i.size i.given i.entries.items i.free.items c.self.invariant.0
-    c.self.invariant.1 (omega (arith, one)) in
-    subst (λ n. IsTree true n i.leaves i.entries.items) one (tree_few i.is_few i.held i.leaves i.entries.items small
-    (tree i.is_few i.held i.root i.leaves i.size i.given i.entries.items i.free.items c.self.invariant.0 c.self.invariant.1))
+    tree_few i.is_few i.held i.leaves i.entries.items (few_held i.is_few i.held i.root i.leaves i.size i.given i.entries.items
+    i.free.items c.self.invariant.0 c.self.invariant.1 c.if-held-gt0.true)
+    (tree i.is_few i.held i.root i.leaves i.size i.given i.entries.items i.free.items c.self.invariant.0 c.self.invariant.1)
 
 pub invariant_of-self : goal.invariant_of-self
 invariant_of-self c =
     let i = c.self.inside in
     let es = i.entries.items in
     let x = entry_at es 0 in
-    let one = c.if-self-eq1.true in
     let small = few_held i.is_few i.held i.root i.leaves i.size i.given es i.free.items c.self.invariant.0 c.self.invariant.1
-    (omega (arith, one)) in
-    let (has, root) = root_held i.is_few i.held i.root i.leaves i.size i.given es i.free.items c.self.invariant.0
-    c.self.invariant.1 i.room c.args.self.now c.self.view_is c.requires x (ap (entry_at es) (root_is i.is_few i.held i.root
-    i.leaves i.size i.given es i.free.items c.self.invariant.0 c.self.invariant.1 small)) in
-    let f = c.lower_alone.ensures in
-    let new = c.lower_alone.new.entries.items in
-    let changed = subst₂ (λ b n. IsChanged i.leaves (index_of x) (record x { moment = c.args.moment }) (shown b n es)
-    (shown b n new)) (sym small) (sym one) f.changed in
-    let after = subst₂ (λ b n. IsTree b n i.leaves new) (sym small) (sym one) f.tree in
-    let room = f.room in
-    let cap = c.self.invariant.3 in (
-      tournament_after i.is_few i.held i.root i.leaves i.size i.given es i.free.items c.self.invariant.0 c.self.invariant.1
-          i.room c.args.self.now c.self.view_is x has new c.args.moment f.valid changed after,
-      front_after i.is_few i.held i.root i.leaves i.size i.given es i.free.items c.self.invariant.0 c.self.invariant.1
-          i.room c.args.self.now c.self.view_is x has new c.args.moment f.valid changed after,
-      c.self.invariant.2,
-      omega (arith, room, cap),
-      c.self.invariant.4,
-      c.self.invariant.5,
-    )
-
-pub returns-then-self-eq1-clause-slots : goal.returns-then-self-eq1-clause-slots
-returns-then-self-eq1-clause-slots c =
-    let i = c.self.inside in
-    let es = i.entries.items in
-    let x = entry_at es 0 in
-    let one = c.if-self-eq1.true in
-    let small = few_held i.is_few i.held i.root i.leaves i.size i.given es i.free.items c.self.invariant.0 c.self.invariant.1
-    (omega (arith, one)) in
-    let (has, root) = root_held i.is_few i.held i.root i.leaves i.size i.given es i.free.items c.self.invariant.0
-    c.self.invariant.1 i.room c.args.self.now c.self.view_is c.requires x (ap (entry_at es) (root_is i.is_few i.held i.root
-    i.leaves i.size i.given es i.free.items c.self.invariant.0 c.self.invariant.1 small)) in
-    let f = c.lower_alone.ensures in
-    let new = c.lower_alone.new.entries.items in
-    let changed = subst₂ (λ b n. IsChanged i.leaves (index_of x) (record x { moment = c.args.moment }) (shown b n es)
-    (shown b n new)) (sym small) (sym one) f.changed in
-    let after = subst₂ (λ b n. IsTree b n i.leaves new) (sym small) (sym one) f.tree in
-    subst (λ root. IfSome root (λ index. slots i.size (shown i.is_few i.held new)
-    ≡ with_moment c.args.self.now.slots index c.args.moment)) (sym root)
-    (slots_after i.is_few i.held i.root i.leaves i.size i.given es i.free.items c.self.invariant.0 c.self.invariant.1
-    i.room c.args.self.now c.self.view_is x has new c.args.moment f.valid changed after)
-
-pub lower_first-requires-clause-tree : goal.lower_first-requires-clause-tree
-lower_first-requires-clause-tree c =
-    let i = c.self.inside in
-    tree_few i.is_few i.held i.leaves i.entries.items (few_held i.is_few i.held i.root i.leaves i.size i.given i.entries.items
-    i.free.items c.self.invariant.0 c.self.invariant.1 c.if-self-gt0.true)
-    (tree i.is_few i.held i.root i.leaves i.size i.given i.entries.items i.free.items c.self.invariant.0 c.self.invariant.1)
-
-pub invariant_of-self-then-self-gt0 : goal.invariant_of-self-then-self-gt0
-invariant_of-self-then-self-gt0 c =
-    let i = c.self.inside in
-    let es = i.entries.items in
-    let x = entry_at es 0 in
-    let small = few_held i.is_few i.held i.root i.leaves i.size i.given es i.free.items c.self.invariant.0 c.self.invariant.1
-    c.if-self-gt0.true in
+    c.if-held-gt0.true in
     let (has, root) = root_held i.is_few i.held i.root i.leaves i.size i.given es i.free.items c.self.invariant.0
     c.self.invariant.1 i.room c.args.self.now c.self.view_is c.requires x (ap (entry_at es) (root_is i.is_few i.held i.root
     i.leaves i.size i.given es i.free.items c.self.invariant.0 c.self.invariant.1 small)) in
@@ -97,16 +39,15 @@ invariant_of-self-then-self-gt0 c =
       c.self.invariant.2,
       omega (arith, room, cap),
       c.self.invariant.4,
-      c.self.invariant.5,
     )
 
-pub returns-then-self-gt0-clause-slots : goal.returns-then-self-gt0-clause-slots
-returns-then-self-gt0-clause-slots c =
+pub returns-then-held-gt0-clause-slots : goal.returns-then-held-gt0-clause-slots
+returns-then-held-gt0-clause-slots c =
     let i = c.self.inside in
     let es = i.entries.items in
     let x = entry_at es 0 in
     let small = few_held i.is_few i.held i.root i.leaves i.size i.given es i.free.items c.self.invariant.0 c.self.invariant.1
-    c.if-self-gt0.true in
+    c.if-held-gt0.true in
     let (has, root) = root_held i.is_few i.held i.root i.leaves i.size i.given es i.free.items c.self.invariant.0
     c.self.invariant.1 i.room c.args.self.now c.self.view_is c.requires x (ap (entry_at es) (root_is i.is_few i.held i.root
     i.leaves i.size i.given es i.free.items c.self.invariant.0 c.self.invariant.1 small)) in
@@ -120,8 +61,8 @@ returns-then-self-gt0-clause-slots c =
     (slots_after i.is_few i.held i.root i.leaves i.size i.given es i.free.items c.self.invariant.0 c.self.invariant.1
     i.room c.args.self.now c.self.view_is x has new c.args.moment f.valid changed after)
 
-pub change_many-requires-clause-index : goal.change_many-requires-clause-index
-change_many-requires-clause-index c =
+pub lower_winner-requires-clause-index : goal.lower_winner-requires-clause-index
+lower_winner-requires-clause-index c =
     let i = c.self.inside in
     let es = i.entries.items in
     let x = c.index.result.now in
@@ -139,7 +80,7 @@ invariant_of-self-2 c =
     let i = c.self.inside in
     let es = i.entries.items in
     let many = many_held i.is_few i.held i.root i.leaves i.size i.given es i.free.items c.self.invariant.0 c.self.invariant.1
-    i.room c.args.self.now c.self.view_is c.requires c.if-self-gt0.false in
+    i.room c.args.self.now c.self.view_is c.requires c.if-held-gt0.false in
     let low = root_low i.is_few i.held i.root i.leaves i.size i.given es i.free.items c.self.invariant.0 c.self.invariant.1 in
     let x = c.index.result.now in
     let (has, root) = root_held i.is_few i.held i.root i.leaves i.size i.given es i.free.items c.self.invariant.0
@@ -148,8 +89,8 @@ invariant_of-self-2 c =
     let own = leaf_is i.is_few i.held i.root i.leaves i.size i.given es i.free.items c.self.invariant.0
     c.self.invariant.1 i.room c.args.self.now c.self.view_is many c.requires x
     (get_or_default es i.root nowhere x low ∙ sym c.index.ensures) in
-    let f = c.change_many.ensures in
-    let new = c.change_many.new.entries.items in
+    let f = c.lower_winner.ensures in
+    let new = c.lower_winner.new.entries.items in
     let named = subst (λ n. IsChanged i.leaves n (record (entry_at es n) { moment = c.args.moment }) es new) c.index-index.ensures
     f.changed in
     let leaf = subst (λ e. IsChanged i.leaves (index_of x) (record e { moment = c.args.moment }) es new) own named in
@@ -165,7 +106,6 @@ invariant_of-self-2 c =
       c.self.invariant.2,
       omega (arith, room, cap),
       c.self.invariant.4,
-      c.self.invariant.5,
     )
 
 pub returns-clause-slots : goal.returns-clause-slots
@@ -173,7 +113,7 @@ returns-clause-slots c =
     let i = c.self.inside in
     let es = i.entries.items in
     let many = many_held i.is_few i.held i.root i.leaves i.size i.given es i.free.items c.self.invariant.0 c.self.invariant.1
-    i.room c.args.self.now c.self.view_is c.requires c.if-self-gt0.false in
+    i.room c.args.self.now c.self.view_is c.requires c.if-held-gt0.false in
     let low = root_low i.is_few i.held i.root i.leaves i.size i.given es i.free.items c.self.invariant.0 c.self.invariant.1 in
     let x = c.index.result.now in
     let (has, root) = root_held i.is_few i.held i.root i.leaves i.size i.given es i.free.items c.self.invariant.0
@@ -182,8 +122,8 @@ returns-clause-slots c =
     let own = leaf_is i.is_few i.held i.root i.leaves i.size i.given es i.free.items c.self.invariant.0
     c.self.invariant.1 i.room c.args.self.now c.self.view_is many c.requires x
     (get_or_default es i.root nowhere x low ∙ sym c.index.ensures) in
-    let f = c.change_many.ensures in
-    let new = c.change_many.new.entries.items in
+    let f = c.lower_winner.ensures in
+    let new = c.lower_winner.new.entries.items in
     let named = subst (λ n. IsChanged i.leaves n (record (entry_at es n) { moment = c.args.moment }) es new) c.index-index.ensures
     f.changed in
     let leaf = subst (λ e. IsChanged i.leaves (index_of x) (record e { moment = c.args.moment }) es new) own named in

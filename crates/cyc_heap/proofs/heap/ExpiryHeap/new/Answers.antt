@@ -33,7 +33,6 @@ invariant_of-result c =
     let room = f.room in
     let had = c.in_ok-entries.ensures.capacity in
     let free = c.in_ok-free.ensures.capacity in
-    let few = c.in_ok-few.ensures.capacity in
     let l = length-shown true 0 es in
     let zero = ap length c.in_ok-free.ensures.items in
     let unused : (i : ℕ) → i < 1 → never < (entry_at (shown true 0 es) i).moment
@@ -56,12 +55,11 @@ invariant_of-result c =
         used = λ _. omega (arith, zero);
         most = λ _. omega arith;
         none = λ _. refl;
-        behind = λ _ p past low. f.unused p (omega (arith, none)) (omega (arith, low, one));
+        front = λ _ _. f.unused 0 (omega (arith, none)) (omega arith);
       },
       omega arith,
       omega (arith, room, had),
       omega (arith, free),
-      omega (arith, few),
     )
 
 none_before : (xs : List Entry) → slots 0 xs ++ replicate {A = Option Expiration} 1 None ≡ new_heap.slots

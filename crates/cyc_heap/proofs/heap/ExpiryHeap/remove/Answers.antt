@@ -1,6 +1,7 @@
 use Rattle.std.proofs.Common.{◌≡◌, ◌≢◌, ◌<◌, ℕ, inl, inr, None, take, length, refl, sym, ap, ◌∙◌, subst, arith}
 use Rattle.std.proofs.Math.ListN.{set}
 use Rattle.std.proofs.lemmas.List.{length_push}
+use Rattle.cyc_heap.specs.declared.entry.Entry.{Entry}
 use Rattle.cyc_heap.specs.Tournament.{entry_at, free_entry, slots, IsListed}
 use Rattle.cyc_heap.specs.Few.{shown}
 use Rattle.cyc_heap.specs.Heap.{HeapView}
@@ -8,6 +9,7 @@ use Rattle.cyc_heap.proofs.Slots.{slot_free}
 use Rattle.cyc_heap.proofs.Views.{within, in_use, few_or_many}
 use Rattle.cyc_heap.proofs.Listed.{set_slots, freed, after}
 use Rattle.cyc_heap.proofs.Spreading.{length-shown}
+use Rattle.cyc_heap.proofs.Gathering.{all_counted}
 use Rattle.cyc_heap.proofs.Fronts.{tree}
 use Rattle.cyc_heap.proofs.heap.ExpiryHeap.remove.Goals as goal
 
@@ -59,8 +61,6 @@ invariant_of-self c =
     let p = c.push_reserved.ensures in
     let kept = p.capacity in
     let free = c.self.invariant.4 in
-    let few_room = g.few_room in
-    let few_cap = c.self.invariant.5 in
     let listed = subst (λ f. IsListed i.given ys f) (sym p.items)
     (freed i.given xs ys c.args.index free_entry (omega (arith, inside, known))
     (omega (arith, long, inside, known)) mine here
@@ -69,7 +69,14 @@ invariant_of-self c =
     let pushed = ap length p.items ∙ length_push i.free.items c.args.index in
     let ok = c.push_reserved.new.self.ok in
     let n = c.len.ensures in
-    let left = c.saturating_sub-len.ensures in (
+    let saved = c.saturating_sub-len.ensures in
+    let zs = shown i.is_few c.take-self-inside.result c.take-self-inside.new.entries.items in
+    let was = f.changed.long in
+    let all_leaves = h.long in
+    let all = all_counted i.given i.leaves zs ys (omega (arith, known, wide)) (omega (arith, was, all_leaves))
+    (omega (arith, long, all_leaves)) g.kept (λ k from low. let unused = h.unused k from low in
+    let m = ap (λ (e : Entry). e.moment) (others k low (λ e. absurd (omega (arith, e, from, mine)))) in
+    omega (arith, m, unused)) in (
       after i.is_few r.result few (take r.new.held r.new.entries.items) i.leaves i.size i.given i.given xs ys
           i.free.items c.push_reserved.new.self.items c.args.index free_entry h long g.tree.heap g.tree.played here
           (λ _. refl) others mine (omega arith) known listed,
@@ -79,21 +86,22 @@ invariant_of-self c =
           | inl was ↦ (let (_, same) = g.few was in
               let one = f.few was in
               let u = q.used was in omega (arith, same, one, u, pushed))
-          | inr many ↦ (let (most, _) = g.drawn many small in omega (arith, most, left, n, ok, count))
+          | inr many ↦ (let (_, left) = g.left many small in
+              omega (arith, left, all, count))
         ];
         most = λ small. elim (few_or_many i.is_few) [
           | inl was ↦ (let (_, same) = g.few was in
               let one = f.few was in
               let u = q.most was in omega (arith, same, one, u))
-          | inr many ↦ (let (_, most) = g.drawn many small in most)
+          | inr many ↦ (let (most, left) = g.left many small in
+              omega (arith, left, all, most, saved, n, ok, count))
         ];
         none = g.none;
-        behind = g.tree.behind;
+        front = g.tree.front;
       },
       c.self.invariant.2,
       omega (arith, room, room_after, cap),
       omega (arith, kept, free),
-      omega (arith, few_room, few_cap),
     )
 
 pub returns-clause-slots : goal.returns-clause-slots

@@ -48,7 +48,6 @@ invariant_of-self c =
       c.self.invariant.2,
       omega (arith, room, cap),
       c.self.invariant.4,
-      c.self.invariant.5,
     )
 
 pub returns-clause-slots : goal.returns-clause-slots

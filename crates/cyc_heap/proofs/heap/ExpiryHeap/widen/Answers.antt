@@ -41,12 +41,12 @@ invariant_of-self c =
     let cap = c.self.invariant.3 in
     let was = h.long in
     let l = length-shown i.is_few i.held new in
-    let kept = wide_kept i.is_few i.held i.leaves wider es new t q.none more (omega (arith, long)) f.front f.behind f.kept
+    let kept = wide_kept i.is_few i.held i.leaves wider es new t q.none more (omega (arith, long)) f.front f.kept
     f.unused
     f.played in
-    let unused = wide_unused i.is_few i.held i.leaves wider es new t q.none more (omega (arith, long)) f.front f.behind f.kept
+    let unused = wide_unused i.is_few i.held i.leaves wider es new t q.none more (omega (arith, long)) f.front f.kept
     f.unused f.played in
-    let after = wide_tree i.is_few i.held i.leaves wider es new t q.none more (omega (arith, long)) f.front f.behind f.kept
+    let after = wide_tree i.is_few i.held i.leaves wider es new t q.none more (omega (arith, long)) f.front f.kept
     f.unused f.played in
     let reserved : c.args.size ≤ i.room = (let is = ap (λ (v : HeapView). v.room) c.self.view_is in let r = c.requires.reserved in
     omega (arith, is, r)) in (
@@ -71,14 +71,13 @@ invariant_of-self c =
       record {
         first = c.root_at-self-inside.ensures;
         used = q.used;
-        most = q.most;
+        most = λ small. let m = q.most small in omega (arith, m, more);
         none = q.none;
-        behind = after.behind;
+        front = after.front;
       },
       reserved,
       omega (arith, room, cap),
       c.self.invariant.4,
-      c.self.invariant.5,
     )
 
 pub returns-then-size-self-clause-slots : goal.returns-then-size-self-clause-slots
@@ -101,10 +100,10 @@ returns-then-size-self-clause-slots c =
     let some = h.some in
     let larger = c.if-size-self.true in
     let l = length-shown i.is_few i.held new in
-    let kept = wide_kept i.is_few i.held i.leaves wider es new t q.none more (omega (arith, long)) f.front f.behind f.kept
+    let kept = wide_kept i.is_few i.held i.leaves wider es new t q.none more (omega (arith, long)) f.front f.kept
     f.unused
     f.played in
-    let unused = wide_unused i.is_few i.held i.leaves wider es new t q.none more (omega (arith, long)) f.front f.behind f.kept
+    let unused = wide_unused i.is_few i.held i.leaves wider es new t q.none more (omega (arith, long)) f.front f.kept
     f.unused f.played in
     let inside = within i.is_few (take i.held es) i.leaves i.size i.given xs i.free.items i.room c.args.self.now h
     c.self.view_is in
@@ -139,20 +138,20 @@ returns-then-size-self-clause-root c =
     let ys = shown i.is_few i.held new in
     let long = f.long in
     let more = f.more in
-    let kept = wide_kept i.is_few i.held i.leaves wider es new t q.none more (omega (arith, long)) f.front f.behind f.kept
+    let kept = wide_kept i.is_few i.held i.leaves wider es new t q.none more (omega (arith, long)) f.front f.kept
     f.unused
     f.played in
-    let unused = wide_unused i.is_few i.held i.leaves wider es new t q.none more (omega (arith, long)) f.front f.behind f.kept
+    let unused = wide_unused i.is_few i.held i.leaves wider es new t q.none more (omega (arith, long)) f.front f.kept
     f.unused f.played in
     elim (few_or_many i.is_few) [
       | inl small ↦ cond-true i.is_few (first_of (take i.held new)) (winner_of wider ys) small
           ∙ ap first_of (same_front i.held i.leaves wider es new (tree_few i.is_few i.held i.leaves es small t) more
-          (omega (arith, long)) (f.front small) (f.behind small))
+          (omega (arith, long)) (f.front small))
           ∙ sym (root_few i.is_few (take i.held es) i.leaves i.size i.given xs i.free.items i.room c.args.self.now h
           c.self.view_is small)
       | inr many ↦ cond-false i.is_few (first_of (take i.held new)) (winner_of wider ys) many
           ∙ same_root i.leaves wider xs ys (h.played many)
-          (played_new i.is_few i.held i.leaves wider es new t q.none more (omega (arith, long)) f.front f.behind f.kept f.unused
+          (played_new i.is_few i.held i.leaves wider es new t q.none more (omega (arith, long)) f.front f.kept f.unused
           f.played many) h.some more kept
           (λ k past low. let m = ap (λ (e : Entry). e.moment) (unused k past low) in omega (arith, m))
           ∙ sym (root_many i.is_few (take i.held es) i.leaves i.size i.given xs i.free.items i.room c.args.self.now h
