@@ -1,4 +1,5 @@
--- The removal of a cyclic that is on one CPU alone ends there: its receipt is the CPU's own.
+-- The removal of a cyclic that is on one CPU alone ends there: its receipt is the CPU's own. Stays that a move ended left no
+-- counts in its record: the stay that goes on has them.
 use Rattle.std.proofs.Common.{◌≡◌, ℕ, ◌+◌, ◌≤◌, inl, inr, true, false, Some, None, Ok, List, [], ◌∷◌}
 use Rattle.std.proofs.Common.{slice_set, refl, sym, ap, ◌∙◌, subst, arith, zero, suc}
 use Rattle.std.specs.Prelude.{sum_by, remove, ◌==◌}
@@ -44,7 +45,7 @@ module _ {R : Type 0} (firing : Raise R) (v : CpusView R) (rs : List Record) (fi
   fresh : (k : ℕ) → ended_on k own.0 ≡ no_counts
   fresh k = h.agrees.single place k own.0 own.2 (ap is_everywhere own.4)
 
-  -- no other stay of it has ended
+  -- its record has no counts but the receipt's
   sum_is : (f : Sent → ℕ) → f no_counts ≡ 0 → (receipt : Receipt)
       → sum_by f (ended_with receipt).ended ≡ f (summed (ended_on n own.0) (counts_of receipt))
   sum_is f none receipt =

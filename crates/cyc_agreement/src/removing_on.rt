@@ -1,4 +1,5 @@
-//! A removal of a cyclic that is on one CPU alone. No stay of it has ended elsewhere, so its receipt is the CPU's own.
+//! A removal of a cyclic that is on one CPU alone. A move takes the counts of the stay that it ends along, so the receipt is the
+//! CPU's own.
 
 ghost use Rattle.std.specs.Prelude.{◌≡◌, ℕ, Bool};
 ghost use Rattle.cyc_places.specs.declared.record.Placement.TheVariants.{On};

@@ -49,6 +49,8 @@ pub(crate) fn ask_each<R: Raise>(cpus: &mut Cpus<R>, id: CyclicId) -> SystemTota
 
 /// The counts of a cyclic over all CPUs that have it, with those of its stays that have ended, and its calls that are
 /// outstanding. None where no cyclic has the id. Takes no memory.
+///
+/// No crate here calls it: `agreed_totals` answers the same of CPUs and records that agree, and asks the one CPU of most cyclics.
 pub fn system_totals<R: Raise>(
     cpus: &mut Cpus<R>,
     records: &Records,

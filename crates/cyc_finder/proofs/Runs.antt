@@ -1,81 +1,77 @@
--- Halving a run of things by rising id.
-use Rattle.std.proofs.Common.{◌≡◌, ℕ, ◌+◌, ◌-◌, ◌<◌, ◌≤◌, List, length, get_or, sym, ap, ◌∙◌, arith}
-use Rattle.std.proofs.lemmas.List.{get_or_default}
-use Rattle.cyc_finder.specs.Sorted.{Rises, IsAt, IsGap}
-use Rattle.cyc_finder.specs.Halving.{IsIn}
+-- Narrowing a run of things by rising id.
+use Rattle.std.proofs.Common.{◌≡◌, ℕ, ◌+◌, ◌-◌, ◌*◌, ◌<◌, ◌≤◌, ◌⊎◌, inl, inr, List, get_or, refl, sym, ap, subst, ◌∙◌}
+use Rattle.std.proofs.Common.{arith}
+use Rattle.cyc_finder.specs.Sorted.{Rises}
+use Rattle.cyc_finder.specs.Halving.{IsIn, IsUpTo, IsAbove}
 
 module _ {T : Type 0} (id_of : T → ℕ) (xs : List T) (id : ℕ) where
-  -- all of a list that has a thing
-  pub whole : 0 < length xs → IsIn id_of xs id 0 (length xs)
-  whole filled = record {
-    filled = filled;
-    in_range = omega arith;
-    smaller_before = λ j d less. absurd (omega (arith, less));
-    greater_after = λ j d past low. absurd (omega (arith, past, low));
-  }
-
   module _ (rises : Rises id_of xs) (base size half : ℕ) (here : IsIn id_of xs id base size) (less : half < size)
-      (twice : half + half ≤ size) where
-    -- the half from the middle on, whose first thing has the id or a smaller one
-    pub upper : ((d : T) → id_of (get_or xs (base + half) d) ≤ id) → IsIn id_of xs id (base + half) (size - half)
+      (twice : half + half ≤ size) (middle rest : ℕ) (is : middle ≡ base + half) (left : rest ≡ size - half) where
+    -- the part from the middle on, whose first thing has the id or a smaller one
+    pub upper : IsUpTo id_of xs id middle → IsIn id_of xs id middle rest
     upper most = record {
-      filled = omega (arith, less);
-      in_range = let fit = here.in_range in omega (arith, fit, less);
+      filled = omega (arith, less, left);
+      in_range = let fit = here.in_range in omega (arith, fit, less, is, left);
       smaller_before = λ j d low.
-          let fit = here.in_range in let up = rises j (base + half) d low (omega (arith, fit, less)) in let m = most d in
+          let fit = here.in_range in let up = rises j middle d low (omega (arith, fit, less, is)) in let m = most d in
           omega (arith, up, m);
-      greater_after = λ j d past low. here.greater_after j d (omega (arith, past, less)) low;
+      greater_after = λ j d past low. here.greater_after j d (omega (arith, past, less, is, left)) low;
     }
 
-    -- the half before the middle, which has a greater id
-    pub lower : ((d : T) → id < id_of (get_or xs (base + half) d)) → IsIn id_of xs id base (size - half)
+    -- the part before the middle, which has a greater id
+    pub lower : IsAbove id_of xs id middle → IsIn id_of xs id base rest
     lower more = record {
-      filled = omega (arith, less);
-      in_range = let fit = here.in_range in omega (arith, fit, less);
+      filled = omega (arith, less, left);
+      in_range = let fit = here.in_range in omega (arith, fit, less, left);
       smaller_before = here.smaller_before;
       greater_after = λ j d past low.
           let m = more d in
-          let up = rises (base + half) j d in
-          let same : (base + half ≡ j) → id_of (get_or xs (base + half) d) ≡ id_of (get_or xs j d)
+          let up = rises middle j d in
+          let same : (middle ≡ j) → id_of (get_or xs middle d) ≡ id_of (get_or xs j d)
           = λ e. ap (λ k. id_of (get_or xs k d)) e in
-          grind (arith, m, up, same, past, low, twice);
+          grind (arith, m, up, same, past, low, twice, is, left);
     }
 
-  -- what is read at a position has the id of the thing there
-  pub read_at : (position : ℕ) (d x : T) → position < length xs → x ≡ get_or xs position x
-      → id_of (get_or xs position d) ≡ id_of x
-  read_at position d x low is = ap id_of (get_or_default xs position d x low ∙ sym is)
+  -- a look at the middle gives the upper position or the lower one
+  abbrev pub Reaches : ℕ → ℕ → ℕ → ℕ → Type 0
+  Reaches middle low up position = (IsUpTo id_of xs id middle × (position ≡ up))
+      ⊎ (IsAbove id_of xs id middle × (position ≡ low))
 
-  -- so it is at the head of a run
-  pub first_of_run : (base size : ℕ) → IsIn id_of xs id base size → (d x : T) → x ≡ get_or xs base x
-      → id_of (get_or xs base d) ≡ id_of x
-  first_of_run base size here d x is =
-      read_at base d x (let fit = here.in_range in let some = here.filled in omega (arith, fit, some)) is
+  module _ (rises : Rises id_of xs) (base size step : ℕ) (here : IsIn id_of xs id base size) (some : 0 < step) where
+    -- the half to which one look comes
+    pub halved : step + step ≤ size → (position : ℕ) → Reaches (base + step) base (base + step) position
+        → IsIn id_of xs id position (size - step)
+    halved twice position look = elim look [
+      | inl (most, at) ↦ subst (λ b. IsIn id_of xs id b (size - step)) (sym at)
+          (upper rises base size step here (omega (arith, some, twice)) twice (base + step) (size - step) refl refl most)
+      | inr (more, at) ↦ subst (λ b. IsIn id_of xs id b (size - step)) (sym at)
+          (lower rises base size step here (omega (arith, some, twice)) twice (base + step) (size - step) refl refl more)
+    ]
 
-  -- a run of one thing, which has the id, a smaller one or a greater one
-  module _ (base size : ℕ) (here : IsIn id_of xs id base size) (one : size ≤ 1) where
-    pub at_one : ((d : T) → id_of (get_or xs base d) ≡ id) → IsAt id_of xs id base
-    at_one same = record {
-      in_range = let fit = here.in_range in let some = here.filled in omega (arith, fit, some);
-      has_id = same;
-    }
-
-    pub gap_behind : ((d : T) → id_of (get_or xs base d) < id) → IsGap id_of xs id (base + 1)
-    gap_behind less = record {
-      in_range = let fit = here.in_range in let some = here.filled in omega (arith, fit, some);
-      smaller_before = λ j d low.
-          let before = here.smaller_before j d in let l = less d in
-          let same : (base ≡ j) → id_of (get_or xs base d) ≡ id_of (get_or xs j d) = λ e. ap (λ k. id_of (get_or xs k d)) e in
-          grind (arith, before, l, same, low);
-      greater_after = λ j d past low. here.greater_after j d (omega (arith, past, one)) low;
-    }
-
-    pub gap_before : ((d : T) → id < id_of (get_or xs base d)) → IsGap id_of xs id base
-    gap_before more = record {
-      in_range = let fit = here.in_range in let some = here.filled in omega (arith, fit, some);
-      smaller_before = here.smaller_before;
-      greater_after = λ j d past low.
-          let after = here.greater_after j d in let m = more d in
-          let same : (base ≡ j) → id_of (get_or xs base d) ≡ id_of (get_or xs j d) = λ e. ap (λ k. id_of (get_or xs k d)) e in
-          grind (arith, after, m, same, past, low, one);
-    }
+    -- the quarter to which three looks come
+    pub quartered : 4 * step ≤ size → (low up position : ℕ) → Reaches (base + step) base (base + step) low
+        → Reaches (base + step + step + step) (base + step + step) (base + step + step + step) up
+        → Reaches (base + step + step) low up position → IsIn id_of xs id position (size - 3 * step)
+    quartered four low up position second last third =
+        let two = step + step in let half = size - two in
+        let big : two < size = omega (arith, some, four) in let twice : two + two ≤ size = omega (arith, four) in
+        let small : step < half = omega (arith, some, four) in let both : step + step ≤ half = omega (arith, four) in
+        let middle : base + step + step ≡ base + two = omega arith in let rest : size - 3 * step ≡ half - step = omega arith in
+        elim third [
+          | inl (most, at) ↦
+              let above = upper rises base size two here big twice (base + step + step) half middle refl most in
+              elim last [
+                | inl (m, up_at) ↦ subst (λ b. IsIn id_of xs id b (size - 3 * step)) (sym (at ∙ up_at))
+                    (upper rises (base + step + step) half step above small both _ (size - 3 * step) refl rest m)
+                | inr (m, up_at) ↦ subst (λ b. IsIn id_of xs id b (size - 3 * step)) (sym (at ∙ up_at))
+                    (lower rises (base + step + step) half step above small both _ (size - 3 * step) refl rest m)
+              ]
+          | inr (more, at) ↦
+              let below = lower rises base size two here big twice (base + step + step) half middle refl more in
+              elim second [
+                | inl (m, low_at) ↦ subst (λ b. IsIn id_of xs id b (size - 3 * step)) (sym (at ∙ low_at))
+                    (upper rises base half step below small both _ (size - 3 * step) refl rest m)
+                | inr (m, low_at) ↦ subst (λ b. IsIn id_of xs id b (size - 3 * step)) (sym (at ∙ low_at))
+                    (lower rises base half step below small both _ (size - 3 * step) refl rest m)
+              ]
+        ]

@@ -7,3 +7,11 @@ pub record IsIn {T : Type 0} (id_of : T → ℕ) (things : List T) (id base size
   pub in_range : base + size ≤ length things
   pub smaller_before : (j : ℕ) (d : T) → j < base → id_of (slice_index_or things j d) < id
   pub greater_after : (j : ℕ) (d : T) → base + size ≤ j → j < length things → id < id_of (slice_index_or things j d)
+
+-- the thing at this position has at most the id
+abbrev pub IsUpTo : {T : Type 0} → (T → ℕ) → List T → ℕ → ℕ → Type 0
+IsUpTo {T} id_of things id position = (d : T) → id_of (slice_index_or things position d) ≤ id
+
+-- the thing at this position has a greater id
+abbrev pub IsAbove : {T : Type 0} → (T → ℕ) → List T → ℕ → ℕ → Type 0
+IsAbove {T} id_of things id position = (d : T) → id < id_of (slice_index_or things position d)

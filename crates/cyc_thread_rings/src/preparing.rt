@@ -28,13 +28,13 @@ pub struct Prepared<'a, C> {
     pub wakers: Vec<Arc<Wakers, Global>>,
 }
 
-/// What the threads of a run are given, over any ends.
+/// What the threads of a run are given, over any ends. Where memory is refused, the drainers go before the leads.
 #[derive(Drop)]
 struct Lists<E, D, C> {
-    ends: Vec<E>,
-    leads: Vec<Lead<C>>,
-    drainers: Vec<Levels<Drainer<D, C>>>,
     wakers: Vec<Arc<Wakers, Global>>,
+    drainers: Vec<Levels<Drainer<D, C>>>,
+    leads: Vec<Lead<C>>,
+    ends: Vec<E>,
 }
 
 /// Two beds, and what wakes those who sleep there, twice.
@@ -78,20 +78,20 @@ fn room<E: Drop, D: Drop, C: Drop>(alloc: Global, cpus: usize) -> Result<Lists<E
     let drainers = Vec::with_capacity(alloc, cpus)?;
     let ends = Vec::with_capacity(alloc, cpus)?;
     Ok(Lists {
-        ends,
-        leads,
-        drainers,
         wakers,
+        drainers,
+        leads,
+        ends,
     })
 }
 
-/// What the threads of one CPU more are given. Its memory may be refused.
+/// What the threads of one CPU more are given. Its memory may be refused; then the ends go first, then the firing handler.
 fn add<E: Drop, D: Drop, C: Drop>(
     alloc: Global,
-    ends: E,
-    high: C,
-    soft: Levels<SoftSide<D, C>>,
     lists: &mut Lists<E, D, C>,
+    soft: Levels<SoftSide<D, C>>,
+    high: C,
+    ends: E,
 ) -> Result<(), Refusal>
     requires { HasRoom 1 lists.old }
     ensures ends { OnOk result (lists.new.ends.items ≡ lists.old.ends.items ++ ends ∷ []) }
@@ -126,7 +126,7 @@ pub fn prepare<'a, C: Drop>(
     let mut lists = room(alloc, all.len())?;
     for attached in all {
         let Attached { ends, high, soft } = attached;
-        add(alloc, ends, high, soft, &mut lists)?;
+        add(alloc, &mut lists, soft, high, ends)?;
     }
     Ok(Prepared {
         ends: lists.ends,

@@ -1,6 +1,6 @@
 use Rattle.std.proofs.Common.{◌-◌}
 use Rattle.cyc_finder.specs.Halving.{IsIn}
-use Rattle.cyc_finder.proofs.sorted.search.Given as goal
+use Rattle.cyc_finder.proofs.halving.halve_few.Given as goal
 
 abbrev pub invariant-loop-run : goal.invariant-loop-run
 invariant-loop-run g l = IsIn g.T.HasId.id_of l.things l.id l.run.base l.run.size
