@@ -2,10 +2,10 @@
 # Runs programs with their Nth request for memory refused, for each N until a run meets none, and a run in threads with its Nth
 # thread refused too. It needs a C compiler, since it puts a shim before the C library.
 #
-# The program `cyclic`: `replay` of the first example, `--help` and a wrong word. Each run ends with status 3 and 'fault 1',
-# having written a prefix of what it writes with ample memory, or as it ends with ample memory. And `run` of the example of threads:
-# it ends with status 3 and 'fault 1', having written nothing; or with the report, in which a name has zeros where the step that adds
-# it was refused.
+# The program `cyclic`: `replay` of the first example and of three other texts, `--help` and a wrong word. Each run ends with
+# status 3 and 'fault 1', having written a prefix of what it writes with ample memory, or as it ends with ample memory. And `run` of the
+# example of threads: it ends with status 3 and 'fault 1', having written nothing; or with the report, in which a name has zeros
+# where the step that adds it was refused.
 #
 # The program `refused_memory`: each call of the library that may ask for memory. Where a request of the call is refused, it
 # answers Memory, has changed nothing that can be seen, and made again it is done. A juggle and an offline count a cyclic as refused:
@@ -20,12 +20,18 @@ trap 'rm -rf "$work"' EXIT
 ${CC:-cc} -shared -fPIC -O1 -o "$work/shim.so" tests/shim.c || exit 2
 failed=0
 
-for word in replay --help wrong; do
-  "$program" "$word" < examples/first.json > "$work/text" 2> "$work/words"
+# the first example with a ceiling behind its steps, with its CPUs there, and with a null in its last step
+sed 's/]}$/],"ceiling":4}/' examples/first.json > "$work/ceiling_behind.json"
+sed 's/^{"cpus":1,/{/; s/}$/,"cpus":1}/' examples/first.json > "$work/cpus_behind.json"
+sed 's/8]]}$/null]]}/' examples/first.json > "$work/null_last.json"
+
+for asked in {replay,--help,wrong}:examples/first.json replay:"$work"/{ceiling_behind,cpus_behind,null_last}.json; do
+  word=${asked%%:*} input=${asked#*:}
+  "$program" "$word" < "$input" > "$work/text" 2> "$work/words"
   wanted=$?
   for ((n = 1; ; n++)); do
     timeout 10 env FAIL_ALLOC="$n" LD_PRELOAD="$work/shim.so" "$program" "$word" \
-      < examples/first.json > "$work/got" 2> "$work/said" 9> "$work/refused"
+      < "$input" > "$work/got" 2> "$work/said" 9> "$work/refused"
     status=$?
     [ -s "$work/refused" ] || break
     if [ "$status" -eq "$wanted" ] && cmp -s "$work/words" "$work/said" && cmp -s "$work/text" "$work/got"; then
@@ -41,7 +47,7 @@ for word in replay --help wrong; do
     echo "memory: $word: status $status with ample memory"
     failed=1
   fi
-  echo "memory: $word: $((n - 1)) requests refused in turn"
+  echo "memory: $word of ${input##*/}: $((n - 1)) requests refused in turn"
 done
 
 # refused VARIABLE N WORD..: a program with its Nth request refused, of this kind
@@ -83,7 +89,8 @@ for variable in FAIL_ALLOC FAIL_THREAD; do
   echo "memory: run, $variable: $((n - 1)) refused in turn; $ended ended the run, $whole changed no report, the others took a name away"
 done
 
-tools/prove refused_memory 2> "$work/said" || { cat "$work/said"; exit 1; }
+tools/is-built refused_memory || (cd crates/refused_memory && rt run -- Hard::add) > "$work/said" 2>&1 ||
+  { cat "$work/said"; exit 1; }
 program=crates/refused_memory/out/refused_memory
 
 # calls VARIABLE CALL: a call of the library with each of its requests refused in turn
@@ -110,7 +117,7 @@ calls() {
 
 for call in Tally::new ExpiryHeap::new ExpiryHeap::reserve LevelCore::new Ring::open Hard::new Hard::reserve Hard::add \
   System::new System::add System::add_omni System::bind System::online System::juggle_of_two System::juggle System::offline \
-  command_of read_input read_script replay run; do
+  command_of read_input read_script read_script::ceiling_behind read_script::cpus_behind read_script::null_last replay run; do
   calls FAIL_ALLOC "$call"
 done
 calls FAIL_THREAD run

@@ -10,6 +10,7 @@ use Rattle.cyc_script.specs.declared.cause.Cause.{Cause}
 use Rattle.cyc_script.specs.declared.cause.Cause.TheVariants.{Memory}
 use Rattle.cyc_script.specs.declared.context.Context.{Context}
 use Rattle.cyc_script.specs.declared.part.Part.{Part}
+use Rattle.cyc_script.specs.declared.part.Part.TheVariants.{Text}
 use Rattle.cyc_script.specs.declared.step.Step.{Step}
 use Rattle.cyc_script.specs.declared.step.Step.TheVariants.{Add, Omni, Reprogram}
 use Rattle.cyc_script.specs.Answers.{Fails, Gives}
@@ -22,47 +23,45 @@ use Rattle.cyc_script.specs.Words.{cyclic_of, form_of, later_form_of, cpu_form_o
 
 -- ---- how many parts there are
 
-pub one_part : (parts : List Part) (a : Part) → 1 ≤ length parts → length parts < 2 → a ≡ get_or parts 0 a
-    → map data_of parts ≡ data_of a ∷ []
-one_part (x ∷ []) a low high p = rw p refl
-one_part [] a low high p = absurd (omega (arith, low))
-one_part (x ∷ y ∷ more) a low high p = absurd (omega (arith, high))
+-- what a slice has past its end
+abbrev pub no_part : Part
+no_part = Text (record { ref_ptr = (0, 0); now = [] })
 
-pub two_parts : (parts : List Part) (a b : Part) → 2 ≤ length parts → length parts < 3 → a ≡ get_or parts 0 a
-    → b ≡ get_or parts 1 b → map data_of parts ≡ data_of a ∷ data_of b ∷ []
-two_parts (x ∷ y ∷ []) a b low high p q = rw (p, q) refl
-two_parts [] a b low high p q = absurd (omega (arith, low))
-two_parts (x ∷ []) a b low high p q = absurd (omega (arith, low))
-two_parts (x ∷ y ∷ z ∷ more) a b low high p q = absurd (omega (arith, high))
+abbrev pub at : List Part → ℕ → Data
+at parts i = data_of (get_or parts i no_part)
 
-pub three_parts : (parts : List Part) (a b c : Part) → 3 ≤ length parts → length parts < 4 → a ≡ get_or parts 0 a
-    → b ≡ get_or parts 1 b → c ≡ get_or parts 2 c → map data_of parts ≡ data_of a ∷ data_of b ∷ data_of c ∷ []
-three_parts (x ∷ y ∷ z ∷ []) a b c low high p q r = rw (p, q, r) refl
-three_parts [] a b c low high p q r = absurd (omega (arith, low))
-three_parts (x ∷ []) a b c low high p q r = absurd (omega (arith, low))
-three_parts (x ∷ y ∷ []) a b c low high p q r = absurd (omega (arith, low))
-three_parts (w ∷ x ∷ y ∷ z ∷ more) a b c low high p q r = absurd (omega (arith, high))
+pub two_parts : (parts : List Part) → 2 ≤ length parts → length parts < 3 → map data_of parts ≡ at parts 0 ∷ at parts 1 ∷ []
+two_parts (x ∷ y ∷ []) low high = refl
+two_parts [] low high = absurd (omega (arith, low))
+two_parts (x ∷ []) low high = absurd (omega (arith, low))
+two_parts (x ∷ y ∷ z ∷ more) low high = absurd (omega (arith, high))
 
-pub four_parts : (parts : List Part) (a b c d : Part) → 4 ≤ length parts → length parts < 5 → a ≡ get_or parts 0 a
-    → b ≡ get_or parts 1 b → c ≡ get_or parts 2 c → d ≡ get_or parts 3 d
-    → map data_of parts ≡ data_of a ∷ data_of b ∷ data_of c ∷ data_of d ∷ []
-four_parts (w ∷ x ∷ y ∷ z ∷ []) a b c d low high p q r s = rw (p, q, r, s) refl
-four_parts [] a b c d low high p q r s = absurd (omega (arith, low))
-four_parts (w ∷ []) a b c d low high p q r s = absurd (omega (arith, low))
-four_parts (w ∷ x ∷ []) a b c d low high p q r s = absurd (omega (arith, low))
-four_parts (w ∷ x ∷ y ∷ []) a b c d low high p q r s = absurd (omega (arith, low))
-four_parts (v ∷ w ∷ x ∷ y ∷ z ∷ more) a b c d low high p q r s = absurd (omega (arith, high))
+pub three_parts : (parts : List Part) → 3 ≤ length parts → length parts < 4
+    → map data_of parts ≡ at parts 0 ∷ at parts 1 ∷ at parts 2 ∷ []
+three_parts (x ∷ y ∷ z ∷ []) low high = refl
+three_parts [] low high = absurd (omega (arith, low))
+three_parts (x ∷ []) low high = absurd (omega (arith, low))
+three_parts (x ∷ y ∷ []) low high = absurd (omega (arith, low))
+three_parts (w ∷ x ∷ y ∷ z ∷ more) low high = absurd (omega (arith, high))
 
-pub five_parts : (parts : List Part) (a b c d e : Part) → 5 ≤ length parts → length parts < 6 → a ≡ get_or parts 0 a
-    → b ≡ get_or parts 1 b → c ≡ get_or parts 2 c → d ≡ get_or parts 3 d → e ≡ get_or parts 4 e
-    → map data_of parts ≡ data_of a ∷ data_of b ∷ data_of c ∷ data_of d ∷ data_of e ∷ []
-five_parts (v ∷ w ∷ x ∷ y ∷ z ∷ []) a b c d e low high p q r s t = rw (p, q, r, s, t) refl
-five_parts [] a b c d e low high p q r s t = absurd (omega (arith, low))
-five_parts (w ∷ []) a b c d e low high p q r s t = absurd (omega (arith, low))
-five_parts (w ∷ x ∷ []) a b c d e low high p q r s t = absurd (omega (arith, low))
-five_parts (w ∷ x ∷ y ∷ []) a b c d e low high p q r s t = absurd (omega (arith, low))
-five_parts (w ∷ x ∷ y ∷ z ∷ []) a b c d e low high p q r s t = absurd (omega (arith, low))
-five_parts (u ∷ v ∷ w ∷ x ∷ y ∷ z ∷ more) a b c d e low high p q r s t = absurd (omega (arith, high))
+pub four_parts : (parts : List Part) → 4 ≤ length parts → length parts < 5
+    → map data_of parts ≡ at parts 0 ∷ at parts 1 ∷ at parts 2 ∷ at parts 3 ∷ []
+four_parts (w ∷ x ∷ y ∷ z ∷ []) low high = refl
+four_parts [] low high = absurd (omega (arith, low))
+four_parts (w ∷ []) low high = absurd (omega (arith, low))
+four_parts (w ∷ x ∷ []) low high = absurd (omega (arith, low))
+four_parts (w ∷ x ∷ y ∷ []) low high = absurd (omega (arith, low))
+four_parts (v ∷ w ∷ x ∷ y ∷ z ∷ more) low high = absurd (omega (arith, high))
+
+pub five_parts : (parts : List Part) → 5 ≤ length parts → length parts < 6
+    → map data_of parts ≡ at parts 0 ∷ at parts 1 ∷ at parts 2 ∷ at parts 3 ∷ at parts 4 ∷ []
+five_parts (v ∷ w ∷ x ∷ y ∷ z ∷ []) low high = refl
+five_parts [] low high = absurd (omega (arith, low))
+five_parts (v ∷ []) low high = absurd (omega (arith, low))
+five_parts (v ∷ w ∷ []) low high = absurd (omega (arith, low))
+five_parts (v ∷ w ∷ x ∷ []) low high = absurd (omega (arith, low))
+five_parts (v ∷ w ∷ x ∷ y ∷ []) low high = absurd (omega (arith, low))
+five_parts (u ∷ v ∷ w ∷ x ∷ y ∷ z ∷ more) low high = absurd (omega (arith, high))
 
 -- ---- `add` and `omni`
 

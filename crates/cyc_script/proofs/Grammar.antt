@@ -1,20 +1,17 @@
 -- What the tokens of a text say: the grammar's loops, a turn at a time, under the conversion to data.
-use Rattle.std.proofs.Common.{◌≡◌, ℕ, zero, suc, ◌-◌, ◌<◌, ◌≤◌, List, [], ◌∷◌, length, true, Option, Some, None, refl, ap, ◌∙◌}
+use Rattle.std.proofs.Common.{◌≡◌, ℕ, zero, suc, ◌-◌, ◌<◌, ◌≤◌, List, [], ◌∷◌, length, Option, Some, None, refl, ap, ◌∙◌}
 use Rattle.std.proofs.Common.{arith}
 use Rattle.std.specs.Prelude.{option_map, option_and_then}
 use Rattle.json.specs.Token.{Token}
-use Rattle.json.specs.declared.token.Token as declared
-use Rattle.json.specs.declared.token.Token.TheVariants as token
-use Rattle.json.specs.Reads.{Yields}
 use Rattle.json.specs.Json as json
-use Rattle.json.specs.Json.{Parse, parse_map, after_end_array, read_key, items, members, members_step, value, if_last}
+use Rattle.json.specs.Json.{Parse, parse_map, after_end_array, read_key, items, members, value, if_last}
 use Rattle.json.proofs.Grammar.{items_end, items_fail, items_more, members_end, members_fail, members_more, members_no_key}
-use Rattle.json.proofs.Grammar.{value_is, value-begin_array}
+use Rattle.json.proofs.Grammar.{value_is, value-begin_array, value-begin_object}
 use Rattle.json.proofs.Grammar.{skip_value-shorter, left}
 use Rattle.serde_json.specs.Data.{Data, array, object, Items, no_items, item, Members, no_members, put}
 use Rattle.json.specs.Lex.{tokens}
 use Rattle.serde_json.specs.Read.{of_json, of_items, of_members, converted, read}
-use Rattle.cyc_script.specs.Tokens.{begins_none, ended}
+use Rattle.cyc_script.specs.Tokens.{ended}
 
 -- ---- what was converted
 
@@ -134,16 +131,15 @@ module _ (p : Parse json.Json) where
         → converted (λ ms. of_members ms old) (members p n ts) ≡ None
     key_none n ts key = ap (converted (λ ms. of_members ms old)) (members_no_key p n ts key)
 
-    pub key_over : (n : ℕ) (t : Token) (ts r : List Token) → read_key ts ≡ Some (None, t ∷ r)
-        → ended (converted (λ ms. of_members ms old) (members p n ts)) ≡ None
-    unfolding members
-    key_over zero t ts r key = refl
-    key_over (suc n) t ts r key = ap (λ k. ended (converted (λ ms. of_members ms old)
-        (option_and_then (λ q. members_step p (members p n) q.0 q.1) k))) key
-
 -- a value takes a token at least
 pub shorter : (depth : ℕ) (ts r : List Token) (d : Data) → converted of_json (value depth ts) ≡ Some (d, r) → length r < length ts
 shorter depth ts r d e = let j = converted_some of_json (value depth ts) d r e in skip_value-shorter depth ts r (ap left j.1)
+
+-- an object whose members are these
+pub object_read : (depth : ℕ) (ts : List Token) → 0 < depth → converted of_json (value depth (Token.begin_object ∷ ts))
+    ≡ parse_map object (converted (λ ms. of_members ms no_members) (members (value (depth - 1)) (length ts) ts))
+object_read depth ts some = ap (converted of_json) (value-begin_object depth ts some)
+    ∙ converted_object (members (value (depth - 1)) (length ts) ts)
 
 -- an array whose items are these
 pub array_read : (depth : ℕ) (ts r : List Token) (ds : Items) → 0 < depth
@@ -159,20 +155,17 @@ pub array_none : (depth : ℕ) (ts : List Token) → 0 < depth
 array_none depth ts some e = ap (converted of_json) (value-begin_array depth ts some)
     ∙ converted_array (items (value (depth - 1)) (length ts) ts) ∙ ap (parse_map array) e
 
--- no value begins so
-pub none_begins : (next : Option declared.Token) (depth : ℕ) (old new : List Token) → Yields old next new
-    → begins_none next ≡ true → converted of_json (value depth old) ≡ None
-none_begins None depth old new e h = ap (converted of_json) (ap (value depth) e.0 ∙ value_is depth [])
-none_begins (Some token.BeginObject) depth old new e h = absurd (cc)
-none_begins (Some token.EndObject) depth old new e h = ap (converted of_json) (ap (value depth) e ∙ value_is depth _)
-none_begins (Some token.BeginArray) depth old new e h = absurd (cc)
-none_begins (Some token.EndArray) depth old new e h = ap (converted of_json) (ap (value depth) e ∙ value_is depth _)
-none_begins (Some (token.Key s)) depth old new e h = ap (converted of_json) (ap (value depth) e ∙ value_is depth _)
-none_begins (Some (token.String s)) depth old new e h = absurd (cc)
-none_begins (Some (token.Number s)) depth old new e h = absurd (cc)
-none_begins (Some (token.Bool b)) depth old new e h = absurd (cc)
-none_begins (Some token.Null) depth old new e h = absurd (cc)
-none_begins (Some token.Bad) depth old new e h = ap (converted of_json) (ap (value depth) e ∙ value_is depth _)
+pub nothing_read : (depth : ℕ) → converted of_json (value depth []) ≡ None
+nothing_read depth = ap (converted of_json) (value_is depth [])
+
+-- nothing nests in a value that may not nest
+pub array_flat : (ts : List Token) → value 0 (Token.begin_array ∷ ts) ≡ None
+unfolding value
+array_flat ts = refl
+
+pub object_flat : (ts : List Token) → value 0 (Token.begin_object ∷ ts) ≡ None
+unfolding value
+object_flat ts = refl
 
 pub string_read : (depth : ℕ) (s : List ℕ) (r : List Token) → value depth (Token.string s ∷ r) ≡ Some (json.string s, r)
 string_read depth s r = value_is depth _

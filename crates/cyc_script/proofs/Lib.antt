@@ -1,11 +1,13 @@
+pub mod Begun
 pub mod Fits
 pub mod Forms
 pub mod Grammar
-pub mod Heads
 pub mod Lists
 pub mod Naming
 pub mod Numbers
+pub mod Objects
 pub mod Parts
+pub mod Plain
 pub mod Rest
 pub mod Steps
 pub mod Taken

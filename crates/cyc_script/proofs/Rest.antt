@@ -1,16 +1,15 @@
--- The steps that are left, counted whatever they say.
+-- The items that are left, counted whatever they are.
 use Rattle.std.proofs.Common.{◌≡◌, ℕ, zero, suc, ◌+◌, ◌-◌, ◌<◌, ◌≤◌, List, [], ◌∷◌, length, Option, Some, None, true, false}
-use Rattle.std.proofs.Common.{refl, ap, sym, subst, arith}
+use Rattle.std.proofs.Common.{refl, ap, ◌∙◌, arith}
 use Rattle.std.specs.Prelude.{Bool, ◌&&◌, nat_lt, option_map}
 use Rattle.std.specs.Bool.{MatchBool}
 use Rattle.std.proofs.lemmas.Bool.Decides.{nat_tests}
 use Rattle.json.specs.Token.{Token}
 use Rattle.json.specs.Json.{parse_map}
 use Rattle.serde_json.specs.Data.{Data, Items, no_items, item}
-use Rattle.cyc_script.specs.Tokens.{IsNoJson, NeverEnds}
 use Rattle.cyc_script.specs.Words.{list_of}
 
--- how many steps there are, where so many were counted and the items are left
+-- how many items there are, where so many were counted and the items are left
 abbrev pub counted : ℕ → Option (Items × List Token) → Option (ℕ × List Token)
 counted count read = option_map (λ p. (count + length (list_of p.0), p.1)) read
 
@@ -56,8 +55,7 @@ pub all_counts : (most left count length : ℕ) (few : Bool) → Counts most few
 all_counts most left count length true counts is = omega (arith, counts, is)
 all_counts most left count length false counts is = omega (arith, counts, is)
 
-pub counted_no_json : (before count : ℕ) (read left : Option (Items × List Token)) → counted before read ≡ counted count left
-    → IsNoJson left → IsNoJson read
-counted_no_json before count None left same never = tt
-counted_no_json before count (Some p) None same never = absurd (cc)
-counted_no_json before count (Some p) (Some q) same never = subst NeverEnds (sym (ap left_over same)) never
+pub counted_none : (before count : ℕ) (read left : Option (Items × List Token)) → counted before read ≡ counted count left
+    → left ≡ None → read ≡ None
+counted_none before count None left same none = refl
+counted_none before count (Some p) left same none = let e = same ∙ ap (counted count) none in absurd (cc)

@@ -1,32 +1,34 @@
 -- The steps of a script, taken one after another from the items that are left.
 use Rattle.std.proofs.Common.{◌≡◌, ℕ, ◌+◌, ◌-◌, ◌<◌, ◌≤◌, List, [], ◌∷◌, ◌++◌, length, Option, Some, None, Result, Ok, Err, true}
-use Rattle.std.proofs.Common.{false, ◌⊎◌, inl, inr, ◌∙◌}
+use Rattle.std.proofs.Common.{false, inl, inr, ◌∙◌}
 use Rattle.std.proofs.Common.{refl, ap, ap₂, sym, subst, arith}
 use Rattle.std.specs.Bool.{MatchBool}
-use Rattle.std.specs.Prelude.{Bool, option_map, nat_le, IfErr, OnOk, if◌then◌else◌}
+use Rattle.std.specs.Prelude.{Bool, is_some, option_map, nat_le, IfErr, MatchOption, OnOk, if◌then◌else◌}
 use Rattle.std.proofs.lemmas.Bool.Decides.{nat_tests}
 use Rattle.std.proofs.Math.ListN.{length-append}
-use Rattle.json.specs.Token.{Token, end_object}
+use Rattle.json.specs.Token.{Token}
 use Rattle.json.specs.Json.{parse_map, after_end_array, items, value}
 use Rattle.serde_json.specs.Data.{Data, Items, no_items, item}
 use Rattle.serde_json.specs.Read.{of_items, converted}
 use Rattle.cyc_types.specs.declared.refusal.Refusal.{Refusal}
-use Rattle.cyc_types.specs.declared.refusal.Refusal.TheVariants.{ScriptShape, ScriptSyntax}
+use Rattle.cyc_types.specs.declared.refusal.Refusal.TheVariants.{Memory, ScriptShape}
 use Rattle.cyc_script.specs.declared.cause.Cause.{Cause}
 use Rattle.cyc_script.specs.declared.cause.Cause.TheVariants as cause
 use Rattle.cyc_script.specs.declared.context.Context.{Context}
 use Rattle.cyc_script.specs.declared.step.Step.{Step}
-use Rattle.cyc_script.specs.declared.unread.Unread.{Unread}
-use Rattle.cyc_script.specs.declared.unread.Unread.TheVariants.{Refused, Unusual}
+use Rattle.cyc_script.specs.declared.stop.Stop.{Stop}
+use Rattle.cyc_script.specs.declared.stop.Stop.TheVariants.{NoJson}
+use Rattle.cyc_script.specs.declared.stop.Stop.TheVariants as stop
 use Rattle.cyc_script.specs.Answers.{Fails, refusal_at}
 use Rattle.cyc_script.specs.Limits.{most_steps}
 use Rattle.cyc_script.specs.Steps.{Fits, first_context, step_of, steps_of}
 use Rattle.cyc_script.specs.Script.{formed}
-use Rattle.cyc_script.specs.Tokens.{Begins, BeginsItems, Denies, GoesOn, HasNoRest, HasRest, HasSteps, IsNoJson, IsRefused}
-use Rattle.cyc_script.specs.Tokens.{NeverEnds, Refuses, TakesStep, Tells, values_on, values_read}
-use Rattle.cyc_script.specs.WellFormed.{names_fit, names_after_all, moments_fit, moment_after_all, name_fits, moment_fits}
+use Rattle.cyc_script.specs.Tokens.{Begins, BeginsItems, Denies, HasItems, HasNoItems, HasSteps, IsRefused, RefusesOn}
+use Rattle.cyc_script.specs.Tokens.{AreWhole, TakesStep, steps_with, values_on, values_read}
+use Rattle.cyc_script.specs.WellFormed.{IsWellFormed, names_fit, names_after_all, moments_fit, moment_after_all, name_fits}
+use Rattle.cyc_script.specs.WellFormed.{moment_fits}
 use Rattle.cyc_script.specs.Words.{list_of, ◌>>=◌}
-use Rattle.cyc_script.proofs.Grammar.{item_read, items_over}
+use Rattle.cyc_script.proofs.Grammar.{item_read, items_over, shorter}
 use Rattle.cyc_script.proofs.Steps.{step_accepted, step_faulty, steps_end}
 use Rattle.cyc_script.proofs.WellFormed.{names_after_all_push, names_fit_push, moment_after_all_push, moments_fit_push}
 use Rattle.cyc_script.proofs.WellFormed.{names_after_at_most}
@@ -72,47 +74,24 @@ all_taken None k result r e = absurd (cc)
 all_taken (Some p) k result r e =
     (p.0, ap (λ rest. Some (p.0, rest)) (ap left_over e), omega (arith, ap counted e), ap (kept result) e)
 
--- ---- no JSON
-
-pub none_no_json : (read : Option (Items × List Token)) → read ≡ None → IsNoJson read
-none_no_json None e = tt
-none_no_json (Some p) e = absurd (cc)
-
-pub over_no_json : (read : Option (Items × List Token)) (ds : Items) (r : List Token) → read ≡ Some (ds, r) → NeverEnds r
-    → IsNoJson read
-over_no_json read ds r e never = rw e never
-
-pub item_no_json : (d : Data) (left : Option (Items × List Token)) → IsNoJson left → IsNoJson (parse_map (item d) left)
-item_no_json d None never = tt
-item_no_json d (Some p) never = never
-
-pub taken_no_json : (steps : List Step) (before : Context) (read left : Option (Items × List Token))
-    → taken [] first_context read ≡ taken steps before left → IsNoJson left → IsNoJson read
-taken_no_json steps before None left same never = tt
-taken_no_json steps before (Some p) None same never = absurd (cc)
-taken_no_json steps before (Some p) (Some q) same never = subst NeverEnds (sym (ap left_over same)) never
+pub none_taken : (steps : List Step) (before : Context) (read left : Option (Items × List Token))
+    → taken [] first_context read ≡ taken steps before left → left ≡ None → read ≡ None
+none_taken steps before None left same none = refl
+none_taken steps before (Some p) left same none = let e = same ∙ ap (taken steps before) none in absurd (cc)
 
 -- ---- what was denied
 
-pub denied_more : (P Q : Type 0) → (P → Q) → (unread : Unread) → Denies P unread → Denies Q unread
-denied_more P Q f (Refused refusal) (inl is) = inl is
-denied_more P Q f (Refused refusal) (inr fault) = inr (f fault.0, fault.1)
-denied_more P Q f Unusual told = tt
+pub denied_more : (P Q : Type 0) → (P → Q) → (stop : Stop) → Denies P stop → Denies Q stop
+denied_more P Q f NoJson fault = f fault
+denied_more P Q f stop.Memory told = tt
 
-pub if_denied : {A : Type 0} (r : Result A Unread) (P Q : Type 0) → (P → Q) → IfErr r (Denies P) → IfErr r (Denies Q)
+pub if_denied : {A : Type 0} (r : Result A Stop) (P Q : Type 0) → (P → Q) → IfErr r (Denies P) → IfErr r (Denies Q)
 if_denied (Ok a) P Q f told = tt
-if_denied (Err unread) P Q f told = denied_more P Q f unread told
+if_denied (Err stop) P Q f told = denied_more P Q f stop told
 
-pub if_done : {A : Type 0} (r : Result A Unread) (P Q : Type 0) → (P → Q) → OnOk r P → OnOk r Q
+pub if_done : {A : Type 0} (r : Result A Stop) (P Q : Type 0) → (P → Q) → OnOk r P → OnOk r Q
 if_done (Ok a) P Q f p = f p
-if_done (Err unread) P Q f p = tt
-
-pub denied_steps : (tokens : List Token) (P : Type 0)
-    → (P → IsNoJson (converted of_items (items (value 125) (length tokens) tokens))) → (unread : Unread) → Denies P unread
-    → Refuses (HasSteps tokens) unread
-denied_steps tokens P f (Refused refusal) (inl is) = inl is
-denied_steps tokens P f (Refused refusal) (inr fault) = inr (inr (f fault.0, ap Err fault.1))
-denied_steps tokens P f Unusual told = tt
+if_done (Err stop) P Q f p = tt
 
 -- ---- the steps that are left
 
@@ -121,36 +100,31 @@ limited : (b : Bool) (values : List Data) → formed (if b then Some values else
 limited true values = refl
 limited false values = refl
 
--- the rest of a script behind the steps that were taken makes all of it
-pub rest_taken : (tokens : List Token) (left : Option (Items × List Token)) (steps : List Step) (before : Context)
+-- those behind the steps that were taken make all of them
+pub rest_taken : (tokens rest : List Token) (left : Option (Items × List Token)) (steps : List Step) (before : Context)
     (wanted : Result (List Step × List (List ℕ)) Refusal)
     → taken [] first_context (converted of_items (items (value 125) (length tokens) tokens)) ≡ taken steps before left
-    → (((ds : Items) × (left ≡ Some (ds, end_object ∷ [])) × (values_on steps before (list_of ds) ≡ wanted))
-    ⊎ (IsNoJson left × (wanted ≡ Err ScriptSyntax))) → HasSteps tokens wanted
-rest_taken tokens left steps before wanted same (inl has) =
+    → (ds : Items) × (left ≡ Some (ds, rest)) × (values_on steps before (list_of ds) ≡ wanted)
+    → (ds : Items) × BeginsItems 125 tokens ds rest × (values_read (list_of ds) ≡ wanted)
+rest_taken tokens rest left steps before wanted same has =
     let ds = list_of has.0 in
-    let all = all_taken _ (length steps + length ds) (steps_of steps before ds) (end_object ∷ [])
-    (same ∙ ap (taken steps before) has.1) in
-    inl (
+    let all = all_taken _ (length steps + length ds) (steps_of steps before ds) rest (same ∙ ap (taken steps before) has.1) in (
       all.0,
       all.1,
       limited (nat_le (length (list_of all.0)) most_steps) (list_of all.0)
           ∙ ap₂ (λ k read. if nat_le k most_steps then read else Err (ScriptShape 0)) all.2 all.3 ∙ has.2,
     )
-rest_taken tokens left steps before wanted same (inr never) = inr (taken_no_json steps before _ left same never.0, never.1)
 
-pub refuses_more : {Y : Type 0} (P Q : Result Y Refusal → Type 0) → ((wanted : Result Y Refusal) → P wanted → Q wanted)
-    → (unread : Unread) → Refuses P unread → Refuses Q unread
-refuses_more P Q f (Refused refusal) (inl is) = inl is
-refuses_more P Q f (Refused refusal) (inr told) = inr (f (Err refusal) told)
-refuses_more P Q f Unusual told = tt
-
-pub denied_on : (steps : List Step) (before : Context) (tokens : List Token) (P : Type 0) → (P → HasNoRest tokens)
-    → (unread : Unread) → Denies P unread → Refuses (GoesOn steps before tokens) unread
-denied_on steps before tokens P f (Refused refusal) (inl is) = inl is
-denied_on steps before tokens P f (Refused refusal) (inr fault) =
-    inr (λ n enough. inr (f fault.0 n enough, ap Err fault.1))
-denied_on steps before tokens P f Unusual told = tt
+-- what refuses those behind refuses all
+pub rest_refused : (tokens rest : List Token) (n : ℕ) (left : List Token) (steps : List Step) (before : Context)
+    (refusal : Refusal) → length left ≤ n
+    → taken [] first_context (converted of_items (items (value 125) (length tokens) tokens))
+    ≡ taken steps before (converted of_items (items (value 125) n left))
+    → RefusesOn steps before left rest refusal → HasSteps tokens (Err refusal) rest
+rest_refused tokens rest n left steps before refusal enough same refuses =
+    let on = refuses n enough in
+    let all = rest_taken tokens rest _ steps before _ same (on.0, on.1, refl) in
+    (all.0, all.1, subst (Fails Memory refusal) (sym all.2) on.2)
 
 -- ---- a step that is refused
 
@@ -170,51 +144,53 @@ fault_on steps before d fault faulty values true fits =
     rw few (step_faulty steps before d values fault faulty)
 fault_on steps before d fault faulty values false many = many_on steps before (d ∷ values) (omega (arith, many))
 
-module _ (steps : List Step) (before : Context) (d : Data) (old new : List Token) (less : length new < length old)
-    (going : after_end_array old ≡ None) (begins : Begins 125 old d new) where
+module _ (steps : List Step) (before : Context) (d : Data) (old new : List Token) (going : after_end_array old ≡ None)
+    (begins : Begins 125 old d new) where
+  pub one_turn : (n : ℕ) → length old ≤ n → converted of_items (items (value 125) n old)
+      ≡ parse_map (item d) (converted of_items (items (value 125) (n - 1) new))
+  one_turn n enough = item_read (value 125) n old new d (omega (arith, enough, shorter 125 old new d begins)) going begins
+
+  less : (n : ℕ) → length old ≤ n → length new ≤ n - 1
+  less n enough = omega (arith, enough, shorter 125 old new d begins)
+
   -- so many behind the step
-  behind : (most : ℕ) (few : Bool) (refusal : Refusal) → HasRest most new few
+  behind : (most : ℕ) (few : Bool) (rest : List Token) (refusal : Refusal) → HasItems 125 most new few rest
       → ((values : List Data) → MatchBool few (length values ≤ most) (most < length values)
-      → values_on steps before (d ∷ values) ≡ Err refusal) → GoesOn steps before old (Err refusal)
-  behind most few refusal has read n enough =
-      let turn = item_read (value 125) n old new d (omega (arith, enough, less)) going begins in
-      let rest = has (n - 1) (omega (arith, enough, less)) in
-      inl (item d rest.0, turn ∙ ap (parse_map (item d)) rest.1, read (list_of rest.0) rest.2)
+      → Fails Memory refusal (values_on steps before (d ∷ values))) → RefusesOn steps before old rest refusal
+  behind most few rest refusal has fails n enough =
+      let left = has (n - 1) (less n enough) in
+      (item d left.0, one_turn n enough ∙ ap (parse_map (item d)) left.1, fails (list_of left.0) left.2)
 
-  none_behind : HasNoRest new → HasNoRest old
-  none_behind none n enough =
-      let turn = item_read (value 125) n old new d (omega (arith, enough, less)) going begins in
-      subst IsNoJson (sym turn) (item_no_json d _ (none (n - 1) (omega (arith, enough, less))))
+  pub none_behind : HasNoItems 125 new → HasNoItems 125 old
+  none_behind none n enough = one_turn n enough ∙ ap (parse_map (item d)) (none (n - 1) (less n enough))
 
-  pub many_refused : length steps ≡ most_steps → (wanted : Result (List Step × List (List ℕ)) Refusal)
-      → IsRefused 0 (ScriptShape 0) new wanted → GoesOn steps before old wanted
-  many_refused full wanted (inl (few, has, is)) =
-      let same : (if few then ScriptShape 0 else ScriptShape 0) ≡ ScriptShape 0 = either few in
-      let shape : wanted ≡ Err (ScriptShape 0) = is ∙ ap Err same in
-      rw shape (behind 0 few (ScriptShape 0) has (λ values fits. many_on steps before (d ∷ values) (omega (arith, full))))
+  pub many_refused : length steps ≡ most_steps → (rest : List Token) (refused : Refusal)
+      → IsRefused 0 (ScriptShape 0) new rest refused → RefusesOn steps before old rest refused
+  many_refused full rest refused (few, has, is) =
+      let shape : refused ≡ ScriptShape 0 = is ∙ either few in
+      behind 0 few rest refused has
+      (λ values fits. inr (many_on steps before (d ∷ values) (omega (arith, full)) ∙ ap Err (sym shape)))
     where
       either : (b : Bool) → (if b then ScriptShape 0 else ScriptShape 0) ≡ ScriptShape 0
       either true = refl
       either false = refl
-  many_refused full wanted (inr none) = λ n enough. inr (none_behind none.0 n enough, none.1)
 
   -- the refusal of a faulty step, and that of its shape where too many stand behind it
   pub fault_refused : length steps < most_steps → (most : ℕ) → most ≡ most_steps - (length steps + 1) → (fault : Cause)
       (refusal : Refusal) → refusal ≡ refusal_at (length steps + 1) fault → Fails cause.Memory fault (step_of before d)
-      → (unread : Unread) → Refuses (IsRefused most refusal new) unread → Refuses (GoesOn steps before old) unread
-  fault_refused some most left fault refusal at fails Unusual told = tt
-  fault_refused some most left fault refusal at fails (Refused r) (inl is) = inl is
-  fault_refused some most left fault refusal at fails (Refused r) (inr (inr none)) =
-      inr (λ n enough. inr (none_behind none.0 n enough, none.1))
-  fault_refused some most left fault refusal at fails (Refused r) (inr (inl (false, has, e))) =
-      inr (rw e (behind most false (ScriptShape 0) has
-      (λ values is. many_on steps before (d ∷ values) (omega (arith, left, some, is)))))
-  fault_refused some most left fault refusal at (inl memory) (Refused r) (inr (inl (true, has, e))) =
-      let same : r ≡ refusal = cc in
-      inl (same ∙ at ∙ ap (refusal_at (length steps + 1)) memory)
-  fault_refused some most left fault refusal at (inr faulty) (Refused r) (inr (inl (true, has, e))) =
-      inr (rw (e, at) (behind most true (refusal_at (length steps + 1) fault) has
-      (λ values is. fault_on steps before d fault faulty values true (omega (arith, left, some, is)))))
+      → (rest : List Token) (refused : Refusal) → IsRefused most refusal new rest refused
+      → RefusesOn steps before old rest refused
+  fault_refused some most left fault refusal at fails rest refused (false, has, e) =
+      behind most false rest refused has
+      (λ values is. inr (many_on steps before (d ∷ values) (omega (arith, left, some, is)) ∙ ap Err (sym e)))
+  fault_refused some most left fault refusal at (inl memory) rest refused (true, has, e) =
+      let same : refused ≡ Memory = e ∙ at ∙ ap (refusal_at (length steps + 1)) memory in
+      behind most true rest refused has (λ values is. inl same)
+  fault_refused some most left fault refusal at (inr faulty) rest refused (true, has, e) =
+      behind most true rest refused has
+      (λ values is.
+      let on = fault_on steps before d fault faulty values true (omega (arith, left, some, is)) in
+      inr (on ∙ ap Err (sym (e ∙ at))))
 
 -- ---- what holds after each step
 
@@ -225,7 +201,7 @@ pub record Keeps (steps : List Step) (context : Context) : Type 0 where
   pub clock : moment_after_all 0 steps ≡ context.moment
   pub moments : moments_fit 0 steps ≡ true
 
-pub keeps_more : (steps : List Step) (before after : Context) (step : Step) → Fits before step after → Keeps steps before
+keeps_more : (steps : List Step) (before after : Context) (step : Step) → Fits before step after → Keeps steps before
     → Keeps (steps ++ step ∷ []) after
 keeps_more steps before after step fits kept =
     let name : name_fits (names_after_all 0 steps) step ≡ true = rw kept.introduced fits.name in
@@ -244,6 +220,14 @@ keeps_more steps before after step fits kept =
       moments = moments_fit_push 0 steps step kept.moments moment;
     }
 
+module _ (old new : List Token) (steps longer : List Step) (before after : Context)
+    (is : TakesStep old new steps longer before after) where
+  pub few_more : length longer ≤ most_steps
+  few_more = rw is.pushed (omega (arith, is.few, length-append steps (is.step ∷ [])))
+
+  pub keeps_step : Keeps steps before → Keeps longer after
+  keeps_step kept = subst (λ steps. Keeps steps after) (sym is.pushed) (keeps_more steps before after is.step is.fits kept)
+
 -- ---- all steps
 
 few_read : (values : List Data) (read : Result (List Step × List (List ℕ)) Refusal) → length values ≤ most_steps
@@ -260,24 +244,47 @@ pub step_taken : (tokens old new : List Token) (n : ℕ) (steps longer : List St
 step_taken tokens old new n steps longer before after enough going is same =
     let next = converted of_items (items (value 125) (n - 1) new) in
     same
-    ∙ ap (taken steps before) (item_read (value 125) n old new is.written (omega (arith, enough, is.shorter)) going is.begins)
+    ∙ ap (taken steps before) (one_turn steps before is.written old new going is.begins n enough)
     ∙ one_taken steps before after is.written is.step is.reads next ∙ ap (λ steps. taken steps after next) (sym is.pushed)
 
--- none more: what is left is the end of the script, or it is no JSON
-pub end_taken : (tokens old new : List Token) (n : ℕ) (steps : List Step) (before : Context) (result : Result Unit Unread)
-    → length old ≤ n → after_end_array old ≡ Some new → length steps ≤ most_steps
+-- none more
+pub end_taken : (tokens old new : List Token) (n : ℕ) (steps : List Step) (before : Context) → length old ≤ n
+    → after_end_array old ≡ Some new → length steps ≤ most_steps
     → taken [] first_context (converted of_items (items (value 125) (length tokens) tokens))
     ≡ taken steps before (converted of_items (items (value 125) n old))
-    → OnOk result (new ≡ end_object ∷ []) → IfErr result (Denies (NeverEnds new))
-    → Tells (HasSteps tokens) (λ _. (steps, before.names)) result
-end_taken tokens old new n steps before (Ok done) enough over few same last denied =
+    → HasSteps tokens (Ok (steps, before.names)) new
+end_taken tokens old new n steps before enough over few same =
     let left = items_over (value 125) n old new enough over in
     let all = all_taken _ _ _ new (same ∙ ap (taken steps before) left ∙ none_left steps before new) in
-    inl (
-      all.0,
-      subst (BeginsItems 125 tokens all.0) last all.1,
-      few_read (list_of all.0) _ (rw all.2 few) all.3,
-    )
-end_taken tokens old new n steps before (Err unread) enough over few same last denied =
-    denied_steps tokens _ (λ never. taken_no_json steps before _ _ same
-    (over_no_json _ _ new (items_over (value 125) n old new enough over) never)) unread denied
+    (all.0, all.1, few_read (list_of all.0) _ (rw all.2 few) all.3)
+
+pub taken_whole : (steps : List Step) (context : Context) → length steps ≤ most_steps → Keeps steps context
+    → IsWellFormed steps (length context.names)
+taken_whole steps context few kept = record {
+  few_steps = few;
+  names_introduced = kept.introduced;
+  names_in_order = kept.names;
+  moments_in_order = kept.moments;
+}
+
+-- ---- a refusal, if there is one
+
+pub refused_steps : (tokens rest : List Token) (n : ℕ) (left : List Token) (steps : List Step) (before : Context)
+    (refusal : Option Refusal) (others : List Step) (names : List (List ℕ)) (Takes : Type 0) → length left ≤ n
+    → taken [] first_context (converted of_items (items (value 125) (length tokens) tokens))
+    ≡ taken steps before (converted of_items (items (value 125) n left)) → is_some refusal ≡ true
+    → MatchOption refusal Takes (λ refusal. RefusesOn steps before left rest refusal)
+    → HasSteps tokens (steps_with refusal others names) rest
+refused_steps tokens rest n left steps before None others names Takes enough same some refuses = absurd (cc)
+refused_steps tokens rest n left steps before (Some refusal) others names Takes enough same some refuses =
+    rest_refused tokens rest n left steps before refusal enough same refuses
+
+pub takes_one : (refusal : Option Refusal) (Takes : Type 0) (Refuses : Refusal → Type 0) → is_some refusal ≡ false
+    → MatchOption refusal Takes Refuses → Takes
+takes_one None Takes Refuses none takes = takes
+takes_one (Some refusal) Takes Refuses none refuses = absurd (cc)
+
+pub refused_whole : (refusal : Option Refusal) (steps : List Step) (names : List (List ℕ)) → is_some refusal ≡ true
+    → AreWhole (steps_with refusal steps names)
+refused_whole None steps names some = absurd (cc)
+refused_whole (Some refusal) steps names some = tt

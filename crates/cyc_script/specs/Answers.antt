@@ -4,6 +4,8 @@ use Rattle.cyc_types.specs.declared.refusal.Refusal.{Refusal}
 use Rattle.cyc_types.specs.declared.refusal.Refusal.TheVariants as refusal
 use Rattle.cyc_script.specs.declared.cause.Cause.{Cause}
 use Rattle.cyc_script.specs.declared.cause.Cause.TheVariants as cause
+use Rattle.cyc_script.specs.declared.stop.Stop.{Stop}
+use Rattle.cyc_script.specs.declared.stop.Stop.TheVariants as stop
 
 -- the refusal of the step of this number
 abbrev pub refusal_at : ℕ → Cause → Refusal
@@ -12,6 +14,11 @@ refusal_at step cause.Shape = refusal.ScriptShape step
 refusal_at step cause.NameTwice = refusal.NameTwice step
 refusal_at step cause.NoName = refusal.NoName step
 refusal_at step cause.TimeBack = refusal.TimeBack step
+
+-- the refusal of a text that is read no further
+abbrev pub refusal_of : Stop → Refusal
+refusal_of stop.Memory = refusal.Memory
+refusal_of stop.NoJson = refusal.ScriptSyntax
 
 -- the error is the wanted one, or memory
 abbrev pub Fails : {E Y : Type 0} → E → E → Result Y E → Type 0

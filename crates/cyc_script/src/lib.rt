@@ -5,14 +5,16 @@ mod cause;
 mod context;
 mod name;
 mod names;
+mod number;
+mod object;
 mod parameters;
 mod part;
+mod pass;
 mod reader;
 mod script;
 mod step;
+mod stop;
 mod tokens;
-mod unread;
-mod whole;
 mod words;
 
 pub use name::Name;

@@ -61,6 +61,14 @@ impl<'a> Names<'a> {
         }
     }
 
+    /// Forgets all names.
+    pub(crate) fn clear(&mut self, alloc: Global)
+        ensures { self.new ≡ [] }
+    {
+        self.texts = Vec::new(alloc);
+        self.numbers = BTreeMap::new(alloc);
+    }
+
     /// The number of a name, where it stands at the place of its text.
     fn recent_number(&self, text: &str) -> Option<u32>
         ensures { IfSome result (λ number. number_of text.now self.now ≡ Some number) }

@@ -6,6 +6,7 @@ ghost use Rattle.cyc_script.specs.Answers.{Gives};
 ghost use Rattle.cyc_script.specs.Parameters.{number_in, whole_of, moment_of, skew_of, unsigned_of, is_name_byte, is_name};
 ghost use Rattle.cyc_script.specs.Parameters.{name_of, level_in_value, soft_of};
 ghost use Rattle.cyc_script.specs.Parts.{data_of};
+ghost use Rattle.cyc_script.specs.Script.{number_between};
 
 use crate::cause::Cause;
 use crate::part::Part;
@@ -21,6 +22,16 @@ pub(crate) fn number(part: &Part<'_>, most: u64) -> Option<u64>
     let number = part.whole()?;
     match u64::try_from(number) {
         Ok(n) if n <= most => Some(n),
+        _ => None,
+    }
+}
+
+/// A whole number from the least to the greatest.
+pub(crate) fn number_between(part: &Part<'_>, least: u32, most: u32) -> Option<u32>
+    ensures { result ≡ number_between least most (data_of part.now) }
+{
+    match number(part, u64::from(most)) {
+        Some(n) if n >= u64::from(least) && n <= u64::from(most) => Some(n as u32),
         _ => None,
     }
 }

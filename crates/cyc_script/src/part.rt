@@ -1,20 +1,23 @@
 //! A part of a step, as it is read.
 
-ghost use Rattle.std.specs.Prelude.{◌≡◌, map, option_map, OnOk};
+ghost use Rattle.std.specs.Prelude.{◌≡◌, option_map, None, MatchResult};
+ghost use Rattle.json.specs.Json.{value};
 ghost use Rattle.serde_json.specs.Find.{as_str};
-ghost use Rattle.serde_json.specs.View.{view};
+ghost use Rattle.serde_json.specs.Read.{converted, number_of, of_json};
 ghost use Rattle.cyc_script.specs.Parameters.{whole_in};
-ghost use Rattle.cyc_script.specs.Parts.{data_of};
+ghost use Rattle.cyc_script.specs.Parts.{IsNumberPart, data_of};
+ghost use Rattle.cyc_script.specs.Tokens.{HasPart};
 
-use serde_json::Value;
-use std::alloc::AllocError;
+use crate::number::number;
+use crate::pass::pass_from;
+use json::{Invalid, Reader, Token};
 
-/// A part of a step: a text or a whole number of the script's tokens, or any JSON value.
+/// A part of a step: a text, a whole number, or another value, of which no step says anything.
 #[derive(Clone, Copy, Drop)]
 pub(crate) enum Part<'a> {
     Text(&'a str),
     Whole(i64),
-    Value(&'a Value),
+    Other,
 }
 
 impl<'a> Part<'a> {
@@ -24,8 +27,7 @@ impl<'a> Part<'a> {
     {
         match *self {
             Part::Text(text) => Some(text),
-            Part::Whole(_) => None,
-            Part::Value(value) => value.as_str(),
+            _ => None,
         }
     }
 
@@ -34,21 +36,35 @@ impl<'a> Part<'a> {
         ensures { result ≡ whole_in (data_of self.now) }
     {
         match *self {
-            Part::Text(_) => None,
             Part::Whole(number) => Some(number),
-            Part::Value(value) => value.as_i64(),
+            _ => None,
         }
     }
 }
 
-/// The parts of a step that is these values take the place of those in the list. Takes memory where they are more than it has
-/// room for.
-pub(crate) fn fill<'a>(parts: &mut Vec<Part<'a>>, values: &'a [Value]) -> Result<(), AllocError>
-    ensures { OnOk result (map data_of parts.new.items ≡ map view values.now) }
+/// The part that a number is.
+fn number_part<'a>(text: &str) -> Result<Part<'a>, Invalid>
+    ensures { MatchResult result (λ part. IsNumberPart text.now part) (λ _. number_of text.now ≡ None) }
 {
-    parts.clear();
-    for value in values {
-        parts.push(Part::Value(value))?;
+    match number(text) {
+        Some(Some(whole)) => Ok(Part::Whole(whole)),
+        Some(None) => Ok(Part::Other),
+        None => Err(Invalid),
     }
-    Ok(())
+}
+
+/// The next value as a part, in which arrays and objects may nest so deep.
+pub(crate) fn next_part<'a>(reader: &mut Reader<'a>, depth: usize) -> Result<Part<'a>, Invalid>
+    ensures { MatchResult result (λ part. HasPart depth reader.old part reader.new)
+        (λ _. converted of_json (value depth reader.old) ≡ None) }
+{
+    let token = reader.next().ok_or(Invalid)?;
+    match token {
+        Token::String(text) => Ok(Part::Text(text)),
+        Token::Number(text) => number_part(text),
+        _ => {
+            pass_from(token, reader, depth)?;
+            Ok(Part::Other)
+        }
+    }
 }

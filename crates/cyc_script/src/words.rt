@@ -2,7 +2,7 @@
 
 ghost use Rattle.std.specs.Prelude.{◌≡◌, ℕ, ◌<◌, ◌^◌, length, map, option_map, IfOk};
 ghost use Rattle.serde_json.specs.Data.{array};
-ghost use Rattle.serde_json.specs.View.{items_of, view};
+ghost use Rattle.serde_json.specs.View.{items_of};
 ghost use Rattle.cyc_script.specs.Answers.{Gives};
 ghost use Rattle.cyc_script.specs.Parts.{data_of};
 ghost use Rattle.cyc_script.specs.Steps.{Fits, Reads, step_of};
@@ -13,10 +13,9 @@ ghost use Rattle.cyc_script.specs.Words.{optional_cpu, reprogram_with};
 use crate::cause::Cause;
 use crate::context::Context;
 use crate::parameters;
-use crate::part::{self, Part};
+use crate::part::Part;
 use crate::step::{Add, Bind, Omni, Reprogram, Softint, Step};
 use cyc_types::Level;
-use serde_json::Value;
 use std::alloc::Global;
 
 /// What `add` and `omni` say of a cyclic: the text of its name, its level, its start and its interval.
@@ -271,23 +270,4 @@ pub(crate) fn read_step<'a>(
     ensures fits { IfOk result (λ step. Fits context.old step context.new) }
 {
     step_of_items(alloc, context, parts)
-}
-
-/// Reads the step of a value, as `read_step` does. `parts` is room for the value's parts, whatever stands in it before.
-#[tactic(auto, unfolding(crate::specs::Steps::step_of, crate::specs::Words::form_of_value))]
-pub(crate) fn read_value<'a>(
-    alloc: Global,
-    context: &mut Context<'a>,
-    parts: &mut Vec<Part<'a>>,
-    value: &'a Value,
-) -> Result<Step, Cause>
-    requires { length context.old.names < 2 ^ 32 }
-    ensures reads { Gives (λ step. (step, context.new)) result (step_of context.old (view value.now)) }
-    ensures fits { IfOk result (λ step. Fits context.old step context.new) }
-{
-    let Some(items) = value.as_array() else {
-        return Err(Cause::Shape);
-    };
-    part::fill(parts, items.as_slice())?;
-    read_step(alloc, context, parts.as_slice())
 }

@@ -8,3 +8,5 @@ mod limits;
 mod refusals;
 #[cfg(test)]
 mod scripts;
+#[cfg(test)]
+mod values;

@@ -144,3 +144,67 @@ fn deep_values_are_no_json(rt: HostRuntime) {
         assert_eq!(rt; refused, Err(refusal), "{depth} arrays");
     }
 }
+
+// The text of so many objects inside one another, and a number in the innermost.
+fn nested(alloc: Global, depth: u32) -> Result<String, AllocError> {
+    let mut text = String::new(alloc);
+    for _ in 0..depth {
+        text.push_str("{\"a\":")?;
+    }
+    text.push_str("1")?;
+    for _ in 0..depth {
+        text.push_str("}")?;
+    }
+    Ok(text)
+}
+
+/// Texts with room for nested values, how many fit there, and the refusal then.
+const NESTED: [(&str, &str, u32, Refusal); 6] = [
+    ("", "", 127, Refusal::ScriptShape(0)),
+    (
+        "{\"cpus\":1,\"steps\":[],\"more\":",
+        "}",
+        126,
+        Refusal::ScriptShape(0),
+    ),
+    ("{\"cpus\":1,\"steps\":", "}", 126, Refusal::ScriptShape(0)),
+    ("{\"steps\":[],\"cpus\":", "}", 126, Refusal::ScriptShape(0)),
+    (
+        "{\"cpus\":1,\"steps\":[[],",
+        "]}",
+        125,
+        Refusal::ScriptShape(1),
+    ),
+    (
+        "{\"cpus\":1,\"steps\":[[\"advance\",",
+        "]]}",
+        124,
+        Refusal::ScriptShape(1),
+    ),
+];
+
+// What a text with so many nested objects refuses.
+fn refusal_of_nested<R: AllocGlobal + Abort>(
+    rt: &R,
+    start: &str,
+    end: &str,
+    depth: u32,
+) -> Option<Refusal> {
+    let value = nested(rt.alloc(), depth).expect(rt, "a value");
+    let text = format!(in rt.alloc(); "{start}{value}{end}").expect(rt, "a text");
+    read(rt.alloc(), text.as_bytes()).err()
+}
+
+#[test]
+fn values_nest_127_deep_wherever_they_stand(rt: HostRuntime) {
+    for &(start, end, depth, refusal) in &NESTED {
+        let fits = refusal_of_nested(&rt, start, end, depth);
+        assert_eq!(rt; fits, Some(refusal), "{depth} at {start}");
+        let deeper = refusal_of_nested(&rt, start, end, depth + 1);
+        assert_eq!(rt;
+            deeper,
+            Some(Refusal::ScriptSyntax),
+            "one more than {depth} at {start}"
+        );
+    }
+}

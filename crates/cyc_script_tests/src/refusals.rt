@@ -10,12 +10,12 @@ const FIRST: &[u8] =
     b"{\"cpus\":1,\"steps\":[[\"add\",\"a\",\"low\",5,10],[\"advance\",5],[\"softint\",0,\"low\",8]]}";
 
 // What reading these bytes refuses; none where they are a script.
-fn refusal_of(alloc: Global, bytes: &[u8]) -> Option<Refusal> {
+pub(crate) fn refusal_of(alloc: Global, bytes: &[u8]) -> Option<Refusal> {
     read_script(alloc, bytes).err()
 }
 
 // What reading these steps on one CPU refuses; none where they are a script.
-fn refusal_of_steps<R: AllocGlobal + Abort>(rt: &R, steps: &str) -> Option<Refusal> {
+pub(crate) fn refusal_of_steps<R: AllocGlobal + Abort>(rt: &R, steps: &str) -> Option<Refusal> {
     let text = format!(in rt.alloc(); "{{\"cpus\":1,\"steps\":[{steps}]}}");
     refusal_of(rt.alloc(), text.expect(rt, "a text").as_bytes())
 }

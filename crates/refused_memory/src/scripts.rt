@@ -13,6 +13,22 @@ use std::alloc::Global;
 const SCRIPT: &str =
     "{\"cpus\":2,\"steps\":[[\"add\",\"a\",\"low\",10,10],[\"advance\",10],[\"juggle\",0],[\"softint\",0,\"low\",8],[\"juggle\",0],[\"advance\",20],[\"softint\",1,\"low\",8]]}";
 
+/// Scripts whose keys stand otherwise, and one whose last step is none, each with how many steps are read, or why none are.
+pub(crate) const CEILING_BEHIND: (&str, Result<usize, Refusal>) = (
+    "{\"cpus\":2,\"steps\":[[\"add\",\"a\",\"low\",10,10],[\"remove\",\"a\"]],\"ceiling\":3}",
+    Ok(2),
+);
+
+pub(crate) const CPUS_BEHIND: (&str, Result<usize, Refusal>) = (
+    "{\"steps\":[[\"add\",\"a\",\"low\",10,10],[\"remove\",\"a\"]],\"cpus\":2}",
+    Ok(2),
+);
+
+pub(crate) const NULL_LAST: (&str, Result<usize, Refusal>) = (
+    "{\"cpus\":2,\"steps\":[[\"add\",\"a\",\"low\",10,10],[\"remove\",null]]}",
+    Err(Refusal::ScriptShape(2)),
+);
+
 const TEXT: &str =
     "1 ok\n2 fired 1 lost 0\n3 moved 0 bound 0 pending 1 refused 0\n4 ran 1 idle\n5 moved 1 bound 0 pending 0 refused 0\n6 fired 1 lost 0\n7 ran 1 idle\na expired 2 called 2 lost 0 pending 0\n";
 
@@ -121,6 +137,21 @@ pub(crate) fn reading(alloc: Global) -> Seen {
     match reads_script(alloc) {
         Ok(()) => Seen::Done,
         Err(why) => refused(why, true, reads_script(alloc).is_ok()),
+    }
+}
+
+/// How many steps are read of a text, or why none are.
+fn steps_of(alloc: Global, text: &str) -> Result<usize, Refusal> {
+    let script = read_script(alloc, text.as_bytes())?;
+    Ok(script.steps.len())
+}
+
+/// `read_script` of another text, with what it gives.
+pub(crate) fn reading_of(alloc: Global, (text, given): (&str, Result<usize, Refusal>)) -> Seen {
+    match steps_of(alloc, text) {
+        found if found == given => Seen::Done,
+        Err(why) => refused(why, true, steps_of(alloc, text) == given),
+        Ok(_) => Seen::Wrong,
     }
 }
 

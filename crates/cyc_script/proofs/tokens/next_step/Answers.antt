@@ -1,40 +1,60 @@
-use Rattle.std.proofs.Common.{rules, ◌≡◌, ◌+◌, ◌-◌, ◌<◌, length, Err, ap, ◌∙◌, arith}
-use Rattle.json.specs.Json.{value}
-use Rattle.cyc_script.specs.Answers.{refusal_at}
+use Rattle.std.proofs.Common.{rules, ◌≡◌, ◌+◌, ◌-◌, ◌<◌, length, Err, ap, subst, ◌∙◌, arith}
+use Rattle.cyc_script.specs.declared.cause.Cause.TheVariants as cause
+use Rattle.cyc_script.specs.declared.stop.Stop.TheVariants as Stop
+use Rattle.cyc_script.specs.Answers.{Fails, refusal_at}
 use Rattle.cyc_script.specs.Limits.{most_steps}
-use Rattle.cyc_script.specs.Tokens.{Begins, step_data}
+use Rattle.cyc_script.specs.Steps.{step_of}
+use Rattle.cyc_script.specs.Tokens.{step_data}
+use Rattle.json.specs.Json.{value}
 use Rattle.cyc_script.proofs.Grammar.{item_none}
-use Rattle.cyc_script.proofs.Taken.{denied_on, fault_refused, many_refused, none_no_json, refuses_more}
+use Rattle.cyc_script.proofs.Taken.{denied_more, fault_refused, many_refused, none_behind}
 use Rattle.cyc_script.proofs.tokens.next_step.Goals as goal
 
-pub returns-in_err-step_parts-clause-refused : goal.returns-in_err-step_parts-clause-refused
-returns-in_err-step_parts-clause-refused c =
-    let old = c.args.reader.now in
+pub returns-in_err-step_parts-clause-denied : goal.returns-in_err-step_parts-clause-denied
+returns-in_err-step_parts-clause-denied c =
     let same : c.from_residual.result ≡ Err c.in_err-step_parts.field-0.0 = search rules in
-    let told = denied_on c.args.steps.now.items c.args.context.now old _ (λ none n enough.
-    none_no_json _ (item_none (value 125) n old c.requires.going none))
+    let told = denied_more _ _ (λ none n enough. item_none (value 125) n c.args.reader.now c.requires.going none)
     c.in_err-step_parts.field-0.0 c.in_err-step_parts.ensures.denied in
     rw same told
 
-pub returns-then-len-eq-MOST_STEPS-clause-refused : goal.returns-then-len-eq-MOST_STEPS-clause-refused
-returns-then-len-eq-MOST_STEPS-clause-refused c =
+pub returns-in_err-refused_here-clause-denied : goal.returns-in_err-refused_here-clause-denied
+returns-in_err-refused_here-clause-denied c =
+    let has = c.in_ok-step_parts.ensures.value in
+    let none = none_behind c.args.steps.now.items c.args.context.now has.0 c.args.reader.now c.step_parts.new.reader
+    c.requires.going has.1 c.in_err-refused_here.ensures in
+    let same : c.from_residual-in_err-refused_here.result ≡ Err Stop.NoJson = search rules in
+    rw same none
+
+pub returns-then-len-eq-MOST_STEPS-clause-value : goal.returns-then-len-eq-MOST_STEPS-clause-value
+returns-then-len-eq-MOST_STEPS-clause-value c =
     let steps = c.args.steps.now.items in
-    let done = c.in_ok-step_parts.ensures in
+    let has = c.in_ok-step_parts.ensures.value in
     let full : length steps ≡ most_steps = grind arith in
-    refuses_more _ _ (many_refused steps c.args.context.now (step_data c.step_parts.new.parts.items) c.args.reader.now
-    c.step_parts.new.reader done.shorter c.requires.going done.value full) c.refused_here.result c.refused_here.ensures
+    many_refused steps c.args.context.now has.0 c.args.reader.now c.step_parts.new.reader c.requires.going has.1 full _ _
+    c.in_ok-refused_here.ensures
+
+pub returns-in_err-refusal-in-Err : goal.returns-in_err-refusal-in-Err
+returns-in_err-refusal-in-Err c =
+    let has = c.in_ok-step_parts.ensures.value in
+    let none = none_behind c.args.steps.now.items c.args.context.now has.0 c.args.reader.now c.step_parts.new.reader
+    c.requires.going has.1 c.in_err-refusal-in-Err.ensures in
+    let same : c.from_residual-in_err-refusal-in-Err.result ≡ Err Stop.NoJson = search rules in
+    rw same (record { value = tt; denied = none })
 
 pub returns-in-Err : goal.returns-in-Err
 returns-in-Err c =
     let steps = c.args.steps.now.items in
-    let done = c.in_ok-step_parts.ensures in
-    let d = step_data c.as_slice.result.now in
-    let begins : Begins 125 c.args.reader.now d c.step_parts.new.reader = rw c.as_slice.ensures.value done.value in
+    let before = c.args.context.now in
+    let has = c.in_ok-step_parts.ensures.value in
+    let fails : Fails cause.Memory c.in-Err.cause (step_of before (step_data c.step_parts.new.parts.items)) =
+    rw (← c.as_slice.ensures.value) c.in-Err.ensures.reads in
     let place : c.len-number.result ≡ length steps = grind arith in
     let some : length steps < most_steps = grind arith in
     let at = c.at.ensures ∙ ap (λ k. refusal_at (k + 1) c.in-Err.cause) place in
     let left : most_steps - (c.len-number.result + 1) ≡ most_steps - (length steps + 1) = omega (arith, place) in
-    let told = fault_refused steps c.args.context.now d c.args.reader.now c.step_parts.new.reader done.shorter c.requires.going
-    begins some _ left c.in-Err.cause c.at.result at c.in-Err.ensures.reads c.refused_here-in-Err.result
-    c.refused_here-in-Err.ensures in
-    record { value = tt; refused = told }
+    record {
+      value = fault_refused steps before has.0 c.args.reader.now c.step_parts.new.reader c.requires.going has.1 some _ left
+          c.in-Err.cause c.at.result at (subst (Fails cause.Memory c.in-Err.cause) (has.2 before) fails) _ _
+          c.in_ok-refusal-in-Err.ensures;
+      denied = tt;
+    }

@@ -1,8 +1,9 @@
-use Rattle.std.proofs.Common.{◌≡◌, ◌-◌, ◌∷◌, [], length, None, refl, sym, subst, arith}
-use Rattle.std.proofs.Math.ListN.{length-append}
+use Rattle.std.proofs.Common.{◌≡◌, ◌-◌, length, None, false, true, refl, arith}
+use Rattle.std.specs.Prelude.{is_some}
 use Rattle.json.specs.Json.{after_end_array}
-use Rattle.cyc_script.specs.Tokens.{GoesOn, HasSteps, Refuses, TakesStep}
-use Rattle.cyc_script.proofs.Taken.{Keeps, end_taken, if_done, keeps_more, refuses_more, rest_taken, step_taken}
+use Rattle.cyc_script.specs.Tokens.{TakesStep}
+use Rattle.cyc_script.proofs.Grammar.{shorter}
+use Rattle.cyc_script.proofs.Taken.{end_taken, few_more, keeps_step, refused_steps, step_taken, taken_whole, takes_one}
 use Rattle.cyc_script.proofs.tokens.take_steps.Goals as goal
 
 pub loop-alloc-init : goal.loop-alloc-init
@@ -14,6 +15,16 @@ loop-alloc-init c = rw (c.requires.no_steps, c.requires.no_names) (
   record { few_names = omega arith; introduced = refl; names = refl; clock = refl; moments = refl },
 )
 
+pub loop-alloc-smaller : goal.loop-alloc-smaller
+loop-alloc-smaller c =
+    let l = c.loop-alloc in
+    let going : (after_end_array l.reader ≡ None) × (c.take_end_array.new.self ≡ l.reader) = grind arith in
+    let none : is_some c.in_ok-refusal.refusal ≡ false = grind arith in
+    let is : TakesStep l.reader c.next_step.new.reader l.steps.items c.next_step.new.steps.items l.context
+    c.next_step.new.context = rw (← going.1) (takes_one c.in_ok-refusal.refusal _ _ none c.in_ok-refusal.ensures.value) in
+    let less = shorter 125 l.reader c.next_step.new.reader is.written is.begins in
+    omega (arith, less)
+
 pub loop-alloc-preserved : goal.loop-alloc-preserved
 loop-alloc-preserved c =
     let l = c.loop-alloc in
@@ -22,38 +33,32 @@ loop-alloc-preserved c =
     let longer = c.next_step.new.steps.items in
     let after = c.next_step.new.context in
     let going : (after_end_array l.reader ≡ None) × (c.take_end_array.new.self ≡ l.reader) = grind arith in
+    let none : is_some c.in_ok-refusal.refusal ≡ false = grind arith in
     let is : TakesStep l.reader c.next_step.new.reader steps longer l.context after =
-    rw (← going.1) c.in_default.ensures.value in (
+    rw (← going.1) (takes_one c.in_ok-refusal.refusal _ _ none c.in_ok-refusal.ensures.value) in
+    let less = shorter 125 l.reader c.next_step.new.reader is.written is.begins in (
       n - 1,
-      omega (arith, l.invariant.1, is.shorter),
+      omega (arith, l.invariant.1, less),
       step_taken _ l.reader c.next_step.new.reader n steps longer l.context after l.invariant.1 going.0 is l.invariant.2,
-      rw (is.pushed, length-append steps (is.step ∷ [])) (omega (arith, is.few)),
-      subst (λ steps. Keeps steps after) (sym is.pushed) (keeps_more steps l.context after is.step is.fits l.invariant.4),
+      few_more _ _ steps longer l.context after is,
+      keeps_step _ _ steps longer l.context after is l.invariant.4,
     )
 
-pub returns-in-Err-clause-value : goal.returns-in-Err-clause-value
-returns-in-Err-clause-value c =
+pub returns-then-is_some-clause-value : goal.returns-then-is_some-clause-value
+returns-then-is_some-clause-value c =
     let l = c.loop-alloc in
-    let steps = l.steps.items in
     let going : (after_end_array l.reader ≡ None) × (c.take_end_array.new.self ≡ l.reader) = grind arith in
-    let fault = c.in-Err.fault in
-    let told : Refuses (GoesOn steps l.context l.reader) fault = rw (← going.1) c.in-Err.ensures.refused in
-    refuses_more (GoesOn steps l.context l.reader) (HasSteps c.args.reader.now) (λ wanted on.
-    rest_taken c.args.reader.now _ steps l.context wanted l.invariant.2 (on l.invariant.0 l.invariant.1)) fault told
+    let some : is_some c.in_ok-refusal.refusal ≡ true = grind arith in
+    refused_steps c.args.reader.now c.next_step.new.reader l.invariant.0 c.take_end_array.new.self l.steps.items l.context
+    c.in_ok-refusal.refusal _ _ _ (rw going.1 l.invariant.1) (rw going.1 l.invariant.2) some c.in_ok-refusal.ensures.value
 
 pub returns-clause-value : goal.returns-clause-value
 returns-clause-value c =
     let l = c.loop-alloc in
-    end_taken c.args.reader.now l.reader c.take_end_array.new.self l.invariant.0 l.steps.items l.context c.end.result
-    l.invariant.1 (grind arith) l.invariant.3 l.invariant.2 c.end.ensures.over c.end.ensures.denied
+    end_taken c.args.reader.now l.reader c.take_end_array.new.self l.invariant.0 l.steps.items l.context
+    l.invariant.1 (grind arith) l.invariant.3 l.invariant.2
 
-pub returns-clause-well_formed : goal.returns-clause-well_formed
-returns-clause-well_formed c =
+pub returns-clause-whole : goal.returns-clause-whole
+returns-clause-whole c =
     let l = c.loop-alloc in
-    let kept = l.invariant.4 in
-    if_done c.end.result _ _ (λ over. record {
-      few_steps = l.invariant.3;
-      names_introduced = kept.introduced;
-      names_in_order = kept.names;
-      moments_in_order = kept.moments;
-    }) c.end.ensures.over
+    taken_whole l.steps.items l.context l.invariant.3 l.invariant.4
