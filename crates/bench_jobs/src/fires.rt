@@ -8,7 +8,7 @@ use std::alloc::Global;
 const TICKS: u32 = 1_000;
 
 /// A level of three.
-fn level_of(number: u64) -> Level {
+pub(crate) fn level_of(number: u64) -> Level {
     match number % 3 {
         0 => Level::Low,
         1 => Level::Lock,
@@ -26,7 +26,7 @@ fn fill(machine: &mut Machine, cyclics: u64, least: u32, most: u32) -> Result<()
 }
 
 /// Each CPU fires, and then both of its soft levels make at most so many calls.
-fn tick(machine: &mut Machine, passed: u64, budget: u32) -> Result<(), Refusal> {
+pub(crate) fn tick(machine: &mut Machine, passed: u64, budget: u32) -> Result<(), Refusal> {
     machine.clock = machine.clock.saturating_add(passed);
     for cpu in 0..machine.cpus {
         machine.fire(cpu)?;

@@ -4,10 +4,13 @@ ghost use Rattle.std.specs.Prelude.{◌≤◌};
 
 use crate::digest::Digest;
 use crate::random::Random;
+use cyc_agreement::SystemRemoval;
 use cyc_core::LevelCore;
 use cyc_replay::begin;
-use cyc_system::System;
-use cyc_types::{Ceiling, CyclicId, Level, Moment, Refusal, Soft, Tally, When};
+use cyc_system::{SoftFault, System};
+use cyc_types::{
+    Ceiling, CyclicId, JuggleReport, Level, Moment, Receipt, Refusal, Soft, Tally, When,
+};
 use std::alloc::Global;
 
 /// How many ids have handlers.
@@ -64,6 +67,7 @@ impl Machine {
         let when = self.when(interval)?;
         let now = moment(self.clock)?;
         let number = self.system.add(level, when, now)?.number();
+        self.digest.add(number);
         for cpu in 0..self.cpus {
             self.interrupt(cpu, Soft::Lock, 1);
             self.interrupt(cpu, Soft::Low, 1);
@@ -77,7 +81,19 @@ impl Machine {
             Ok(ran) => self
                 .digest
                 .add(u64::from(ran.calls) * 2 + u64::from(ran.idle)),
-            Err(_) => self.digest.add(u64::MAX),
+            Err(fault) => self.stopped(&fault),
+        }
+    }
+
+    /// Adds why a soft interrupt stopped.
+    fn stopped(&mut self, fault: &SoftFault) {
+        self.digest.add(u64::MAX);
+        match fault {
+            SoftFault::NoCpu => self.digest.add(0),
+            SoftFault::Refused(refused) => {
+                self.digest.add(refused.id.number());
+                self.digest.add(u64::from(refused.calls));
+            }
         }
     }
 
@@ -90,16 +106,96 @@ impl Machine {
                 self.digest.add(fired.lost);
                 self.digest.add(fired.next.nanoseconds());
             }
-            Err(refused) => self.digest.add(u64::from(refused.why.number())),
+            Err(refused) => {
+                self.digest.add(u64::MAX);
+                self.refused(&refused.why);
+                self.digest.add(refused.expired);
+                self.digest.add(refused.lost);
+            }
         }
         Ok(())
+    }
+
+    /// Adds why a call was refused, with the cyclic that it names or the report that it gives.
+    pub(crate) fn refused(&mut self, why: &Refusal) {
+        self.digest.add(u64::from(why.number()));
+        match why {
+            Refusal::Busy(id) | Refusal::CountSpent(id) | Refusal::HandlerRefused(id) => {
+                self.digest.add(id.number());
+            }
+            Refusal::Left(report) => self.report(report),
+            _ => {}
+        }
     }
 
     /// Adds what a call answered.
     pub(crate) fn answered(&mut self, answer: Result<(), Refusal>) {
         match answer {
             Ok(()) => self.digest.add(0),
-            Err(why) => self.digest.add(u64::from(why.number())),
+            Err(why) => self.refused(&why),
+        }
+    }
+
+    /// Adds what a juggle did.
+    fn report(&mut self, report: &JuggleReport) {
+        self.digest.add(u64::from(report.moved));
+        self.digest.add(u64::from(report.bound));
+        self.digest.add(u64::from(report.pending));
+        self.digest.add(u64::from(report.refused));
+    }
+
+    /// Adds what a juggle answered.
+    pub(crate) fn juggled(&mut self, answer: Result<JuggleReport, Refusal>) {
+        match answer {
+            Ok(report) => {
+                self.digest.add(0);
+                self.report(&report);
+            }
+            Err(why) => self.refused(&why),
+        }
+    }
+
+    /// Adds the receipt of a removal.
+    fn receipt(&mut self, receipt: &Receipt) {
+        self.digest.add(receipt.id.number());
+        self.digest.add_wide(receipt.sent);
+        self.digest.add_wide(receipt.lost);
+    }
+
+    /// A removal that waits for calls is asked for again.
+    fn poll(&mut self, id: CyclicId) {
+        match self.system.poll_remove(id) {
+            Ok(Some(receipt)) => {
+                self.digest.add(0);
+                self.receipt(&receipt);
+            }
+            Ok(None) => self.digest.add(u64::MAX),
+            Err(why) => self.refused(&why),
+        }
+    }
+
+    /// A cyclic is removed, after the calls of its CPU that wait.
+    pub(crate) fn remove(&mut self, id: CyclicId) {
+        match self.system.begin_remove(id) {
+            Ok(SystemRemoval::Done(receipt)) => {
+                self.digest.add(0);
+                self.receipt(&receipt);
+            }
+            Ok(SystemRemoval::Kept(calls)) => {
+                self.digest.add(u64::MAX);
+                self.digest.add(calls);
+                self.drain();
+                self.poll(id);
+            }
+            Err(why) => self.refused(&why),
+        }
+    }
+
+    /// All calls that wait are made.
+    pub(crate) fn drain(&mut self) {
+        for cpu in 0..self.cpus {
+            self.interrupt(cpu, Soft::Lock, u32::MAX);
+            self.interrupt(cpu, Soft::Low, u32::MAX);
         }
     }
 

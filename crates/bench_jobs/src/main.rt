@@ -1,8 +1,9 @@
 //! `bench_jobs JOB SIZE SEED`: does one of the jobs that users of the library wait for, on input that it makes from the seed, and
-//! writes a digest of all that came of it. The jobs are `fires`, `bursts`, `moves`, `scripts` and `threads`.
+//! writes a digest of all that came of it. The jobs are `fires`, `bursts`, `moves`, `few`, `scripts` and `threads`.
 #![tactic(auto)]
 
 mod digest;
+mod few;
 mod fires;
 mod machine;
 mod moves;
@@ -46,6 +47,7 @@ fn digest_of<R: AllocGlobal + Threads + Wait + Sync>(rt: &R, words: &Wanted) -> 
         "fires" => Ok(fires::fires(alloc, *size, *seed)?),
         "bursts" => Ok(fires::bursts(alloc, *size, *seed)?),
         "moves" => Ok(moves::moves(alloc, *size, *seed)?),
+        "few" => Ok(few::few(alloc, *size, *seed)?),
         "scripts" => scripts::scripts(alloc, *size, *seed),
         "threads" => threads::threads(rt, alloc, *size, *seed),
         _ => bail!("no such job"),

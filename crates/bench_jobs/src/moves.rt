@@ -3,8 +3,7 @@
 ghost use Rattle.std.specs.Prelude.{◌≤◌};
 
 use crate::machine::{Machine, id_of, moment, open};
-use cyc_agreement::SystemRemoval;
-use cyc_types::{CyclicId, Level, Refusal, Soft};
+use cyc_types::{CyclicId, Level, Refusal};
 use std::alloc::Global;
 
 /// The CPUs.
@@ -70,31 +69,10 @@ impl Fleet {
         self.machine.answered(answer);
     }
 
-    /// The removal of a cyclic, after the calls of its CPU that wait.
-    fn removed(&mut self, id: CyclicId) {
-        match self.machine.system.begin_remove(id) {
-            Ok(SystemRemoval::Done(receipt)) => self.machine.digest.add_wide(receipt.sent),
-            Ok(SystemRemoval::Kept(calls)) => {
-                self.machine.digest.add(calls);
-                self.drain();
-                let _ = self.machine.system.poll_remove(id);
-            }
-            Err(why) => self.machine.digest.add(u64::from(why.number())),
-        }
-    }
-
-    /// All calls that wait are made.
-    fn drain(&mut self) {
-        for cpu in 0..CPUS {
-            self.machine.interrupt(cpu, Soft::Lock, u32::MAX);
-            self.machine.interrupt(cpu, Soft::Low, u32::MAX);
-        }
-    }
-
     /// A cyclic is removed, and another one is added in its place.
     fn replace(&mut self, place: usize) -> Result<(), Refusal> {
         let id = self.id(place)?;
-        self.removed(id);
+        self.machine.remove(id);
         let number = self.add()?;
         if let Some(there) = self.ids.get_mut(place) {
             *there = number;
@@ -128,10 +106,7 @@ impl Fleet {
             return Ok(());
         }
         let answer = self.machine.system.juggle(cpu);
-        match answer {
-            Ok(report) => self.machine.digest.add(u64::from(report.moved)),
-            Err(why) => self.machine.digest.add(u64::from(why.number())),
-        }
+        self.machine.juggled(answer);
         Ok(())
     }
 
@@ -145,7 +120,7 @@ impl Fleet {
         for cpu in 0..CPUS {
             self.machine.fire(cpu)?;
         }
-        self.drain();
+        self.machine.drain();
         if self.machine.random.below(16) == 0 {
             self.shift()?;
         }

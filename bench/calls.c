@@ -1,0 +1,135 @@
+/* What a caller in C pays for a call: a timer that is armed again, cyclics that come and go, and expirations at high level.
+ *
+ *     calls again N same|turn|random [ROUNDS]     the same one, each in turn, any of N
+ *     calls swing LOW HIGH PEAK [ROUNDS]          from LOW to HIGH cyclics and back, on a CPU that once had PEAK
+ *     calls fire N PEAK [ROUNDS]                  N that are left of PEAK, of one interval
+ *
+ * It prints the nanoseconds of a call, the least of the rounds: 15 where no number is given. */
+#include "cyclic.h"
+#include <stdio.h>
+#include <stdlib.h>
+#include <string.h>
+#include <time.h>
+
+#define START 1000000000
+#define CALLS 20000
+
+static cyclic_cpu cpu = CYCLIC_CLOSED;
+static uint64_t state = 88172645463325252ull;
+
+static uint64_t any(void)
+{
+    state ^= state << 13;
+    state ^= state >> 7;
+    state ^= state << 17;
+    return state;
+}
+
+static double now(void)
+{
+    struct timespec time;
+    clock_gettime(CLOCK_MONOTONIC, &time);
+    return time.tv_sec * 1e9 + time.tv_nsec;
+}
+
+static void check(uint32_t answer)
+{
+    if (answer != 0) {
+        fprintf(stderr, "calls: refused %u\n", answer);
+        exit(1);
+    }
+}
+
+static void add(uint64_t id, int64_t start)
+{
+    uint64_t busy, hand;
+    check(cyclic_add(&cpu, id, CYCLIC_HIGH, start, 1000, 0, &busy));
+    /* where the CPU grew, both soft sides follow */
+    cyclic_take(&cpu, CYCLIC_LOCK, &hand);
+    cyclic_take(&cpu, CYCLIC_LOW, &hand);
+}
+
+static void remove_now(uint64_t id)
+{
+    uint32_t kept;
+    cyclic_receipt receipt;
+    uint64_t busy;
+    check(cyclic_begin_remove(&cpu, id, &kept, &receipt, &busy));
+}
+
+/* The ids 1 to COUNT are there, on a CPU that had PEAK. */
+static void fill(uint64_t count, uint64_t peak)
+{
+    uint64_t top = peak > count ? peak : count;
+    for (uint64_t id = 1; id <= top; id++)
+        add(id, START);
+    for (uint64_t id = top; id > count; id--)
+        remove_now(id);
+}
+
+static long again(uint64_t count, char pattern)
+{
+    static int64_t moment = START;
+    for (long call = 0; call < CALLS; call++) {
+        uint64_t id = pattern == 's' ? count / 2 + 1 : pattern == 't' ? call % count + 1 : any() % count + 1;
+        moment += any() & 1023;
+        check(cyclic_reprogram(&cpu, id, moment));
+    }
+    return CALLS;
+}
+
+static long swing(uint64_t low, uint64_t high)
+{
+    static uint64_t next = 1000;
+    long calls = 0;
+    while (calls < CALLS) {
+        for (uint64_t id = low; id < high; id++)
+            add(next++, START + (any() & 0xffff));
+        for (uint64_t id = low; id < high; id++)
+            remove_now(--next);
+        next += high - low;
+        calls += 2 * (high - low);
+    }
+    return calls;
+}
+
+static long fire(void)
+{
+    static int64_t moment = START;
+    cyclic_fired fired;
+    long expired = 0;
+    while (expired < CALLS) {
+        moment += 1000;
+        for (;;) {
+            uint32_t answer = cyclic_fire(&cpu, moment, &fired);
+            expired += fired.expired;
+            if (answer == 0)
+                break;
+            if (answer != CYCLIC_HANDLER_REFUSED)
+                check(answer);
+        }
+    }
+    return expired;
+}
+
+int main(int count, char **words)
+{
+    if (count < 4)
+        return 2;
+    const char *job = words[1];
+    int is_swing = strcmp(job, "swing") == 0, is_fire = strcmp(job, "fire") == 0;
+    uint64_t first = strtoull(words[2], NULL, 10), peak = strtoull(words[is_swing ? 4 : 3], NULL, 10);
+    int rounds = count > 4 + is_swing ? atoi(words[4 + is_swing]) : 15;
+    double least = 1e18;
+    check(cyclic_cpu_open(UINT32_MAX, UINT64_MAX, &cpu));
+    fill(first, is_swing || is_fire ? peak : 0);
+    for (int round = 0; round < rounds; round++) {
+        double begin = now();
+        long calls = is_swing ? swing(first, strtoull(words[3], NULL, 10)) : is_fire ? fire() : again(first, words[3][0]);
+        double each = (now() - begin) / calls;
+        if (each < least)
+            least = each;
+    }
+    printf("%.2f\n", least);
+    return 0;
+}
