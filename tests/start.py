@@ -14,6 +14,7 @@ import sys
 # this folder has a random.py that is not the library's
 sys.path = [it for it in sys.path if os.path.abspath(it or ".") != os.path.dirname(os.path.abspath(__file__))]
 import shutil
+import re
 import signal
 import subprocess
 import tempfile
@@ -28,6 +29,8 @@ is() { [ "$(cat "$FAKE/does" 2> /dev/null)" = "$1" ]; }
 [ "$1" != try ] || { shift; echo "look $*"; cat; exit 3; }
 is hang && exec sleep 100
 is fail && exit 1
+[ "$1" != lib ] || exit 0
+is none && exit 1
 is change && echo changed > "$FAKE/crates/low/src/lib.rt"
 mkdir -p out
 is other && printf '#!/bin/sh\necho other\n' > "out/$crate" || cat > "out/$crate" <<PROGRAM
@@ -45,10 +48,11 @@ exec "out/$crate" "$@"
 WRONG = "usage: cyclic replay|run\n"
 FIRST = {
     name: f"{name}: proving and building the program first, with all that it stands on; "
-    f"./look {word} < SCRIPT runs it unproved in a minute\nthe kit's line\n"
+    f"./look {word} < SCRIPT runs it unproved in a minute\n"
     for name, word in (("cyclic_replay", "replay"), ("cyclic", "run"))
 }
-REPLAY, RUN = ["cyclic_replay: run"], ["cyclic: run -- replay"]
+PROVED = {"cyclic_replay": "proved 1 of 1: low, T\n", "cyclic": "proved 1 of 2: low, T\nproved 2 of 2: high, T\n"}
+REPLAY, RUN = ["low: lib", "cyclic_replay: run"], ["low: lib", "high: lib", "cyclic: run -- replay"]
 
 
 class Start:
@@ -67,7 +71,7 @@ class Start:
         os.chmod(f"{top}/kit/rt", 0o755)
         os.mkdir(f"{top}/tools")
         os.mkdir(f"{top}/scratch")
-        for name in ("cyclic", "look", "tools/is-built"):
+        for name in ("cyclic", "look", "tools/is-built", "tools/libs"):
             shutil.copy(f"{TOP}/{name}", f"{top}/{name}")
         self.env = {**os.environ, "FAKE": top, "PATH": f"{top}/kit:{os.environ['PATH']}", "TMPDIR": f"{top}/scratch"}
 
@@ -96,23 +100,23 @@ class Start:
         ran = subprocess.run([f"{self.top}/{script}", *words], input="script", capture_output=True, text=True, env=self.env, timeout=60)
         self.want(f"{name}, status", ran.returncode, status)
         self.want(f"{name}, output", ran.stdout, out)
-        self.want(f"{name}, words", ran.stderr, said)
+        self.want(f"{name}, words", re.sub(r"\b\d+m\d\d$", "T", ran.stderr, flags=re.M), said)
         self.want(f"{name}, calls", self.calls(), calls)
         self.want(f"{name}, left behind", os.listdir(f"{self.top}/scratch"), [])
 
     def builds(self, name, word="replay"):
         """A start that builds the program of the word first."""
         program, calls = ("cyclic", RUN) if word == "run" else ("cyclic_replay", REPLAY)
-        self.run(name, [word], 7, "cyclic run, script\n" if word == "run" else "cyclic_replay , script\n", FIRST[program], calls)
+        self.run(name, [word], 7, "cyclic run, script\n" if word == "run" else "cyclic_replay , script\n", FIRST[program] + PROVED[program], calls)
 
     def is_there(self, name, program, word="replay"):
         """A start of a program that is built."""
         self.run(name, [word], 7, f"{program}, script\n", "", [])
 
-    def fails(self, name, does):
+    def fails(self, name, does, said, calls):
         """A start whose program can't be built."""
         self.write("does", does)
-        self.run(name, ["run"], 4, "", FIRST["cyclic"] + "cyclic: not proved and built\n", RUN)
+        self.run(name, ["run"], 4, "", FIRST["cyclic"] + said + "cyclic: not proved and built\n", calls)
         os.remove(f"{self.top}/does")
 
     def is_left(self, group):
@@ -147,8 +151,9 @@ def tries(start):
         start.run(f"the words {words}", words, 1, "", WRONG, [])
     start.builds("first")
     start.is_there("again", "cyclic_replay ")
-    start.fails("not proved", "fail")
-    start.fails("another text", "other")
+    start.fails("not proved", "fail", "the kit's line\nlow: not proved\n", RUN[:1])
+    start.fails("another text", "other", PROVED["cyclic"] + "the kit's line\n", RUN)
+    start.fails("no program", "none", PROVED["cyclic"] + "the kit's line\n", RUN)
     shutil.rmtree(f"{start.top}/crates/cyclic/out", ignore_errors=True)
     start.builds("the other word", "run")
     start.is_there("the whole program for both", "cyclic replay")
@@ -183,7 +188,7 @@ def tries(start):
     start.write("crates/low/src/lib.rt", "no kit")
     os.remove(f"{start.top}/kit/rt")
     os.symlink("/bin/false", f"{start.top}/kit/rt")
-    start.run("no kit", ["run"], 4, "", FIRST["cyclic"].replace("the kit's line\n", "") + "cyclic: not proved and built\n", [])
+    start.run("no kit", ["run"], 4, "", FIRST["cyclic"] + "low: not proved\ncyclic: not proved and built\n", [])
 
 
 def main():
