@@ -18,19 +18,18 @@ pub trait HasId {
 /// The most things among which a look-up halves in a loop.
 const FEW: usize = 32;
 
-/// Where the thing of this id stands if no id between the first and it is left out: as far from the first as its number is. The
-/// last position where that is past the end.
+/// How far from the first thing that of this id stands if no id between the two is left out. Of a smaller id than the first this
+/// says nothing.
 #[inline(always)]
-fn guess<T: HasId>(things: &[T], id: CyclicId) -> usize
+fn distance<T: HasId>(things: &[T], id: CyclicId) -> u64
     requires { 0 < length things.now }
-    ensures { result < length things.now }
 {
-    let distance = id.number().saturating_sub(things[0].id().number());
-    distance.min((things.len() - 1) as u64) as usize
+    id.number().wrapping_sub(things[0].id().number())
 }
 
 /// Where the thing of this id stands, or where it would stand, by halving. O(log n), and takes no memory (our own; the kernel
 /// names a cyclic by its address). Ids mostly rise by one, so the first look mostly answers where none was taken out.
+#[inline(always)]
 pub fn search<T: HasId>(things: &[T], id: CyclicId) -> Result<usize, usize>
     requires { Rises T.id_of things.now }
     ensures found { IfOk result (IsAt T.id_of things.now id) }
@@ -39,10 +38,21 @@ pub fn search<T: HasId>(things: &[T], id: CyclicId) -> Result<usize, usize>
     if things.is_empty() {
         return Err(0);
     }
-    let guessed = guess(things, id);
-    if things[guessed].id().number() == id.number() {
-        return Ok(guessed);
+    let guessed = distance(things, id);
+    if guessed < things.len() as u64 && things[guessed as usize].id().number() == id.number() {
+        return Ok(guessed as usize);
     }
+    search_whole(things, id)
+}
+
+/// The same among at least one thing, with no guess.
+#[inline(never)]
+fn search_whole<T: HasId>(things: &[T], id: CyclicId) -> Result<usize, usize>
+    requires some { 0 < length things.now }
+    requires rises { Rises T.id_of things.now }
+    ensures found { IfOk result (IsAt T.id_of things.now id) }
+    ensures absent { IfErr result (IsGap T.id_of things.now id) }
+{
     let whole = Run {
         base: 0,
         size: things.len(),
@@ -62,7 +72,19 @@ pub fn search<T: HasId>(things: &[T], id: CyclicId) -> Result<usize, usize>
     }
 }
 
+/// The same where a hint was wrong, which mostly is right: out of its way.
+#[cold]
+#[inline(never)]
+fn search_anew<T: HasId>(things: &[T], id: CyclicId) -> Result<usize, usize>
+    requires { Rises T.id_of things.now }
+    ensures found { IfOk result (IsAt T.id_of things.now id) }
+    ensures absent { IfErr result (IsGap T.id_of things.now id) }
+{
+    search(things, id)
+}
+
 /// As `search`, with a look at the hinted position first: right whatever the hint is, and O(1) where the thing stands there.
+#[inline(always)]
 pub fn search_near<T: HasId>(things: &[T], id: CyclicId, hint: usize) -> Result<usize, usize>
     requires { Rises T.id_of things.now }
     ensures found { IfOk result (IsAt T.id_of things.now id) }
@@ -71,5 +93,5 @@ pub fn search_near<T: HasId>(things: &[T], id: CyclicId, hint: usize) -> Result<
     if hint < things.len() && things[hint].id().number() == id.number() {
         return Ok(hint);
     }
-    search(things, id)
+    search_anew(things, id)
 }

@@ -55,8 +55,9 @@ fn change_few(entries: &mut Vec<Entry>, held: usize, leaves: usize, index: Index
     put(entries, held, place, entry);
 }
 
-/// One of many has another moment.
-fn change_many(entries: &mut Vec<Entry>, leaves: usize, index: Index, moment: Moment)
+/// One of many has another moment. A fire calls this, so that in its loop over few the games take no place.
+#[inline(never)]
+pub(crate) fn change_many(entries: &mut Vec<Entry>, leaves: usize, index: Index, moment: Moment)
     requires leaves { leaves ≤ cyclics }
     requires index { index < leaves }
     requires tree { IsTree false 0 leaves entries.old.items }
@@ -69,22 +70,6 @@ fn change_many(entries: &mut Vec<Entry>, leaves: usize, index: Index, moment: Mo
     let position = usize::from(index.number());
     let entry = at_moment(&entries[position], moment);
     enter(entries, leaves, position, entry);
-}
-
-/// The last winner has another moment. A fire calls this, so that in the loop of one among few nothing has to outlast a call.
-#[cold]
-#[inline(never)]
-pub(crate) fn lower_winner(entries: &mut Vec<Entry>, leaves: usize, index: Index, moment: Moment)
-    requires leaves { leaves ≤ cyclics }
-    requires index { index < leaves }
-    requires tree { IsTree false 0 leaves entries.old.items }
-    ensures tree { IsTree false 0 leaves entries.new.items }
-    ensures changed { IsChanged leaves index (record (entry_at entries.old.items index) { moment = moment })
-        entries.old.items entries.new.items }
-    ensures valid { moment ≤ never }
-    ensures room { vec_capacity entries.new ≡ vec_capacity entries.old }
-{
-    change_many(entries, leaves, index, moment);
 }
 
 /// The expiration of this index has another moment.

@@ -111,14 +111,6 @@ impl Entry {
         Moment::new(nanoseconds).ok()
     }
 
-    /// The moment of an expiration that has one.
-    pub(crate) fn reached(&self) -> Moment
-        requires { self.now.moment ≤ never }
-        ensures { result ≡ self.now.moment }
-    {
-        Moment::new(self.moment as i64).unwrap()
-    }
-
     /// The id of the cyclic.
     pub(crate) fn id(&self) -> CyclicId
         ensures { result ≡ id_of self.now }

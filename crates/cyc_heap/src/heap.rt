@@ -12,7 +12,7 @@ ghost use Rattle.cyc_heap.specs.Few.{most_few, root_position, shown, IsTree};
 ghost use Rattle.cyc_heap.specs.Heap.{HeapView, new_heap, size_of, len_of, expiration_at, with_moment, pair_of, IsEmpty, IsLeast};
 
 use crate::between::{few_at_most, gather, play_few};
-use crate::changes::{add, change, lower_first, lower_winner, take};
+use crate::changes::{add, change, change_many, lower_first, take};
 use crate::entry::Entry;
 use crate::few::find;
 use crate::games::play_all;
@@ -162,19 +162,18 @@ impl ExpiryHeap {
         Some((first.index(), moment, first.id()))
     }
 
-    /// The root where its moment has come. None where that is later than `now`, and where no index is in use: one comparison tells
-    /// both, since the entry of a free index comes after every moment.
-    pub fn due_root(&self, now: Moment) -> Option<(Index, Moment, CyclicId)>
+    /// The root where its moment has come: its index, how long ago that was, in nanoseconds, and its id. None where the moment is
+    /// later than `now`, and where no index is in use: one subtraction tells both, since the entry of a free index comes after every
+    /// moment.
+    pub fn due_root(&self, now: Moment) -> Option<(Index, u64, CyclicId)>
         ensures none { IfNone result (IsEmpty self.now ⊎ ((i : ℕ) × (e : Expiration) × IsLeast self.now i e × (now < e.moment))) }
         ensures due { IfSome result (λ found. found.1 ≤ now) }
         ensures root { IfSome result (λ found. self.now.root ≡ Some found.0) }
-        ensures least { IfSome result (λ found. IsLeast self.now found.0 (record { moment = found.1; id = found.2 })) }
+        ensures least { IfSome result (λ found. IsLeast self.now found.0 (record { moment = now - found.1; id = found.2 })) }
     {
         let first = self.first();
-        if first.moment > now.nanoseconds() {
-            return None;
-        }
-        Some((first.index(), first.reached(), first.id()))
+        let ago = now.nanoseconds().checked_sub(first.moment)?;
+        Some((first.index(), ago, first.id()))
     }
 
     /// The entry at the root, which may be that of a free index.
@@ -200,7 +199,7 @@ impl ExpiryHeap {
             return;
         }
         let index = self.entries[self.root].index();
-        lower_winner(&mut self.entries, self.leaves, index, moment);
+        change_many(&mut self.entries, self.leaves, index, moment);
     }
 
     /// Gives the expiration of this index another moment, earlier or later (`cyclic_reprogram_cyclic`).

@@ -1,6 +1,6 @@
 //! One fire: every expiration that is due, in order.
 
-ghost use Rattle.std.specs.Prelude.{◌≡◌, ℕ, ◌+◌, ◌<◌, ◌≤◌, ◌++◌, ◌∷◌, [], length, min, All, List, Some, IfOk, IfErr, OnOk, OnErr};
+ghost use Rattle.std.specs.Prelude.{◌≡◌, ℕ, ◌+◌, ◌-◌, ◌<◌, ◌≤◌, ◌++◌, ◌∷◌, [], length, min, All, List, Some, IfOk, IfErr, OnOk, OnErr};
 ghost use Rattle.std.specs.Bool.{OnTrue, OnFalse};
 ghost use Rattle.cyc_types.specs.Series.{due, next, never, late};
 ghost use Rattle.cyc_types.specs.Firing.{MayRaise, Sound};
@@ -34,22 +34,23 @@ fn is_late(passed: u64, interval: u64) -> bool
     passed > LATE && passed - LATE > interval
 }
 
-/// The expiration after one that is due (the loop of `cyclic_fire`).
-fn following(moment: Moment, interval: Interval, now: Moment) -> Moment
-    requires due { moment ≤ now }
+/// The expiration after one that was due so long ago (the loop of `cyclic_fire`).
+fn following(ago: u64, interval: Interval, now: Moment) -> Moment
+    requires due { ago ≤ now }
     requires now { now < never }
-    ensures due { due moment interval now ≡ 1 + due result interval now }
-    ensures next { next moment interval now ≡ next result interval now }
-    ensures follows { 0 < due result interval now → result ≡ moment + interval }
-    ensures later { moment ≤ result }
+    ensures due { due (now - ago) interval now ≡ 1 + due result interval now }
+    ensures next { next (now - ago) interval now ≡ next result interval now }
+    ensures follows { 0 < due result interval now → result ≡ now - ago + interval }
+    ensures later { now - ago ≤ result }
     ensures bound { result ≤ never }
 {
-    let passed = now.nanoseconds() - moment.nanoseconds();
+    let moment = now.nanoseconds() - ago;
     let length = interval.nanoseconds();
-    if is_late(passed, length) {
-        return next(moment, interval, now);
+    if is_late(ago, length) {
+        let then = nearest_moment(moment);
+        return next(then, interval, now);
     }
-    nearest_moment(moment.nanoseconds() + length)
+    nearest_moment(moment + length)
 }
 
 /// Raises a cyclic once, and says how many expirations were lost.
@@ -178,7 +179,7 @@ pub fn fire_all<C: Calls, R: Raise>(
     let mut lost = 0;
     while let Some(root) = table.due_root(now) {
         let index = root.0;
-        let moment = root.1;
+        let ago = root.1;
         let id = root.2;
         let kept = table.record(index);
         let count = kept.expired;
@@ -204,7 +205,7 @@ pub fn fire_all<C: Calls, R: Raise>(
         };
         table.expire_root(
             index,
-            following(moment, interval, now),
+            following(ago, interval, now),
             count + 1,
             before + more,
         );

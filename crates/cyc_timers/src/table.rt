@@ -220,13 +220,14 @@ impl Table {
         self.heap.root()
     }
 
-    /// The cyclic that expires first, as `root` gives it, where it is due. None where none is. O(1).
-    pub fn due_root(&self, now: Moment) -> Option<(Index, Moment, CyclicId)>
+    /// The cyclic that expires first where it is due: its index, how long ago its moment came, in nanoseconds, and its id. None where
+    /// none is due. O(1).
+    pub fn due_root(&self, now: Moment) -> Option<(Index, u64, CyclicId)>
         ensures none { IfNone result (All (λ t. now < t.moment) (timers_of self.now.rows)) }
         ensures due { IfSome result (λ found. found.1 ≤ now) }
         ensures root { IfSome result (λ found. self.now.root ≡ Some found.0) }
         ensures first { IfSome result (λ found. (k : ℕ) × (r : Row) × IsRow self.now.rows k r × (r.index ≡ found.0)
-            × (r.timer.moment ≡ found.1) × (r.timer.id ≡ found.2) × IsFirstAt self.now.rows k) }
+            × (r.timer.moment ≡ now - found.1) × (r.timer.id ≡ found.2) × IsFirstAt self.now.rows k) }
     {
         self.heap.due_root(now)
     }

@@ -1,4 +1,4 @@
-use Rattle.std.proofs.Common.{◌<◌, [], ◌∷◌, ◌++◌, length, refl, sym, ap, ◌∙◌, subst, arith, length-append}
+use Rattle.std.proofs.Common.{◌<◌, ◌-◌, [], ◌∷◌, ◌++◌, length, refl, sym, ap, ◌∙◌, subst, arith, length-append}
 use Rattle.std.proofs.lemmas.List.Elements.{recursion_from_All}
 use Rattle.cyc_types.specs.Expirations.{next_of}
 use Rattle.cyc_types.specs.Timers.{Timer}
@@ -35,7 +35,7 @@ loop-root-init g c =
 pub loop-root-smaller : goal.loop-root-smaller
 loop-root-smaller g c =
     let (k, r, is, at, moment, named, first) = c.in-Some.ensures.first in
-    less_left c.args.now c.loop-root.table.rows c.expire_root.new.self.rows c.in-Ok.more c.following.result k c.in-Some.root.1 r
+    less_left c.args.now c.loop-root.table.rows c.expire_root.new.self.rows c.in-Ok.more c.following.result k (c.args.now - c.in-Some.root.1) r
     c.record-kept.result is first moment (c.record-kept.ensures k r is at)
     (record {
       due_is = c.following.ensures.due;
@@ -58,9 +58,9 @@ loop-root-preserved g c =
     c.loop-root.table.rows c.expire_root.new.self.rows
     (record { calls = c.loop-root.calls; lock = c.loop-root.lock; low = c.loop-root.low })
     (record { calls = c.expire_at.new.calls; lock = c.expire_at.new.lock; low = c.expire_at.new.low })
-    c.loop-root.lost c.in-Ok.more c.following.result k c.in-Some.root.1 c.in-Some.root.2 r c.record-kept.result
+    c.loop-root.lost c.in-Ok.more c.following.result k (c.args.now - c.in-Some.root.1) c.in-Some.root.2 r c.record-kept.result
     (record { rising = i.rising; sound = i.sound; ready = i.ready; fires = f; makes = makes; few = few })
-    c.law.ensures.rising is first moment named (c.record-kept.ensures k r is at) c.in-Some.ensures.due c.requires.now
+    c.law.ensures.rising is first moment named (c.record-kept.ensures k r is at) (omega arith) c.requires.now
     c.if-count-most.false
     (record {
       due_is = c.following.ensures.due;
@@ -108,8 +108,8 @@ returns-then-count-most-clause-refused g c =
     let (k, r, is, at, moment, named, first) = c.in-Some.ensures.first in
     let i = c.loop-root.invariant in
     let (made, long, f, makes, few) = i.made in
-    let (rest, whole) = front c.args.now made (timers_of c.args.table.now.rows) c.loop-root.table.rows k c.in-Some.root.1 r f is
-    first moment c.in-Some.ensures.due in
+    let (rest, whole) = front c.args.now made (timers_of c.args.table.now.rows) c.loop-root.table.rows k (c.args.now - c.in-Some.root.1) r f is
+    first moment (omega arith) in
     let kept = c.record-kept.ensures k r is at in
     let spent = c.if-count-most.true in (
       made,
@@ -128,8 +128,8 @@ returns-in-Err-clause-refused g c =
     let (k, r, is, at, moment, named, first) = c.in-Some.ensures.first in
     let i = c.loop-root.invariant in
     let (made, long, f, makes, few) = i.made in
-    let (rest, whole) = front c.args.now made (timers_of c.args.table.now.rows) c.loop-root.table.rows k c.in-Some.root.1 r f is
-    first moment c.in-Some.ensures.due in
+    let (rest, whole) = front c.args.now made (timers_of c.args.table.now.rows) c.loop-root.table.rows k (c.args.now - c.in-Some.root.1) r f is
+    first moment (omega arith) in
     let kept = c.record-kept.ensures k r is at in
     let h = c.in-Err.ensures in
     let same_lock = h.lock in let same_low = h.low in (

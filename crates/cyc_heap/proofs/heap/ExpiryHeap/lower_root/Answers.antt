@@ -61,8 +61,8 @@ returns-then-held-gt0-clause-slots c =
     (slots_after i.is_few i.held i.root i.leaves i.size i.given es i.free.items c.self.invariant.0 c.self.invariant.1
     i.room c.args.self.now c.self.view_is x has new c.args.moment f.valid changed after)
 
-pub lower_winner-requires-clause-index : goal.lower_winner-requires-clause-index
-lower_winner-requires-clause-index c =
+pub change_many-requires-clause-index : goal.change_many-requires-clause-index
+change_many-requires-clause-index c =
     let i = c.self.inside in
     let es = i.entries.items in
     let x = c.index.result.now in
@@ -89,8 +89,8 @@ invariant_of-self-2 c =
     let own = leaf_is i.is_few i.held i.root i.leaves i.size i.given es i.free.items c.self.invariant.0
     c.self.invariant.1 i.room c.args.self.now c.self.view_is many c.requires x
     (get_or_default es i.root nowhere x low ∙ sym c.index.ensures) in
-    let f = c.lower_winner.ensures in
-    let new = c.lower_winner.new.entries.items in
+    let f = c.change_many.ensures in
+    let new = c.change_many.new.entries.items in
     let named = subst (λ n. IsChanged i.leaves n (record (entry_at es n) { moment = c.args.moment }) es new) c.index-index.ensures
     f.changed in
     let leaf = subst (λ e. IsChanged i.leaves (index_of x) (record e { moment = c.args.moment }) es new) own named in
@@ -122,8 +122,8 @@ returns-clause-slots c =
     let own = leaf_is i.is_few i.held i.root i.leaves i.size i.given es i.free.items c.self.invariant.0
     c.self.invariant.1 i.room c.args.self.now c.self.view_is many c.requires x
     (get_or_default es i.root nowhere x low ∙ sym c.index.ensures) in
-    let f = c.lower_winner.ensures in
-    let new = c.lower_winner.new.entries.items in
+    let f = c.change_many.ensures in
+    let new = c.change_many.new.entries.items in
     let named = subst (λ n. IsChanged i.leaves n (record (entry_at es n) { moment = c.args.moment }) es new) c.index-index.ensures
     f.changed in
     let leaf = subst (λ e. IsChanged i.leaves (index_of x) (record e { moment = c.args.moment }) es new) own named in

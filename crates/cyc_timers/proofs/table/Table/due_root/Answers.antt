@@ -1,4 +1,4 @@
-use Rattle.std.proofs.Common.{◌≡◌, ℕ, ◌<◌, ◌⊎◌, inl, inr, List, length, get_or, Option, Some, None, All, IfNone, IfSome, sym, ◌∙◌}
+use Rattle.std.proofs.Common.{◌≡◌, ℕ, ◌-◌, ◌<◌, ◌⊎◌, inl, inr, List, length, get_or, Option, Some, None, All, IfNone, IfSome, sym, ◌∙◌}
 use Rattle.std.proofs.Common.{subst, arith}
 use Rattle.cyc_types.specs.Expirations.{Expiration}
 use Rattle.cyc_types.specs.Timers.{Timer}
@@ -34,9 +34,18 @@ returns-clause-none c =
     (none_due c.self.inside.heap c.self.inside.records.items c.self.inside.entries.items c.self.invariant.0 c.args.now
     c.due_root.result c.due_root.ensures.none)
 
+-- of the root of the heap the row
+first_is : (h : HeapView) (records : List Record) (entries : List Entry) → IsTable h.slots records entries
+    → (now : ℕ) (o : Option (ℕ × ℕ × ℕ))
+    → IfSome o (λ found. IsLeast h found.0 (record { moment = now - found.1; id = found.2 }))
+    → IfSome o (λ found. (k : ℕ) × (r : Row) × IsRow (rows_of h.slots records entries) k r × (r.index ≡ found.0)
+        × (r.timer.moment ≡ now - found.1) × (r.timer.id ≡ found.2) × IsFirstAt (rows_of h.slots records entries) k)
+first_is h records entries t now None is = tt
+first_is h records entries t now (Some found) is = root_is h records entries t (Some (found.0, now - found.1, found.2)) is
+
 pub returns-clause-first : goal.returns-clause-first
 returns-clause-first c =
     subst (λ (v : TableView). IfSome c.due_root.result (λ found. (k : ℕ) × (r : Row) × IsRow v.rows k r × (r.index ≡ found.0)
-    × (r.timer.moment ≡ found.1) × (r.timer.id ≡ found.2) × IsFirstAt v.rows k)) c.self.view_is
-    (root_is c.self.inside.heap c.self.inside.records.items c.self.inside.entries.items c.self.invariant.0 c.due_root.result
-    c.due_root.ensures.least)
+    × (r.timer.moment ≡ c.args.now - found.1) × (r.timer.id ≡ found.2) × IsFirstAt v.rows k)) c.self.view_is
+    (first_is c.self.inside.heap c.self.inside.records.items c.self.inside.entries.items c.self.invariant.0 c.args.now
+    c.due_root.result c.due_root.ensures.least)
