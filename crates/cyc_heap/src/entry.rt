@@ -58,7 +58,7 @@ impl Word {
     fn id(self) -> CyclicId
         ensures { result ≡ self / cyclics }
     {
-        CyclicId::new(self.bits / BASE).unwrap_or(CyclicId::LAST)
+        CyclicId::new(self.bits / BASE).unwrap()
     }
 
     fn index(self) -> Index

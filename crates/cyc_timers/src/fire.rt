@@ -181,11 +181,8 @@ pub fn fire_all<C: Calls, R: Raise>(
         let index = root.0;
         let ago = root.1;
         let id = root.2;
-        let kept = table.record(index);
-        let count = kept.expired;
-        let level = kept.level;
-        let interval = kept.interval;
-        let before = kept.lost;
+        let found = table.record(index);
+        let count = found.expired;
         if count >= most {
             return Err(FireRefused {
                 why: Refusal::CountSpent(id),
@@ -193,7 +190,7 @@ pub fn fire_all<C: Calls, R: Raise>(
                 lost,
             });
         }
-        let more = match expire_at(id, level, calls, lock, low) {
+        let more = match expire_at(id, found.level, calls, lock, low) {
             Ok(more) => more,
             Err(Refused) => {
                 return Err(FireRefused {
@@ -203,11 +200,13 @@ pub fn fire_all<C: Calls, R: Raise>(
                 });
             }
         };
+        // read here, the interval and the counts need not outlast the call
+        let kept = table.record(index);
         table.expire_root(
             index,
-            following(ago, interval, now),
-            count + 1,
-            before + more,
+            following(ago, kept.interval, now),
+            kept.expired + 1,
+            kept.lost + more,
         );
         expired += 1;
         lost += more;

@@ -51,6 +51,9 @@ pub loop-root-preserved : goal.loop-root-preserved
 loop-root-preserved g c =
     let (k, r, is, at, moment, named, first) = c.in-Some.ensures.first in
     let i = c.loop-root.invariant in
+    let found = c.record-found.ensures k r is at in let kept = c.record-kept.ensures k r is at in
+    let count : c.record-kept.result.expired < c.args.most =
+    (let e = found.2 in let same = kept.2 in let below = c.if-count-most.false in omega (arith, e, same, below)) in
     let (made, long, f, makes, few) = i.made in
     let t = turn_written (at_level g.C.Calls.called High) g.C.Calls.count g.R.Raise c.args.now
     c.loop-root.table.size c.args.most (g.R.Raise.view c.args.lock.now).marked (g.R.Raise.view c.args.low.now).marked
@@ -58,10 +61,16 @@ loop-root-preserved g c =
     c.loop-root.table.rows c.expire_root.new.self.rows
     (record { calls = c.loop-root.calls; lock = c.loop-root.lock; low = c.loop-root.low })
     (record { calls = c.expire_at.new.calls; lock = c.expire_at.new.lock; low = c.expire_at.new.low })
-    c.loop-root.lost c.in-Ok.more c.following.result k (c.args.now - c.in-Some.root.1) c.in-Some.root.2 r c.record-kept.result
+    c.loop-root.lost c.in-Ok.more c.following.result k (c.args.now - c.in-Some.root.1) c.in-Some.root.2 r
+    (record {
+      level = c.record-found.result.level;
+      interval = c.record-kept.result.interval;
+      expired = c.record-kept.result.expired;
+      lost = c.record-kept.result.lost;
+      carried = c.record-kept.result.carried;
+    })
     (record { rising = i.rising; sound = i.sound; ready = i.ready; fires = f; makes = makes; few = few })
-    c.law.ensures.rising is first moment named (c.record-kept.ensures k r is at) (omega arith) c.requires.now
-    c.if-count-most.false
+    c.law.ensures.rising is first moment named (found.0, kept.1, kept.2, kept.3, kept.4) (omega arith) c.requires.now count
     (record {
       due_is = c.following.ensures.due;
       next_is = c.following.ensures.next;
@@ -110,7 +119,7 @@ returns-then-count-most-clause-refused g c =
     let (made, long, f, makes, few) = i.made in
     let (rest, whole) = front c.args.now made (timers_of c.args.table.now.rows) c.loop-root.table.rows k (c.args.now - c.in-Some.root.1) r f is
     first moment (omega arith) in
-    let kept = c.record-kept.ensures k r is at in
+    let kept = c.record-found.ensures k r is at in
     let spent = c.if-count-most.true in (
       made,
       next_of r.timer,
@@ -130,7 +139,7 @@ returns-in-Err-clause-refused g c =
     let (made, long, f, makes, few) = i.made in
     let (rest, whole) = front c.args.now made (timers_of c.args.table.now.rows) c.loop-root.table.rows k (c.args.now - c.in-Some.root.1) r f is
     first moment (omega arith) in
-    let kept = c.record-kept.ensures k r is at in
+    let kept = c.record-found.ensures k r is at in
     let h = c.in-Err.ensures in
     let same_lock = h.lock in let same_low = h.low in (
       made,
