@@ -1,6 +1,7 @@
 //! Halving over things by rising id, where they are many with no branch that an id decides.
 
 ghost use Rattle.std.specs.Prelude.{◌≤◌, ◌<◌, ◌+◌, ◌≡◌, ◌⊎◌, length};
+ghost use Rattle.std.specs.Bool.{OnTrue, OnFalse};
 ghost use Rattle.cyc_finder.specs.Sorted.{Rises};
 ghost use Rattle.cyc_finder.specs.Halving.{IsIn, IsUpTo, IsAbove};
 
@@ -14,6 +15,16 @@ pub(crate) struct Run {
     pub(crate) size: usize,
 }
 
+/// Whether the thing at this position has at most this id.
+#[inline(always)]
+pub(crate) fn is_up_to<T: HasId>(things: &[T], id: CyclicId, position: usize) -> bool
+    requires { position < length things.now }
+    ensures most { OnTrue result (IsUpTo T.id_of things.now id position) }
+    ensures above { OnFalse result (IsAbove T.id_of things.now id position) }
+{
+    things[position].id().number() <= id.number()
+}
+
 /// One of two positions: the upper one where the thing at `middle` has at most this id, else the lower one.
 #[inline(always)]
 fn reach<T: HasId>(things: &[T], id: CyclicId, middle: usize, lower: usize, upper: usize) -> usize
@@ -21,7 +32,7 @@ fn reach<T: HasId>(things: &[T], id: CyclicId, middle: usize, lower: usize, uppe
     ensures { (IsUpTo T.id_of things.now id middle × (result ≡ upper))
         ⊎ (IsAbove T.id_of things.now id middle × (result ≡ lower)) }
 {
-    if things[middle].id().number() <= id.number() {
+    if is_up_to(things, id, middle) {
         upper
     } else {
         lower

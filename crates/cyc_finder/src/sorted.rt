@@ -1,9 +1,10 @@
 //! The look-up by id among things by rising id.
 
-ghost use Rattle.std.specs.Prelude.{◌≡◌, ℕ, ◌<◌, length, IfOk, IfErr};
+ghost use Rattle.std.specs.Prelude.{◌≡◌, ℕ, ◌<◌, ◌≤◌, length, IfOk, IfErr};
 ghost use Rattle.cyc_finder.specs.Sorted.{Rises, IsAt, IsGap};
+ghost use Rattle.cyc_finder.specs.Halving.{IsIn};
 
-use crate::halving::{Run, halve_few, narrow_many};
+use crate::halving::{Run, halve_few, is_up_to, narrow_many};
 use cyc_types::CyclicId;
 
 /// A thing that has the id of a cyclic.
@@ -28,7 +29,8 @@ fn distance<T: HasId>(things: &[T], id: CyclicId) -> u64
 }
 
 /// Where the thing of this id stands, or where it would stand, by halving. O(log n), and takes no memory (our own; the kernel
-/// names a cyclic by its address). Ids mostly rise by one, so the first look mostly answers where none was taken out.
+/// names a cyclic by its address). Ids mostly rise by one, so the first look mostly answers where none was taken out; the second is at
+/// the last thing, since the next that comes has a greater id than all.
 #[inline(always)]
 pub fn search<T: HasId>(things: &[T], id: CyclicId) -> Result<usize, usize>
     requires { Rises T.id_of things.now }
@@ -42,10 +44,36 @@ pub fn search<T: HasId>(things: &[T], id: CyclicId) -> Result<usize, usize>
     if guessed < things.len() as u64 && things[guessed as usize].id().number() == id.number() {
         return Ok(guessed as usize);
     }
+    let last = things.len() - 1;
+    if is_up_to(things, id, last) {
+        let alone = Run {
+            base: last,
+            size: 1,
+        };
+        return settled(things, id, alone);
+    }
     search_whole(things, id)
 }
 
-/// The same among at least one thing, with no guess.
+/// What a look-up says that has come to one thing: this has the id, or the id would stand beside it.
+#[inline(always)]
+fn settled<T: HasId>(things: &[T], id: CyclicId, run: Run) -> Result<usize, usize>
+    requires here { IsIn T.id_of things.now id run.base run.size }
+    requires one { run.size ≤ 1 }
+    ensures found { IfOk result (IsAt T.id_of things.now id) }
+    ensures absent { IfErr result (IsGap T.id_of things.now id) }
+{
+    let there = things[run.base].id().number();
+    if there == id.number() {
+        Ok(run.base)
+    } else if there < id.number() {
+        Err(run.base + 1)
+    } else {
+        Err(run.base)
+    }
+}
+
+/// As `search`, among at least one thing, by halving alone.
 #[inline(never)]
 fn search_whole<T: HasId>(things: &[T], id: CyclicId) -> Result<usize, usize>
     requires some { 0 < length things.now }
@@ -62,17 +90,10 @@ fn search_whole<T: HasId>(things: &[T], id: CyclicId) -> Result<usize, usize>
     } else {
         halve_few(things, id, whole)
     };
-    let there = things[run.base].id().number();
-    if there == id.number() {
-        Ok(run.base)
-    } else if there < id.number() {
-        Err(run.base + 1)
-    } else {
-        Err(run.base)
-    }
+    settled(things, id, run)
 }
 
-/// The same where a hint was wrong, which mostly is right: out of its way.
+/// As `search`, where a hint was wrong, which mostly is right: out of its way.
 #[cold]
 #[inline(never)]
 fn search_anew<T: HasId>(things: &[T], id: CyclicId) -> Result<usize, usize>
