@@ -1,7 +1,7 @@
 #!/usr/bin/env bash
 # Tries the proved facility inside programs in C, C++ and Rust: every function of include/cyclic.h with good and bad arguments,
 # under valgrind and the sanitizers, on one thread and between three, with each request for memory refused once; the Rust crate with its worked runs; and the
-# programs of docs/embedding.md. With EMBED_BUILT set it takes the library as it was built before.
+# programs of docs/embedding.md; and examples/kernel. With EMBED_BUILT set it takes the library as it was built before.
 set -u
 cd "$(dirname "$0")/.."
 failed=0
@@ -86,6 +86,31 @@ if have cc gcc; then
   build pair_threads pair -pthread -fsanitize=thread
   passes "pair with the sanitizer of threads" "$work/pair_threads" 100000
   passes "the ticker" env EMBED_BUILT=1 examples/embed/ticker 1
+fi
+# The kernel: two runs of it, one with soft sides that are starved, one that steps, and the stack of each call, which may be no deeper than
+# docs/embedding.md says.
+kernel() {
+  passes "the kernel: $*" env EMBED_BUILT=1 examples/kernel/run "$@"
+  if [ "$(tail -n 1 "$work/out")" != "kernel: all sums are equal" ]; then
+    echo "embed: the kernel: $*: its sums aren't equal"
+    failed=1
+  fi
+}
+if have cc gcc && have qemu-system-x86_64 qemu-system-x86; then
+  kernel run 3 1
+  kernel run 3
+  kernel starved 1
+  kernel stepped
+  kernel stack
+  if ! awk 'NR == FNR { for (k = 2; k < NF; k += 2) if (gsub(/[` ]/, "", $k)) most[$k] = $(k + 1) + 0; next }
+            $1 ~ /^cyclic_/ { seen++; if (!($1 in most) || $2 > most[$1]) { print "embed: " $1 " is " $2 " bytes deep"; bad = 1 } }
+            END { exit bad || seen != 29 }' FS='|' docs/embedding.md FS=' ' "$work/out"; then
+    echo "embed: the stack is not as docs/embedding.md says"
+    failed=1
+  fi
+fi
+if have objdump binutils; then
+  passes "the library's instructions" tests/embed/instructions "$archive"
 fi
 if have c++ g++; then
   passes "compiling cpu as C++" c++ -std=c++17 -Wall -Wextra -Wpedantic -Werror -Iinclude -x c++ tests/embed/cpu.c -x none -o "$work/cpu_cpp" "$archive" "$heap"
