@@ -19,6 +19,19 @@
  *
  * No function here calls a handler, waits or takes a lock; those that take memory say so. Every one answers 0 where it is done,
  * and else the number of its refusal. A refused call changes nothing, where its text says nothing else.
+ *
+ * Where each call may stand is said at its end, and for all calls together in docs/theory.md. An interrupt of a kernel counts as a
+ * thread of its own here, and so does each soft interrupt: what it interrupts, between any two instructions, is a call that another thread
+ * has begun. A place is one of these:
+ *
+ *   - Alone: no side of the CPU is in use. The call takes memory or gives it back, so it stands in no interrupt that may come in the
+ *     middle of the program's malloc, realloc or free.
+ *   - The CPU's thread, for a cyclic_cpu: whoever has the CPU. No other call on this CPU runs meanwhile, so an interrupt that fires is
+ *     held off.
+ *   - The firing side: whoever has the cyclic_firing. In a kernel the timer's interrupt, at the highest of the three levels; elsewhere
+ *     with that interrupt held off. Both soft sides may be inside a call meanwhile, or come in the middle of this one.
+ *   - A soft side: whoever has the cyclic_soft. In a kernel the soft interrupt of that level. The firing side may make any of its calls
+ *     meanwhile, in the middle of this one too, and so may the other soft side.
  */
 #ifndef CYCLIC_H
 #define CYCLIC_H
@@ -89,12 +102,14 @@ typedef struct cyclic_receipt {
  * Opens a CPU with no cyclic. `ceiling` is the greatest pend of a cyclic at a soft level, from 1 on: an expiration that finds
  * that many calls outstanding is lost, and counted. No cyclic expires more than `most` times, from 1 on.
  * Takes memory. Refuses with CYCLIC_MISUSED where the handle is open, or a number is 0; then with CYCLIC_MEMORY.
+ * Stands alone.
  */
 uint32_t cyclic_cpu_open(uint32_t ceiling, uint64_t most, cyclic_cpu *cpu);
 
 /*
  * Closes the CPU and gives its memory back, also where calls are outstanding, which are then never handed out.
  * Refuses with CYCLIC_MISUSED where it is closed.
+ * Stands alone: no interrupt fires any more.
  */
 uint32_t cyclic_cpu_close(cyclic_cpu *cpu);
 
@@ -105,6 +120,7 @@ uint32_t cyclic_cpu_close(cyclic_cpu *cpu);
  * Refuses with CYCLIC_MISUSED where the level or the id is none, then CYCLIC_BAD_WHEN for the start, CYCLIC_BAD_INTERVAL,
  * CYCLIC_BAD_WHEN for a negative `now`, CYCLIC_TAKEN, CYCLIC_BAD_NOW, CYCLIC_FULL, and where the size must double CYCLIC_BUSY,
  * CYCLIC_EXPANDING and CYCLIC_MEMORY. `*busy` gets the id of the open removal where it is busy, else 0.
+ * Stands in the CPU's thread, outside of interrupts since it takes memory, and in no handler of a high cyclic.
  */
 uint32_t cyclic_add(cyclic_cpu *cpu, uint64_t id, uint32_t level, int64_t start, int64_t interval, int64_t now,
                     uint64_t *busy);
@@ -112,6 +128,7 @@ uint32_t cyclic_add(cyclic_cpu *cpu, uint64_t id, uint32_t level, int64_t start,
 /*
  * Gives the cyclic another next expiration, and changes nothing else (cyclic_reprogram).
  * Refuses with CYCLIC_BAD_WHEN where the moment is negative, then with CYCLIC_NO_CYCLIC.
+ * Stands in the CPU's thread, and in no handler of a high cyclic.
  */
 uint32_t cyclic_reprogram(cyclic_cpu *cpu, uint64_t id, int64_t moment);
 
@@ -121,12 +138,14 @@ uint32_t cyclic_reprogram(cyclic_cpu *cpu, uint64_t id, int64_t moment);
  * until they are made: go on with cyclic_take and cyclic_finish, and poll it. One removal may be open.
  * Refuses with CYCLIC_NO_CYCLIC, also for a cyclic whose removal has answered; then with CYCLIC_BUSY, and `*busy` gets the id
  * of the open removal, which may be this one. Where it does not refuse so, `*busy` is 0.
+ * Stands in the CPU's thread, and in no handler of a high cyclic. Other calls may stand between it and the answer.
  */
 uint32_t cyclic_begin_remove(cyclic_cpu *cpu, uint64_t id, uint32_t *kept, cyclic_receipt *receipt, uint64_t *busy);
 
 /*
  * Ends the open removal where the last of its calls was made: `*receipt` has its counts. Else the receipt's id is 0: calls are
  * outstanding, or no removal is open. Once it has answered, no call of the cyclic is handed out.
+ * Stands in the CPU's thread, and in no handler of a high cyclic.
  */
 uint32_t cyclic_poll_remove(cyclic_cpu *cpu, cyclic_receipt *receipt);
 
@@ -140,6 +159,8 @@ uint32_t cyclic_poll_remove(cyclic_cpu *cpu, cyclic_receipt *receipt);
  * this CPU.
  * Refuses with CYCLIC_BAD_WHEN where `now` is negative, and `*fired` stays; with CYCLIC_BAD_NOW; and with CYCLIC_COUNT_SPENT
  * at an expiration of a cyclic that has expired as often as it may, `fired->id`: those before it were made and are counted.
+ * Stands in the CPU's thread: in the timer's interrupt where this comes between the other calls on the CPU and never in the middle of
+ * one. The handlers of high cyclics stand in the fire.
  */
 uint32_t cyclic_fire(cyclic_cpu *cpu, int64_t now, cyclic_fired *fired);
 
@@ -147,27 +168,32 @@ uint32_t cyclic_fire(cyclic_cpu *cpu, int64_t now, cyclic_fired *fired);
  * Takes the cyclic whose handler is to be called next at this soft level, in the order in which they were raised: `*id` is its
  * id, or 0 where no call waits. The caller calls its handler and then cyclic_finish; a take before that answers the same.
  * Refuses with CYCLIC_MISUSED where the level is no soft level, and `*id` stays.
+ * Stands in the CPU's thread, and in no handler of a high cyclic. A fire may come between a take and its finish.
  */
 uint32_t cyclic_take(cyclic_cpu *cpu, uint32_t level, uint64_t *id);
 
 /*
  * Counts the call that was taken at this soft level. The caller owes: its handler has been called once since the take.
  * Refuses with CYCLIC_MISUSED where the level is no soft level, or nothing was taken there.
+ * Stands where cyclic_take does.
  */
 uint32_t cyclic_finish(cyclic_cpu *cpu, uint32_t level);
 
 /*
  * The calls of the cyclic that are outstanding, 0 at high level. Refuses with CYCLIC_NO_CYCLIC, and `*pending` is 0.
+ * Stands in the CPU's thread, and in no handler of a high cyclic.
  */
 uint32_t cyclic_pending(cyclic_cpu *cpu, uint64_t id, uint32_t *pending);
 
 /*
- * The counts of the cyclic. Refuses with CYCLIC_NO_CYCLIC, and `*totals` stays.
+ * The counts of the cyclic, also while its removal is open. Refuses with CYCLIC_NO_CYCLIC, and `*totals` stays.
+ * Stands in the CPU's thread, and in no handler of a high cyclic.
  */
 uint32_t cyclic_totals(cyclic_cpu *cpu, uint64_t id, cyclic_totals_of *totals);
 
 /*
  * The least expiration of all cyclics, CYCLIC_NEVER where there is none: the moment at which to fire.
+ * Stands in the CPU's thread, and in no handler of a high cyclic.
  */
 uint32_t cyclic_next(cyclic_cpu *cpu, int64_t *moment);
 
@@ -208,6 +234,7 @@ typedef struct cyclic_book_of {
 /*
  * Opens a CPU with no cyclic for three threads. As cyclic_cpu_open; refuses with CYCLIC_MISUSED where one of the handles is open.
  * Takes all the memory that the soft levels will use.
+ * Stands alone.
  */
 uint32_t cyclic_open(uint32_t ceiling, uint64_t most, cyclic_firing *firing, cyclic_soft *lock, cyclic_soft *low);
 
@@ -216,21 +243,24 @@ uint32_t cyclic_open(uint32_t ceiling, uint64_t most, cyclic_firing *firing, cyc
  * cyclic_open, and no other thread uses one of them any more.
  * Refuses with CYCLIC_MISUSED where one of them is closed or the books are open; takes memory for the books, and refuses with
  * CYCLIC_MEMORY where there is none. Then nothing is changed, and it may be called again.
+ * Stands alone: no interrupt uses one of the sides any more. Its stack is the deepest of all (docs/embedding.md).
  */
 uint32_t cyclic_close(cyclic_firing *firing, cyclic_soft *lock, cyclic_soft *low, cyclic_books *books);
 
 /*
  * The book of the cyclic at an index, from 0 to 255, of a soft level; its id is 0 where none is.
  * Refuses with CYCLIC_MISUSED where the books are closed, or the level or the index is none, and `*book` stays.
+ * Stands in the thread that has the books, also in an interrupt: it takes no memory.
  */
 uint32_t cyclic_book(cyclic_books *books, uint32_t level, uint32_t index, cyclic_book_of *book);
 
-/* Gives the memory of the books back. Refuses with CYCLIC_MISUSED where they are closed. */
+/* Gives the memory of the books back. Refuses with CYCLIC_MISUSED where they are closed. Stands alone. */
 uint32_t cyclic_books_close(cyclic_books *books);
 
 /*
  * Gives up a side whose CPU is not to be closed. The memory is given back with the last of the three sides; there are no books.
  * Refuses with CYCLIC_MISUSED where the handle is closed.
+ * Stands where no call of this side runs, and outside of interrupts, since it may give memory back; the other sides go on meanwhile.
  */
 uint32_t cyclic_firing_drop(cyclic_firing *firing);
 uint32_t cyclic_soft_drop(cyclic_soft *soft);
@@ -238,6 +268,8 @@ uint32_t cyclic_soft_drop(cyclic_soft *soft);
 /*
  * The calls of the firing side, each as the one above without `firing` in its name. What is said of calls that are outstanding
  * is what the loads of this call have found; the soft sides go on meanwhile.
+ * Each stands on the firing side, and none in the handler of a high cyclic, which stands in the fire. cyclic_firing_add takes memory, so it
+ * stands outside of interrupts, with the timer's interrupt held off; the others may stand in that interrupt, behind the fire.
  */
 uint32_t cyclic_firing_add(cyclic_firing *firing, uint64_t id, uint32_t level, int64_t start, int64_t interval, int64_t now,
                            uint64_t *busy);
@@ -252,17 +284,20 @@ uint32_t cyclic_firing_next(cyclic_firing *firing, int64_t *moment);
 /*
  * Takes the cyclic whose handler is to be called next: `*id` is its id, or 0 where no call waits. The caller calls its
  * handler and then cyclic_soft_finish; a take before that answers the same.
+ * Stands on its soft side, in its soft interrupt.
  */
 uint32_t cyclic_soft_take(cyclic_soft *soft, uint64_t *id);
 
 /*
  * The cyclic in hand, whose call was taken and is not finished: `*id` is its id, or 0 where none is. Changes nothing.
+ * Stands on its soft side, also in the handler that was called.
  */
 uint32_t cyclic_soft_hand(cyclic_soft *soft, uint64_t *id);
 
 /*
  * Counts the call that was taken. The caller owes: its handler has been called once since the take.
  * Refuses with CYCLIC_MISUSED where nothing is in hand.
+ * Stands on its soft side, behind the handler.
  */
 uint32_t cyclic_soft_finish(cyclic_soft *soft);
 
