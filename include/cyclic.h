@@ -43,6 +43,12 @@
 extern "C" {
 #endif
 
+/* The version of this header and of the library that stands beside it. */
+#define CYCLIC_VERSION_MAJOR 0
+#define CYCLIC_VERSION_MINOR 1
+#define CYCLIC_VERSION_PATCH 0
+#define CYCLIC_VERSION "0.1.0"
+
 /* The refusals. */
 #define CYCLIC_MEMORY 1u          /* a growth of memory was refused */
 #define CYCLIC_BAD_WHEN 2u        /* a start or a moment is negative */
@@ -57,6 +63,47 @@ extern "C" {
 #define CYCLIC_MISUSED 64u        /* the handle is closed or open where it should not be, an argument is out of its range, or
                                      the call is out of turn */
 #define CYCLIC_TAKEN 65u          /* a cyclic here has this id */
+
+/* What CYCLIC_HANDLER_REFUSED asks for here: call the handler now. No handler was called or has refused. */
+#define CYCLIC_CALL_HANDLER CYCLIC_HANDLER_REFUSED
+
+/* All refusals: each number, its name in the definition (crates/cyc_types), but for the last two, and what it says. */
+#define CYCLIC_REFUSALS(EACH)                                                                                                \
+    EACH(CYCLIC_MEMORY, "Memory", "a growth of memory was refused")                                                          \
+    EACH(CYCLIC_BAD_WHEN, "BadWhen", "a start or a moment is negative")                                                      \
+    EACH(CYCLIC_BAD_INTERVAL, "BadInterval", "an interval is below 1")                                                       \
+    EACH(CYCLIC_BAD_NOW, "BadNow", "the moment of a fire or an add is never")                                                \
+    EACH(CYCLIC_FULL, "Full", "the CPU holds 256 cyclics")                                                                   \
+    EACH(CYCLIC_EXPANDING, "Expanding", "a soft level has not followed the last doubling: take from both until they are idle") \
+    EACH(CYCLIC_BUSY, "Busy", "a removal is open: poll it until it answers")                                                 \
+    EACH(CYCLIC_NO_CYCLIC, "NoCyclic", "there is no such cyclic, or its removal is open")                                    \
+    EACH(CYCLIC_COUNT_SPENT, "CountSpent", "the cyclic has expired as often as it may")                                      \
+    EACH(CYCLIC_HANDLER_REFUSED, "HandlerRefused", "the handler of a cyclic is to be called")                                \
+    EACH(CYCLIC_MISUSED, "Misused", "a handle, an argument or the turn of the call is not as it should be")                  \
+    EACH(CYCLIC_TAKEN, "Taken", "a cyclic here has this id")
+
+#define CYCLIC_CASE_NAME_(number, name, text) case number: return name;
+#define CYCLIC_CASE_TEXT_(number, name, text) case number: return text;
+
+/* The name of a refusal, and what it says; of 0 "Done" and "done", of another number that it is no answer. Both stand anywhere. */
+static inline const char *cyclic_refusal_name(uint32_t answer)
+{
+    switch (answer) {
+    CYCLIC_REFUSALS(CYCLIC_CASE_NAME_)
+    default: return answer == 0 ? "Done" : "NoAnswer";
+    }
+}
+
+static inline const char *cyclic_refusal_text(uint32_t answer)
+{
+    switch (answer) {
+    CYCLIC_REFUSALS(CYCLIC_CASE_TEXT_)
+    default: return answer == 0 ? "done" : "no answer of this library";
+    }
+}
+
+#undef CYCLIC_CASE_NAME_
+#undef CYCLIC_CASE_TEXT_
 
 /* The moment that is never due (CY_INFINITY of sys/cyclic.h). As an interval it makes a one-shot. */
 #define CYCLIC_NEVER INT64_MAX
@@ -152,7 +199,7 @@ uint32_t cyclic_poll_remove(cyclic_cpu *cpu, cyclic_receipt *receipt);
 /*
  * Makes the expirations that are due at `now`, in the order of their moments and ids (cyclic_fire), up to the next one at high
  * level. Answers 0 where all were made; `fired->next` is the moment at which to fire next.
- * Answers CYCLIC_HANDLER_REFUSED where it stops in front of a high one: `fired->id` is its cyclic. The caller then calls its
+ * Answers CYCLIC_CALL_HANDLER where it stops in front of a high one: `fired->id` is its cyclic. The caller then calls its
  * handler, and calls cyclic_fire again with the same `now`, which counts that expiration and goes on. The counts of the
  * parts of a fire add up to those of one fire.
  * The caller owes: after this answer it has called the handler before it fires again, and meanwhile it makes no other call on

@@ -14,7 +14,7 @@ if [ -z "${EMBED_BUILT:-}" ] && ! (cd crates/cyclic_c && rt lib) > "$work/lib" 2
   exit 1
 fi
 archive=$PWD/crates/cyclic_c/out/libcyclic_c.a
-heap=$(dirname "$(dirname "$(readlink -f "$(command -v rt)")")")/c/liblibc_c.a
+heap=$(dirname "$(rt doc)")/c/liblibc_c.a
 
 # have COMMAND PACKAGE: whether it is there, else it is said and what needs it is skipped
 have() {
@@ -48,6 +48,16 @@ if have cc gcc; then
   have valgrind valgrind && passes "cpu under valgrind" valgrind -q --leak-check=full --error-exitcode=9 "$work/cpu"
   build cpu_sane cpu -fsanitize=address,undefined -fno-sanitize-recover=all
   passes "cpu with the sanitizers" "$work/cpu_sane"
+  build refusals refusals
+  passes "the table of refusals" "$work/refusals"
+  # the names and numbers of the definition, in the lines of number() of Refusal, and the version of the package in Rust
+  sed -nE 's/^ *Refusal::([A-Za-z]+)(\(_\))? => ([0-9]+),$/\3 \1/p' crates/cyc_types/src/refusal.rt > "$work/defined"
+  sed -nE 's/^version = "(.*)"$/version \1/p' rust/cyclic/Cargo.toml >> "$work/defined"
+  printf '64 Misused\n65 Taken\n' >> "$work/defined"
+  if [ "$(grep -c '' "$work/out")" -ne 13 ] || grep -vxFf "$work/defined" "$work/out"; then
+    echo "embed: a refusal has another name or number in the definition, or the version is another one"
+    failed=1
+  fi
   build memory memory -Wl,--wrap=malloc,--wrap=realloc,--wrap=free
   passes memory "$work/memory"
   cat "$work/out"
@@ -69,6 +79,14 @@ if have cc gcc; then
   block c > "$work/page.c"
   passes "the page's program in C" cc -std=c99 -Wall -Wextra -Wpedantic -Werror -Iinclude "$work/page.c" -o "$work/page" "$archive" "$heap"
   passes "the page's program" "$work/page"
+  if have make make; then
+    mkdir "$work/made" "$work/made/examples"
+    ln -s "$PWD/examples/embed" "$work/made/examples/embed"
+    cp "$work/page.c" "$work/made/timer.c"
+    block make > "$work/made/Makefile"
+    passes "the page's Makefile" make -s -C "$work/made" timer
+    passes "the page's program, made" "$work/made/timer"
+  fi
   says "the page's program" 'high handler of cyclic 1
 high handler of cyclic 1
 high handler of cyclic 1
@@ -85,7 +103,7 @@ if have cc gcc; then
   passes "pair with the sanitizers" "$work/pair_sane" 100000
   build pair_threads pair -pthread -fsanitize=thread
   passes "pair with the sanitizer of threads" "$work/pair_threads" 100000
-  passes "the ticker" env EMBED_BUILT=1 examples/embed/ticker 1
+  have make make && passes "the ticker" env EMBED_BUILT=1 examples/embed/ticker 1
 fi
 # The kernel: two runs of it, one with soft sides that are starved, one that steps, and the stack of each call, which may be no deeper than
 # docs/embedding.md says.
@@ -96,7 +114,7 @@ kernel() {
     failed=1
   fi
 }
-if have cc gcc && have qemu-system-x86_64 qemu-system-x86; then
+if have cc gcc && have make make && have qemu-system-x86_64 qemu-system-x86; then
   kernel run 3 1
   kernel run 3
   kernel starved 1

@@ -51,6 +51,19 @@ static void call(uint64_t id)
     timer->late[timer->calls++ % KEPT] = now() % timer->interval;
 }
 
+static void fail(const char *what)
+{
+    fprintf(stderr, "ticker: %s\n", what);
+    exit(1);
+}
+
+/* Every answer has to be 0. */
+static void done(uint32_t answer)
+{
+    if (answer != 0)
+        fail(cyclic_refusal_text(answer));
+}
+
 /* A soft side: it sleeps until it is woken, and serves its level until no call waits. */
 struct drainer {
     cyclic_soft soft;
@@ -67,9 +80,9 @@ static void *drain(void *argument)
         while (sem_wait(&drainer->wake) != 0 && errno == EINTR)
             ;
         last = atomic_load(&drainer->stop);
-        while (cyclic_soft_take(&drainer->soft, &id) == 0 && id != 0) {
+        while (done(cyclic_soft_take(&drainer->soft, &id)), id != 0) {
             call(id);
-            cyclic_soft_finish(&drainer->soft);
+            done(cyclic_soft_finish(&drainer->soft));
         }
     }
     return NULL;
@@ -81,13 +94,8 @@ static int by_size(const void *a, const void *b)
     return (x > y) - (x < y);
 }
 
-static void fail(const char *what)
-{
-    fprintf(stderr, "ticker: %s\n", what);
-    exit(1);
-}
-
-static struct drainer drainers[2];
+/* That of the low level and that of the lock level. The handles stay where they are: they are never copied. */
+static struct drainer drainers[2] = {{.soft = CYCLIC_CLOSED}, {.soft = CYCLIC_CLOSED}};
 
 static void wake_both(void)
 {
@@ -102,10 +110,12 @@ static void fire_until(cyclic_firing *firing, int64_t until)
         cyclic_fired fired;
         int64_t moment = now(), next;
         struct timespec at;
+        uint32_t answer;
         if (moment >= until)
             return;
-        while (cyclic_firing_fire(firing, moment, &fired) == CYCLIC_HANDLER_REFUSED)
+        while ((answer = cyclic_firing_fire(firing, moment, &fired)) == CYCLIC_CALL_HANDLER)
             call(fired.id);
+        done(answer);
         wake_both();
         next = (fired.next < until ? fired.next : until) + begin;
         at.tv_sec = next / SECOND;
@@ -132,7 +142,6 @@ int main(int count, char **words)
 {
     int seconds = count > 1 ? atoi(words[1]) : 5, agree = 1;
     cyclic_firing firing = CYCLIC_CLOSED;
-    cyclic_soft closed = CYCLIC_CLOSED;
     cyclic_books books = CYCLIC_CLOSED;
     cyclic_receipt removed;
     cyclic_totals_of high;
@@ -143,9 +152,7 @@ int main(int count, char **words)
     if (seconds < 1)
         fail("give a number of seconds, from 1 on");
     begin = now();
-    drainers[0].soft = drainers[1].soft = closed;
-    if (cyclic_open(1000, UINT64_MAX, &firing, &drainers[1].soft, &drainers[0].soft) != 0)
-        fail("no memory");
+    done(cyclic_open(1000, UINT64_MAX, &firing, &drainers[1].soft, &drainers[0].soft));
     for (int k = 0; k < 2; k++) {
         pthread_attr_t priority;
         struct sched_param param;
@@ -166,17 +173,15 @@ int main(int count, char **words)
         while ((answer = cyclic_firing_add(&firing, k + 1, timers[k].level, 0, timers[k].interval, now(), &busy)) ==
                CYCLIC_EXPANDING)
             wake_both();
-        if (answer != 0)
-            fail("an add was refused");
+        done(answer);
     }
 
     /* Half of the time for all three, and then the last is removed. */
     fire_until(&firing, seconds * SECOND / 2);
-    if (cyclic_firing_begin_remove(&firing, TIMERS, &kept, &removed, &busy) != 0)
-        fail("a removal was refused");
+    done(cyclic_firing_begin_remove(&firing, TIMERS, &kept, &removed, &busy));
     while (removed.id == 0) {
         wake_both();
-        cyclic_firing_poll_remove(&firing, &removed);
+        done(cyclic_firing_poll_remove(&firing, &removed));
     }
     agree &= report(TIMERS - 1, removed.expired, removed.lost);
     fire_until(&firing, seconds * SECOND);
@@ -186,17 +191,15 @@ int main(int count, char **words)
         pthread_join(threads[k], NULL);
     }
 
-    if (cyclic_firing_totals(&firing, 1, &high) != 0)
-        fail("the high cyclic is gone");
+    done(cyclic_firing_totals(&firing, 1, &high));
     agree &= report(0, high.expired, high.lost);
-    if (cyclic_close(&firing, &drainers[1].soft, &drainers[0].soft, &books) != 0)
-        fail("the CPU was not closed");
+    done(cyclic_close(&firing, &drainers[1].soft, &drainers[0].soft, &books));
     for (uint32_t index = 0; index < 256; index++) {
         cyclic_book_of book;
-        cyclic_book(&books, CYCLIC_LOCK, index, &book);
+        done(cyclic_book(&books, CYCLIC_LOCK, index, &book));
         if (book.id != 0)
             agree &= report(book.id - 1, book.expired, book.lost) && book.pending == 0;
     }
-    cyclic_books_close(&books);
+    done(cyclic_books_close(&books));
     return agree ? 0 : 1;
 }

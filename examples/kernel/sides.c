@@ -73,7 +73,7 @@ static void fire(int64_t moment)
     cyclic_fired fired;
     uint64_t made = 0, due = 0;
     uint32_t answer;
-    while ((answer = cyclic_firing_fire(&sides.firing, moment, &fired)) == CYCLIC_HANDLER_REFUSED) {
+    while ((answer = cyclic_firing_fire(&sides.firing, moment, &fired)) == CYCLIC_CALL_HANDLER) {
         made += fired.expired;
         call(fired.id, true);
     }

@@ -53,7 +53,7 @@ static void cpu_calls(void)
         DEEP(cyclic_take, AT(cpu), CYCLIC_LOCK, AT(id));
     }
     for (int64_t now = 1; now < 5 * SECOND; now += now < 200 ? 50 : 2 * SECOND)
-        while (DEEP(cyclic_fire, AT(cpu), (uint64_t)now, AT(fired)) == CYCLIC_HANDLER_REFUSED)
+        while (DEEP(cyclic_fire, AT(cpu), (uint64_t)now, AT(fired)) == CYCLIC_CALL_HANDLER)
             ;
     DEEP(cyclic_next, AT(cpu), AT(moment));
     for (uint64_t k = 1; k <= 257; k++) {
@@ -87,7 +87,7 @@ static void pair_calls(void)
         DEEP(cyclic_soft_take, AT(lock), AT(id));
     }
     for (int64_t now = 1; now < 5 * SECOND; now += now < 200 ? 50 : 2 * SECOND)
-        while (DEEP(cyclic_firing_fire, AT(firing), (uint64_t)now, AT(fired)) == CYCLIC_HANDLER_REFUSED)
+        while (DEEP(cyclic_firing_fire, AT(firing), (uint64_t)now, AT(fired)) == CYCLIC_CALL_HANDLER)
             ;
     DEEP(cyclic_firing_next, AT(firing), AT(moment));
     for (uint64_t k = 1; k <= 250; k++) {

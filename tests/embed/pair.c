@@ -166,17 +166,15 @@ static void *drain(void *argument)
 /* Fires until so many expirations were made, the odd cyclics at the lock level and the even ones at the low level. */
 static void hand_overs(uint64_t wanted)
 {
-    static struct drainer drainers[2];
+    static struct drainer drainers[2] = {{.soft = CYCLIC_CLOSED}, {.soft = CYCLIC_CLOSED}};
     static atomic_bool stop;
     cyclic_firing firing = CYCLIC_CLOSED;
     cyclic_books books = CYCLIC_CLOSED;
-    cyclic_soft closed = CYCLIC_CLOSED;
     cyclic_fired fired;
     uint64_t busy, made = 0, lost = 0, done = 0;
     uint32_t pending;
     pthread_t threads[2];
 
-    drainers[0].soft = drainers[1].soft = closed;
     drainers[0].stop = drainers[1].stop = &stop;
     WANT(cyclic_open(1000, UINT64_MAX, &firing, &drainers[1].soft, &drainers[0].soft), 0);
     for (int k = 0; k < 2; k++)
