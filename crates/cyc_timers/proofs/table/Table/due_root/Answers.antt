@@ -39,7 +39,7 @@ first_is : (h : HeapView) (records : List Record) (entries : List Entry) → IsT
     → (now : ℕ) (o : Option (ℕ × ℕ × ℕ))
     → IfSome o (λ found. IsLeast h found.0 (record { moment = now - found.1; id = found.2 }))
     → IfSome o (λ found. (k : ℕ) × (r : Row) × IsRow (rows_of h.slots records entries) k r × (r.index ≡ found.0)
-        × (r.timer.moment ≡ now - found.1) × (r.timer.id ≡ found.2) × IsFirstAt (rows_of h.slots records entries) k)
+    × (r.timer.moment ≡ now - found.1) × (r.timer.id ≡ found.2) × IsFirstAt (rows_of h.slots records entries) k)
 first_is h records entries t now None is = tt
 first_is h records entries t now (Some found) is = root_is h records entries t (Some (found.0, now - found.1, found.2)) is
 
