@@ -1,5 +1,5 @@
 -- Narrowing a run of things by rising id.
-use Rattle.std.proofs.Common.{◌≡◌, ℕ, ◌+◌, ◌-◌, ◌*◌, ◌<◌, ◌≤◌, ◌⊎◌, inl, inr, List, get_or, length, refl, sym, ap, subst, ◌∙◌}
+use Rattle.std.proofs.Common.{◌≡◌, ℕ, ◌+◌, ◌-◌, ◌*◌, ◌<◌, ◌≤◌, ◌⊎◌, inl, inr, List, get_or, refl, sym, ap, subst, ◌∙◌}
 use Rattle.std.proofs.Common.{arith}
 use Rattle.cyc_finder.specs.Sorted.{Rises}
 use Rattle.cyc_finder.specs.Halving.{IsIn, IsUpTo, IsAbove}
@@ -31,16 +31,6 @@ module _ {T : Type 0} (id_of : T → ℕ) (xs : List T) (id : ℕ) where
           = λ e. ap (λ k. id_of (get_or xs k d)) e in
           grind (arith, m, up, same, past, low, twice, is, left);
     }
-
-  -- the last thing alone, which has the id or a smaller one
-  pub last_alone : Rises id_of xs → 0 < length xs → IsUpTo id_of xs id (length xs - 1) → IsIn id_of xs id (length xs - 1) 1
-  last_alone rises some most = record {
-    filled = omega arith;
-    in_range = omega (arith, some);
-    smaller_before = λ j d low.
-        let up = rises j (length xs - 1) d low (omega (arith, some)) in let m = most d in omega (arith, up, m);
-    greater_after = λ j d past low. absurd (omega (arith, past, low, some));
-  }
 
   -- a look at the middle gives the upper position or the lower one
   abbrev pub Reaches : ℕ → ℕ → ℕ → ℕ → Type 0

@@ -1,7 +1,6 @@
 //! Halving over things by rising id, where they are many with no branch that an id decides.
 
 ghost use Rattle.std.specs.Prelude.{◌≤◌, ◌<◌, ◌+◌, ◌≡◌, ◌⊎◌, length};
-ghost use Rattle.std.specs.Bool.{OnTrue, OnFalse};
 ghost use Rattle.cyc_finder.specs.Sorted.{Rises};
 ghost use Rattle.cyc_finder.specs.Halving.{IsIn, IsUpTo, IsAbove};
 
@@ -15,16 +14,6 @@ pub(crate) struct Run {
     pub(crate) size: usize,
 }
 
-/// Whether the thing at this position has at most this id.
-#[inline(always)]
-pub(crate) fn is_up_to<T: HasId>(things: &[T], id: CyclicId, position: usize) -> bool
-    requires { position < length things.now }
-    ensures most { OnTrue result (IsUpTo T.id_of things.now id position) }
-    ensures above { OnFalse result (IsAbove T.id_of things.now id position) }
-{
-    things[position].id().number() <= id.number()
-}
-
 /// One of two positions: the upper one where the thing at `middle` has at most this id, else the lower one.
 #[inline(always)]
 fn reach<T: HasId>(things: &[T], id: CyclicId, middle: usize, lower: usize, upper: usize) -> usize
@@ -32,7 +21,7 @@ fn reach<T: HasId>(things: &[T], id: CyclicId, middle: usize, lower: usize, uppe
     ensures { (IsUpTo T.id_of things.now id middle × (result ≡ upper))
         ⊎ (IsAbove T.id_of things.now id middle × (result ≡ lower)) }
 {
-    if is_up_to(things, id, middle) {
+    if things[middle].id().number() <= id.number() {
         upper
     } else {
         lower
@@ -89,6 +78,7 @@ fn quarter<T: HasId>(things: &[T], id: CyclicId, run: Run) -> Run
 ///
 /// In a loop LLVM makes a branch of each choice between two positions. Among few these are mostly foretold, as where one id is
 /// looked up again and again.
+#[inline(always)]
 pub(crate) fn halve_few<T: HasId>(things: &[T], id: CyclicId, run: Run) -> Run
     requires rises { Rises T.id_of things.now }
     requires here { IsIn T.id_of things.now id run.base run.size }

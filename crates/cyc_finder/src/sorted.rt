@@ -4,7 +4,7 @@ ghost use Rattle.std.specs.Prelude.{◌≡◌, ℕ, ◌<◌, ◌≤◌, length, 
 ghost use Rattle.cyc_finder.specs.Sorted.{Rises, IsAt, IsGap};
 ghost use Rattle.cyc_finder.specs.Halving.{IsIn};
 
-use crate::halving::{Run, halve_few, is_up_to, narrow_many};
+use crate::halving::{Run, halve_few, narrow_many};
 use cyc_types::CyclicId;
 
 /// A thing that has the id of a cyclic.
@@ -29,8 +29,7 @@ fn distance<T: HasId>(things: &[T], id: CyclicId) -> u64
 }
 
 /// Where the thing of this id stands, or where it would stand, by halving. O(log n), and takes no memory (our own; the kernel
-/// names a cyclic by its address). Ids mostly rise by one, so the first look mostly answers where none was taken out; the second is at
-/// the last thing, since the next that comes has a greater id than all.
+/// names a cyclic by its address). Ids mostly rise by one, so the first look mostly answers where none was taken out.
 #[inline(always)]
 pub fn search<T: HasId>(things: &[T], id: CyclicId) -> Result<usize, usize>
     requires { Rises T.id_of things.now }
@@ -44,15 +43,14 @@ pub fn search<T: HasId>(things: &[T], id: CyclicId) -> Result<usize, usize>
     if guessed < things.len() as u64 && things[guessed as usize].id().number() == id.number() {
         return Ok(guessed as usize);
     }
-    let last = things.len() - 1;
-    if is_up_to(things, id, last) {
-        let alone = Run {
-            base: last,
-            size: 1,
-        };
-        return settled(things, id, alone);
+    if things.len() > FEW {
+        return search_many(things, id);
     }
-    search_whole(things, id)
+    let whole = Run {
+        base: 0,
+        size: things.len(),
+    };
+    settled(things, id, halve_few(things, id, whole))
 }
 
 /// What a look-up says that has come to one thing: this has the id, or the id would stand beside it.
@@ -65,17 +63,15 @@ fn settled<T: HasId>(things: &[T], id: CyclicId, run: Run) -> Result<usize, usiz
 {
     let there = things[run.base].id().number();
     if there == id.number() {
-        Ok(run.base)
-    } else if there < id.number() {
-        Err(run.base + 1)
-    } else {
-        Err(run.base)
+        return Ok(run.base);
     }
+    Err(run.base + usize::from(there < id.number()))
 }
 
-/// As `search`, among at least one thing, by halving alone.
+/// As `search`, among many, with no guess. It is called where the guess was wrong, so that what calls `search` keeps no registers for it.
+#[cold]
 #[inline(never)]
-fn search_whole<T: HasId>(things: &[T], id: CyclicId) -> Result<usize, usize>
+fn search_many<T: HasId>(things: &[T], id: CyclicId) -> Result<usize, usize>
     requires some { 0 < length things.now }
     requires rises { Rises T.id_of things.now }
     ensures found { IfOk result (IsAt T.id_of things.now id) }
@@ -85,12 +81,7 @@ fn search_whole<T: HasId>(things: &[T], id: CyclicId) -> Result<usize, usize>
         base: 0,
         size: things.len(),
     };
-    let run = if whole.size > FEW {
-        narrow_many(things, id, whole)
-    } else {
-        halve_few(things, id, whole)
-    };
-    settled(things, id, run)
+    settled(things, id, narrow_many(things, id, whole))
 }
 
 /// As `search`, where a hint was wrong, which mostly is right: out of its way.
