@@ -13,7 +13,7 @@ use std::thread;
 use std::time::{Duration, Instant};
 
 const TASKS: [&str; 3] = ["sorting", "searching", "adding"];
-const SECOND: i64 = 1_000_000_000;
+const SECOND: Duration = Duration::from_secs(1);
 
 /// Works until it is told to stop, and keeps in `at` which task it is at.
 fn work(at: &AtomicUsize, stop: &AtomicBool) {
@@ -37,7 +37,7 @@ fn work(at: &AtomicUsize, stop: &AtomicBool) {
 }
 
 /// Fires until `seconds` have passed, and gives the samples that were taken and the tables that were printed.
-fn profile(at: &AtomicUsize, seconds: i64) -> Result<(u64, u64), Box<dyn std::error::Error>> {
+fn profile(at: &AtomicUsize, seconds: u32) -> Result<(u64, u64), Box<dyn std::error::Error>> {
     let samples = RefCell::new([0u64; TASKS.len()]);
     let tables = RefCell::new(0u64);
     let sample = || samples.borrow_mut()[at.load(SeqCst)] += 1;
@@ -56,16 +56,13 @@ fn profile(at: &AtomicUsize, seconds: i64) -> Result<(u64, u64), Box<dyn std::er
     let printer = cpu.add(Level::Low, SECOND, SECOND, 0, table)?;
     let begin = Instant::now();
     loop {
-        let now = begin.elapsed().as_nanos() as i64;
-        if now >= seconds * SECOND + SECOND / 2 {
+        let now = begin.elapsed();
+        if now >= SECOND * seconds + SECOND / 2 {
             break;
         }
-        cpu.fire(now).map_err(|refused| refused.why)?;
+        cpu.fire(now)?;
         cpu.softint(Soft::Low, 16);
-        let next = cpu.next() - begin.elapsed().as_nanos() as i64;
-        if next > 0 {
-            thread::sleep(Duration::from_nanos(next as u64));
-        }
+        thread::sleep(cpu.next().saturating_duration_since(begin.elapsed()));
     }
 
     let (sampled, printed) = (cpu.totals(sampler).unwrap(), cpu.totals(printer).unwrap());

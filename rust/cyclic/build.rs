@@ -13,10 +13,10 @@ fn kit() -> Option<PathBuf> {
 }
 
 fn link(folder: &Path, library: &str) {
-    println!("cargo::rustc-link-search=native={}", folder.display());
-    println!("cargo::rustc-link-lib=static={library}");
+    println!("cargo:rustc-link-search=native={}", folder.display());
+    println!("cargo:rustc-link-lib=static={library}");
     println!(
-        "cargo::rerun-if-changed={}",
+        "cargo:rerun-if-changed={}",
         folder.join(format!("lib{library}.a")).display()
     );
 }
@@ -24,12 +24,16 @@ fn link(folder: &Path, library: &str) {
 fn main() {
     let here = PathBuf::from(std::env::var_os("CARGO_MANIFEST_DIR").unwrap());
     let built = here.join("../../crates/cyclic_c/out");
-    let Some(kit) = kit().filter(|_| built.join("libcyclic_c.a").exists()) else {
-        eprintln!(
-            "run 'rt lib' in crates/cyclic_c first, with the Rattle kit's bin folder in PATH: it builds the proved library"
-        );
-        exit(1);
-    };
-    link(&built, "cyclic_c");
-    link(&kit, "libc_c");
+    match kit() {
+        Some(kit) if built.join("libcyclic_c.a").exists() => {
+            link(&built, "cyclic_c");
+            link(&kit, "libc_c");
+        }
+        _ => {
+            eprintln!(
+                "run 'rt lib' in crates/cyclic_c first, with the Rattle kit's bin folder in PATH: it builds the proved library"
+            );
+            exit(1);
+        }
+    }
 }

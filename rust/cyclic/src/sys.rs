@@ -1,6 +1,6 @@
 //! include/cyclic.h, declaration by declaration.
 
-use std::ffi::c_void;
+use core::ffi::c_void;
 
 #[repr(C)]
 pub struct Handle {
@@ -10,7 +10,7 @@ pub struct Handle {
 
 impl Handle {
     pub const CLOSED: Handle = Handle {
-        held: std::ptr::null_mut(),
+        held: core::ptr::null_mut(),
         open: false,
     };
 }
@@ -40,11 +40,11 @@ pub struct Receipt {
     pub lost: u64,
 }
 
-unsafe extern "C" {
-    pub fn cyclic_cpu_open(ceiling: u32, most: u64, cpu: &mut Handle) -> u32;
-    pub fn cyclic_cpu_close(cpu: &mut Handle) -> u32;
+extern "C" {
+    pub fn cyclic_cpu_open(ceiling: u32, most: u64, cpu: *mut Handle) -> u32;
+    pub fn cyclic_cpu_close(cpu: *mut Handle) -> u32;
     pub fn cyclic_add(
-        cpu: &mut Handle,
+        cpu: *mut Handle,
         id: u64,
         level: u32,
         start: i64,
@@ -52,21 +52,21 @@ unsafe extern "C" {
         now: i64,
         busy: &mut u64,
     ) -> u32;
-    pub fn cyclic_reprogram(cpu: &mut Handle, id: u64, moment: i64) -> u32;
+    pub fn cyclic_reprogram(cpu: *mut Handle, id: u64, moment: i64) -> u32;
     pub fn cyclic_begin_remove(
-        cpu: &mut Handle,
+        cpu: *mut Handle,
         id: u64,
         kept: &mut u32,
         receipt: &mut Receipt,
         busy: &mut u64,
     ) -> u32;
-    pub fn cyclic_poll_remove(cpu: &mut Handle, receipt: &mut Receipt) -> u32;
-    pub fn cyclic_fire(cpu: &mut Handle, now: i64, fired: &mut Fired) -> u32;
-    pub fn cyclic_take(cpu: &mut Handle, level: u32, id: &mut u64) -> u32;
-    pub fn cyclic_finish(cpu: &mut Handle, level: u32) -> u32;
-    pub fn cyclic_pending(cpu: &mut Handle, id: u64, pending: &mut u32) -> u32;
-    pub fn cyclic_totals(cpu: &mut Handle, id: u64, totals: &mut Totals) -> u32;
-    pub fn cyclic_next(cpu: &mut Handle, moment: &mut i64) -> u32;
+    pub fn cyclic_poll_remove(cpu: *mut Handle, receipt: &mut Receipt) -> u32;
+    pub fn cyclic_fire(cpu: *mut Handle, now: i64, fired: &mut Fired) -> u32;
+    pub fn cyclic_take(cpu: *mut Handle, level: u32, id: &mut u64) -> u32;
+    pub fn cyclic_finish(cpu: *mut Handle, level: u32) -> u32;
+    pub fn cyclic_pending(cpu: *mut Handle, id: u64, pending: &mut u32) -> u32;
+    pub fn cyclic_totals(cpu: *mut Handle, id: u64, totals: &mut Totals) -> u32;
+    pub fn cyclic_next(cpu: *mut Handle, moment: &mut i64) -> u32;
 }
 
 /// The book of a cyclic. The firing side, a soft side and the books have handles of the same form.
@@ -81,24 +81,24 @@ pub struct Book {
     pub removed: bool,
 }
 
-unsafe extern "C" {
+extern "C" {
     pub fn cyclic_open(
         ceiling: u32,
         most: u64,
-        firing: &mut Handle,
-        lock: &mut Handle,
-        low: &mut Handle,
+        firing: *mut Handle,
+        lock: *mut Handle,
+        low: *mut Handle,
     ) -> u32;
     pub fn cyclic_close(
-        firing: &mut Handle,
-        lock: &mut Handle,
-        low: &mut Handle,
-        books: &mut Handle,
+        firing: *mut Handle,
+        lock: *mut Handle,
+        low: *mut Handle,
+        books: *mut Handle,
     ) -> u32;
-    pub fn cyclic_book(books: &mut Handle, level: u32, index: u32, book: &mut Book) -> u32;
-    pub fn cyclic_books_close(books: &mut Handle) -> u32;
+    pub fn cyclic_book(books: *mut Handle, level: u32, index: u32, book: &mut Book) -> u32;
+    pub fn cyclic_books_close(books: *mut Handle) -> u32;
     pub fn cyclic_firing_add(
-        firing: &mut Handle,
+        firing: *mut Handle,
         id: u64,
         level: u32,
         start: i64,
@@ -106,22 +106,22 @@ unsafe extern "C" {
         now: i64,
         busy: &mut u64,
     ) -> u32;
-    pub fn cyclic_firing_reprogram(firing: &mut Handle, id: u64, moment: i64) -> u32;
+    pub fn cyclic_firing_reprogram(firing: *mut Handle, id: u64, moment: i64) -> u32;
     pub fn cyclic_firing_begin_remove(
-        firing: &mut Handle,
+        firing: *mut Handle,
         id: u64,
         kept: &mut u32,
         receipt: &mut Receipt,
         busy: &mut u64,
     ) -> u32;
-    pub fn cyclic_firing_poll_remove(firing: &mut Handle, receipt: &mut Receipt) -> u32;
-    pub fn cyclic_firing_fire(firing: &mut Handle, now: i64, fired: &mut Fired) -> u32;
-    pub fn cyclic_firing_pending(firing: &mut Handle, id: u64, pending: &mut u32) -> u32;
-    pub fn cyclic_firing_totals(firing: &mut Handle, id: u64, totals: &mut Totals) -> u32;
-    pub fn cyclic_firing_next(firing: &mut Handle, moment: &mut i64) -> u32;
-    pub fn cyclic_firing_drop(firing: &mut Handle) -> u32;
-    pub fn cyclic_soft_drop(soft: &mut Handle) -> u32;
-    pub fn cyclic_soft_take(soft: &mut Handle, id: &mut u64) -> u32;
-    pub fn cyclic_soft_hand(soft: &mut Handle, id: &mut u64) -> u32;
-    pub fn cyclic_soft_finish(soft: &mut Handle) -> u32;
+    pub fn cyclic_firing_poll_remove(firing: *mut Handle, receipt: &mut Receipt) -> u32;
+    pub fn cyclic_firing_fire(firing: *mut Handle, now: i64, fired: &mut Fired) -> u32;
+    pub fn cyclic_firing_pending(firing: *mut Handle, id: u64, pending: &mut u32) -> u32;
+    pub fn cyclic_firing_totals(firing: *mut Handle, id: u64, totals: &mut Totals) -> u32;
+    pub fn cyclic_firing_next(firing: *mut Handle, moment: &mut i64) -> u32;
+    pub fn cyclic_firing_drop(firing: *mut Handle) -> u32;
+    pub fn cyclic_soft_drop(soft: *mut Handle) -> u32;
+    pub fn cyclic_soft_take(soft: *mut Handle, id: &mut u64) -> u32;
+    pub fn cyclic_soft_hand(soft: *mut Handle, id: &mut u64) -> u32;
+    pub fn cyclic_soft_finish(soft: *mut Handle) -> u32;
 }

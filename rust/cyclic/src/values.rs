@@ -1,11 +1,8 @@
 //! What goes into the calls and comes out of them.
 
+use crate::moments::Moment;
+use crate::refusals::{done, FireRefused};
 use crate::sys;
-use std::error::Error;
-use std::fmt;
-
-/// The moment that is never due, in nanoseconds. As an interval it makes a one-shot.
-pub const NEVER: i64 = i64::MAX;
 
 /// The greatest number of a cyclic.
 pub(crate) const LAST_ID: u64 = (1 << 56) - 1;
@@ -13,29 +10,76 @@ pub(crate) const LAST_ID: u64 = (1 << 56) - 1;
 /// What a part of a fire answers that has stopped in front of a high handler.
 const HANDLER_REFUSED: u32 = 12;
 
-/// The number of a cyclic. No CPU gives one twice.
+/// The number of a cyclic. No CPU gives one twice, and each gives its own: it names nothing, or another cyclic, on another CPU.
+///
+/// ```
+/// use cyclic::{Cpu, Id, Level};
+///
+/// let mut cpu = Cpu::open(100, u64::MAX)?;
+/// let first: Id = cpu.add(Level::High, 1, 1, 0, || ())?;
+/// cpu.begin_remove(first)?;
+/// let second = cpu.add(Level::High, 1, 1, 0, || ())?;
+/// assert!(second > first);
+/// # Ok::<(), cyclic::Refusal>(())
+/// ```
 #[derive(Clone, Copy, Debug, PartialEq, Eq, PartialOrd, Ord, Hash)]
 pub struct Id(pub(crate) u64);
 
 impl Id {
     /// The number, from 1 on.
+    ///
+    /// ```
+    /// use cyclic::{Cpu, Level};
+    ///
+    /// let mut cpu = Cpu::open(100, u64::MAX)?;
+    /// assert_eq!(cpu.add(Level::High, 1, 1, 0, || ())?.number(), 1);
+    /// # Ok::<(), cyclic::Refusal>(())
+    /// ```
     pub fn number(self) -> u64 {
         self.0
     }
 }
 
 /// The level at which a handler is called.
+///
+/// ```
+/// use cyclic::{Cpu, Level, Soft};
+/// use std::cell::Cell;
+///
+/// let (high, low) = (Cell::new(0), Cell::new(0));
+/// let mut cpu = Cpu::open(100, u64::MAX)?;
+/// cpu.add(Level::High, 1, 1, 0, || high.set(high.get() + 1))?;
+/// cpu.add(Level::Low, 1, 1, 0, || low.set(low.get() + 1))?;
+/// cpu.fire(3)?;
+/// assert_eq!((high.get(), low.get()), (3, 0));
+/// cpu.softint(Soft::Low, 8);
+/// assert_eq!((high.get(), low.get()), (3, 3));
+/// # Ok::<(), cyclic::Refusal>(())
+/// ```
 #[derive(Clone, Copy, Debug, PartialEq, Eq)]
 pub enum Level {
+    /// By the soft interrupt of the low level.
     Low,
+    /// By the soft interrupt of the lock level.
     Lock,
+    /// In the fire, as it expires.
     High,
 }
 
 /// A level that has a soft interrupt.
+///
+/// ```
+/// use cyclic::{open, Soft};
+///
+/// let (_, lock, low) = open(100, u64::MAX)?;
+/// assert_eq!((lock.level(), low.level()), (Soft::Lock, Soft::Low));
+/// # Ok::<(), cyclic::Refusal>(())
+/// ```
 #[derive(Clone, Copy, Debug, PartialEq, Eq)]
 pub enum Soft {
+    /// The low level.
     Low,
+    /// The lock level.
     Lock,
 }
 
@@ -55,70 +99,6 @@ impl Soft {
             Soft::Low => 0,
             Soft::Lock => 1,
         }
-    }
-}
-
-/// Why a call refused. Where its text says nothing else, a refused call has changed nothing.
-#[derive(Clone, Copy, Debug, PartialEq, Eq)]
-pub enum Refusal {
-    /// A growth of memory was refused.
-    Memory,
-    /// A start or a moment is negative.
-    BadWhen,
-    /// The interval is below 1.
-    BadInterval,
-    /// The moment of the fire or of the add is `NEVER`.
-    BadNow,
-    /// The CPU holds 256 cyclics.
-    Full,
-    /// A soft level has not followed the last doubling of the CPU's size: serve both until they are idle.
-    Expanding,
-    /// The removal of this cyclic is open.
-    Busy(Id),
-    /// There is no such cyclic here, or its removal is open.
-    NoCyclic,
-    /// Every id was given.
-    IdsSpent,
-    /// The cyclic has expired as often as it may.
-    CountSpent(Id),
-    /// The ceiling or the greatest count is 0.
-    Misused,
-}
-
-impl fmt::Display for Refusal {
-    fn fmt(&self, f: &mut fmt::Formatter<'_>) -> fmt::Result {
-        match self {
-            Refusal::Memory => f.write_str("a growth of memory was refused"),
-            Refusal::BadWhen => f.write_str("the start or the moment is negative"),
-            Refusal::BadInterval => f.write_str("the interval is below 1"),
-            Refusal::BadNow => f.write_str("the moment is never"),
-            Refusal::Full => f.write_str("the CPU holds 256 cyclics"),
-            Refusal::Expanding => f.write_str("a soft level has not followed the last doubling"),
-            Refusal::Busy(id) => write!(f, "the removal of cyclic {} is open", id.0),
-            Refusal::NoCyclic => f.write_str("there is no such cyclic"),
-            Refusal::IdsSpent => f.write_str("every id was given"),
-            Refusal::CountSpent(id) => write!(f, "cyclic {} has expired as often as it may", id.0),
-            Refusal::Misused => f.write_str("the ceiling or the greatest count is 0"),
-        }
-    }
-}
-
-impl Error for Refusal {}
-
-/// What the number of an answer says, where the id is the one that came out with it.
-pub(crate) fn done(answer: u32, id: u64) -> Result<(), Refusal> {
-    match answer {
-        0 => Ok(()),
-        1 => Err(Refusal::Memory),
-        2 => Err(Refusal::BadWhen),
-        3 => Err(Refusal::BadInterval),
-        4 => Err(Refusal::BadNow),
-        5 => Err(Refusal::Full),
-        6 => Err(Refusal::Expanding),
-        7 => Err(Refusal::Busy(Id(id))),
-        8 => Err(Refusal::NoCyclic),
-        11 => Err(Refusal::CountSpent(Id(id))),
-        _ => Err(Refusal::Misused),
     }
 }
 
@@ -142,7 +122,7 @@ pub(crate) fn whole_fire<S>(
             Ok(()) => Ok(Fired {
                 expired,
                 lost,
-                next: fired.next,
+                next: fired.next.into(),
             }),
             Err(why) => Err(FireRefused { why, expired, lost }),
         };
@@ -150,25 +130,38 @@ pub(crate) fn whole_fire<S>(
 }
 
 /// What a fire did.
+///
+/// ```
+/// use cyclic::{Cpu, Fired, Level};
+///
+/// // With a ceiling of 2 the third call that would be outstanding is lost.
+/// let mut cpu = Cpu::open(2, u64::MAX)?;
+/// cpu.add(Level::Low, 10, 10, 0, || ())?;
+/// assert_eq!(cpu.fire(30)?, Fired { expired: 3, lost: 1, next: 40.into() });
+/// # Ok::<(), cyclic::Refusal>(())
+/// ```
 #[derive(Clone, Copy, Debug, Default, PartialEq, Eq)]
 pub struct Fired {
     /// The expirations.
     pub expired: u64,
     /// Those of them that were lost at the ceiling.
     pub lost: u64,
-    /// The least expiration from now on, `NEVER` where there is none.
-    pub next: i64,
-}
-
-/// A fire that stopped at an expiration that was refused, with what it did before.
-#[derive(Clone, Copy, Debug, PartialEq, Eq)]
-pub struct FireRefused {
-    pub why: Refusal,
-    pub expired: u64,
-    pub lost: u64,
+    /// The least expiration from now on, never where there is none: the moment at which to fire next.
+    pub next: Moment,
 }
 
 /// What a soft interrupt did.
+///
+/// ```
+/// use cyclic::{Cpu, Level, Ran, Soft};
+///
+/// let mut cpu = Cpu::open(100, u64::MAX)?;
+/// cpu.add(Level::Low, 1, 1, 0, || ())?;
+/// cpu.fire(3)?;
+/// assert_eq!(cpu.softint(Soft::Low, 2), Ran { calls: 2, idle: false });
+/// assert_eq!(cpu.softint(Soft::Low, 2), Ran { calls: 1, idle: true });
+/// # Ok::<(), cyclic::Refusal>(())
+/// ```
 #[derive(Clone, Copy, Debug, PartialEq, Eq)]
 pub struct Ran {
     /// The handler calls that it made.
@@ -178,6 +171,16 @@ pub struct Ran {
 }
 
 /// The counts of a cyclic.
+///
+/// ```
+/// use cyclic::{Cpu, Level, Totals};
+///
+/// let mut cpu = Cpu::open(2, u64::MAX)?;
+/// let id = cpu.add(Level::Low, 1, 1, 0, || ())?;
+/// cpu.fire(5)?;
+/// assert_eq!(cpu.totals(id), Some(Totals { expired: 5, lost: 3, pending: 2 }));
+/// # Ok::<(), cyclic::Refusal>(())
+/// ```
 #[derive(Clone, Copy, Debug, PartialEq, Eq)]
 pub struct Totals {
     /// Its expirations.
@@ -189,8 +192,19 @@ pub struct Totals {
 }
 
 /// What a removal answers.
+///
+/// ```
+/// use cyclic::{Cpu, Level, Receipt, Removal};
+///
+/// let mut cpu = Cpu::open(100, u64::MAX)?;
+/// let id = cpu.add(Level::High, 10, 10, 0, || ())?;
+/// cpu.fire(20)?;
+/// assert_eq!(cpu.begin_remove(id)?, Removal::Done(Receipt { id, expired: 2, lost: 0 }));
+/// # Ok::<(), cyclic::Refusal>(())
+/// ```
 #[derive(Clone, Copy, Debug, PartialEq, Eq)]
 pub struct Receipt {
+    /// The cyclic.
     pub id: Id,
     /// The expirations.
     pub expired: u64,
@@ -209,12 +223,43 @@ impl Receipt {
     }
 
     /// The calls that were made.
+    ///
+    /// ```
+    /// use cyclic::{Cpu, Level, Soft};
+    ///
+    /// let mut cpu = Cpu::open(2, u64::MAX)?;
+    /// let id = cpu.add(Level::Low, 1, 1, 0, || ())?;
+    /// cpu.fire(5)?;
+    /// cpu.begin_remove(id)?;
+    /// cpu.softint(Soft::Low, 8);
+    /// let receipt = cpu.poll_remove().unwrap();
+    /// assert_eq!((receipt.expired, receipt.lost, receipt.calls()), (5, 3, 2));
+    /// # Ok::<(), cyclic::Refusal>(())
+    /// ```
     pub fn calls(&self) -> u64 {
         self.expired - self.lost
     }
 }
 
 /// What the beginning of a removal found.
+///
+/// ```
+/// use cyclic::{Cpu, Level, Removal, Soft};
+///
+/// let mut cpu = Cpu::open(100, u64::MAX)?;
+/// let id = cpu.add(Level::Low, 1, 1, 0, || ())?;
+/// cpu.fire(3)?;
+/// let receipt = match cpu.begin_remove(id)? {
+///     Removal::Done(receipt) => receipt,
+///     Removal::Kept(calls) => {
+///         assert_eq!(calls, 3);
+///         while !cpu.softint(Soft::Low, 16).idle {}
+///         cpu.poll_remove().unwrap()
+///     }
+/// };
+/// assert_eq!(receipt.calls(), 3);
+/// # Ok::<(), cyclic::Refusal>(())
+/// ```
 #[derive(Clone, Copy, Debug, PartialEq, Eq)]
 pub enum Removal {
     /// No call was outstanding: the cyclic is gone.
@@ -225,9 +270,25 @@ pub enum Removal {
 
 /// What a closed CPU says of a cyclic of a soft level: its expirations are its calls that are done, those that are outstanding,
 /// and those that were lost.
+///
+/// ```
+/// use cyclic::{close, open, Soft};
+///
+/// let (mut firing, mut lock, low) = open(2, u64::MAX)?;
+/// let id = firing.add(Soft::Lock, 1, 1, 0)?;
+/// firing.fire(5)?;
+/// lock.softint(1, |_| ());
+/// let books = close(firing, lock, low)?;
+/// let book = books[0];
+/// assert_eq!((book.id, book.level, book.removed), (id, Soft::Lock, false));
+/// assert_eq!((book.expired, book.done, book.pending, book.lost), (5, 1, 1, 3));
+/// # Ok::<(), cyclic::Refusal>(())
+/// ```
 #[derive(Clone, Copy, Debug, PartialEq, Eq)]
 pub struct Book {
+    /// The cyclic.
     pub id: Id,
+    /// Its level.
     pub level: Soft,
     /// The expirations.
     pub expired: u64,

@@ -1,7 +1,7 @@
 //! Worked runs of one CPU on one thread, with the answers that the subsystem's rules give.
 
 use cyclic::{
-    Cpu, FireRefused, Fired, Id, Level, NEVER, Ran, Receipt, Refusal, Removal, Soft, Totals,
+    Cpu, FireRefused, Fired, Id, Level, Ran, Receipt, Refusal, Removal, Soft, Totals, NEVER,
 };
 use std::cell::Cell;
 

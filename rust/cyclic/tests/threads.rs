@@ -1,6 +1,6 @@
 //! A CPU between threads.
 
-use cyclic::{Book, CloseRefused, Ran, Refusal, Soft, close, open};
+use cyclic::{close, open, Book, CloseRefused, Ran, Refusal, Soft};
 use std::sync::atomic::{AtomicBool, Ordering::SeqCst};
 use std::sync::mpsc;
 use std::thread;
