@@ -1,7 +1,8 @@
 #!/usr/bin/env bash
 # Tries the proved facility inside programs in C, C++ and Rust: every function of include/cyclic.h with good and bad arguments,
-# under valgrind and the sanitizers, on one thread and between three, with each request for memory refused once; the Rust crate with its worked runs; and the
-# programs of docs/embedding.md; and examples/kernel. With EMBED_BUILT set it takes the library as it was built before.
+# under valgrind and the sanitizers, on one thread and between three, with each request for memory refused once; the Rust crate with
+# its worked runs and its examples, and without the standard library; the programs of docs/embedding.md; and examples/kernel. With
+# EMBED_BUILT set it takes the library as it was built before.
 set -u
 cd "$(dirname "$0")/.."
 failed=0
@@ -135,13 +136,27 @@ if have c++ g++; then
   passes "cpu as C++" "$work/cpu_cpp"
 fi
 if have cargo cargo; then
-  passes "the Rust crate" env CARGO_TARGET_DIR="$work/target" cargo test --offline --quiet --manifest-path rust/cyclic/Cargo.toml
-  mkdir -p "$work/page_rs/src"
+  export CARGO_TARGET_DIR=$work/target
+  # --locked: the lock's version is the package's
+  passes "the Rust crate" cargo test --offline --locked --quiet --manifest-path rust/cyclic/Cargo.toml
+  if have cargo-clippy rust-clippy; then
+    passes "the Rust crate, by clippy" cargo clippy --offline --locked --quiet --all-targets --manifest-path rust/cyclic/Cargo.toml -- -D warnings
+  fi
+  # package NAME WORDS: makes a package of the source that stands there, over the Rust crate with these words, and runs it
+  package() {
+    printf '[package]\nname = "%s"\nversion = "0.0.0"\nedition = "2021"\n[dependencies]\ncyclic = { path = "%s"%s }\n[profile.dev]\npanic = "abort"\n' \
+      "$1" "$PWD/rust/cyclic" "$2" > "$work/$1/Cargo.toml"
+    passes "the Rust program $1" cargo run --offline --quiet --manifest-path "$work/$1/Cargo.toml"
+  }
+  mkdir -p "$work/page_rs/src" "$work/bare/src"
   block rust > "$work/page_rs/src/main.rs"
-  printf '[package]\nname = "page"\nversion = "0.1.0"\nedition = "2024"\n[dependencies]\ncyclic = { path = "%s" }\n' "$PWD/rust/cyclic" > "$work/page_rs/Cargo.toml"
-  passes "the page's program in Rust" env CARGO_TARGET_DIR="$work/target" cargo run --offline --quiet --manifest-path "$work/page_rs/Cargo.toml"
+  package page_rs ''
   says "the page's program in Rust" '3 high, 1 low, next at 40'
-  passes "the profiler" env CARGO_TARGET_DIR="$work/target" cargo run --offline --quiet --example profiler --manifest-path rust/cyclic/Cargo.toml -- 1
+  cp tests/embed/bare.rs "$work/bare/src/main.rs"
+  package bare ', default-features = false'
+  for example in profiler timerfd workers; do
+    passes "the example $example" cargo run --offline --locked --quiet --example "$example" --manifest-path rust/cyclic/Cargo.toml -- 1
+  done
 fi
 [ "$failed" -eq 0 ] && echo "embed: all passed"
 exit "$failed"

@@ -59,7 +59,8 @@ impl From<Box<CloseRefused>> for Refusal {
 }
 
 /// Closes a CPU whose three sides come back, also where calls are outstanding, and gives the book of each cyclic of a soft level.
-/// Refuses Misused where the sides are not of one open, and Memory where there is none for the books; then it gives the sides back.
+/// Refuses Misused where the sides are not of one open, or not in their places, and Memory where there is none for the books; then
+/// it gives the sides back.
 ///
 /// ```
 /// use cyclic::{close, open, Soft};

@@ -12,8 +12,8 @@ type Handler<'h> = Box<dyn FnMut() + 'h>;
 
 /// A CPU that one thread uses, and the handlers of its cyclics. A drop closes it.
 ///
-/// It stays on the thread that opened it, since its handlers may use what is that thread's alone: it is neither Send nor Sync. For
-/// several threads there is [`open`](crate::open).
+/// It stays on the thread that opened it, since its handlers may use what is that thread's alone: it is neither Send nor Sync.
+/// For several threads there is [`open`](crate::open).
 ///
 /// ```
 /// use cyclic::{Cpu, Level};

@@ -62,8 +62,8 @@
 //!
 //! # Without the standard library
 //!
-//! With `default-features = false` the package needs `core` and `alloc` alone, and the program's `malloc`, `realloc` and `free`. The
-//! refusals have their texts there too, but are no `std::error::Error`.
+//! With `default-features = false` the package needs `core` and `alloc` alone, and the program's `malloc`, `realloc` and `free`.
+//! The refusals have their texts there too, but are no `std::error::Error`.
 
 #![no_std]
 #![warn(missing_docs)]

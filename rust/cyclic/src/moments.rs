@@ -18,8 +18,8 @@ pub const NEVER: i64 = i64::MAX;
 
 /// A moment: nanoseconds from 0 to [`NEVER`], on any clock that never goes back.
 ///
-/// Each call that takes one takes `impl Into<Moment>`: whole nanoseconds as an `i64`, or the [`Duration`] since the clock began, as
-/// `Instant::elapsed` gives it. A negative moment is refused by the call that is given it, as `BadWhen`.
+/// Each call that takes one takes `impl Into<Moment>`: whole nanoseconds as an `i64`, or the [`Duration`] since the clock began,
+/// as `Instant::elapsed` gives it. A negative moment is refused by the call that is given it, as `BadWhen`.
 ///
 /// ```
 /// use cyclic::Moment;

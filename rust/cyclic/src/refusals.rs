@@ -68,8 +68,7 @@ impl fmt::Display for Refusal {
     }
 }
 
-/// A fire that stopped at an expiration that was refused, with what it did before. `?` hands it on as itself, as a boxed error, or
-/// as the [`Refusal`] alone.
+/// A fire that was refused, with what it did before. `?` hands it on as itself, as a boxed error, or as the [`Refusal`] alone.
 ///
 /// ```
 /// use cyclic::{Cpu, Level, Refusal};
