@@ -23,7 +23,8 @@ import time
 TOP = os.path.join(os.path.dirname(os.path.abspath(__file__)), "..")
 RT = r"""#!/usr/bin/env bash
 crate=$(basename "$PWD")
-echo "$crate: $*" >> "$FAKE/calls"
+case $PWD in "$FAKE"/scratch/*) copy=", in a copy" ;; esac
+echo "$crate: $*$copy" >> "$FAKE/calls"
 echo "the kit's line"  >&2
 is() { [ "$(cat "$FAKE/does" 2> /dev/null)" = "$1" ]; }
 [ "$1" != try ] || { shift; echo "look $*"; cat; exit 3; }
@@ -119,6 +120,13 @@ class Start:
         self.run(name, ["run"], 4, "", FIRST["cyclic"] + said + "cyclic: not proved and built\n", calls)
         os.remove(f"{self.top}/does")
 
+    def side_by_side(self, name, calls):
+        """A start of the program that two crates stand below which don't wait for each other."""
+        ran = subprocess.run([f"{self.top}/cyclic", "run"], input="script", capture_output=True, text=True, env=self.env, timeout=60)
+        self.want(f"{name}, status", ran.returncode, 7)
+        self.want(f"{name}, calls", sorted(self.calls()), sorted(calls))
+        self.want(f"{name}, left behind", os.listdir(f"{self.top}/scratch"), [])
+
     def is_left(self, group):
         """Whether a process of this group is there, after two seconds at the most."""
         for _ in range(40):
@@ -183,6 +191,9 @@ def tries(start):
             start.want(f"{number.name}, left behind", left, None)
             os.remove(f"{start.top}/scratch/{left}")
         start.builds(f"after {number.name}", "run")
+    start.write("crates/wide/src/lib.rt", "w")
+    start.write("crates.txt", "low: thiserror\nhigh: low\nwide: low\ncyclic_replay: low\ncyclic: high wide low\n")
+    start.side_by_side("side by side", [*RUN, "wide: lib, in a copy", "wide: lib"])
     said, calls = "the kit's line\n", ["cyclic: try -- replay x"]
     start.run("a look", ["replay", "x"], 3, "look -- replay x\nscript", said, calls, script="look")
     start.write("crates/low/src/lib.rt", "no kit")
