@@ -17,8 +17,8 @@
  * caller gives to a cyclic, from 1 to CYCLIC_LAST_ID: as a place in its own table of handlers. It is the caller's to give
  * no id twice.
  *
- * No function here calls a handler, waits or takes a lock; those that take memory say so. Every one answers 0 where it is done,
- * and else the number of its refusal. A refused call changes nothing, where its text says nothing else.
+ * No function here calls a handler, waits or takes a lock; those that take memory say so. Every one but cyclic_version answers 0 where
+ * it is done, and else the number of its refusal. A refused call changes nothing, where its text says nothing else.
  *
  * Where each call may stand is said at its end, and for all calls together in docs/theory.md. An interrupt of a kernel counts as a
  * thread of its own here, and so does each soft interrupt: what it interrupts, between any two instructions, is a call that another thread
@@ -50,6 +50,10 @@ extern "C" {
 #define CYCLIC_VERSION "0.1.0"
 
 /* The refusals. */
+/* The same as one number: a million for each major, a thousand for each minor, and the patch. */
+#define CYCLIC_VERSION_NUMBER \
+    (CYCLIC_VERSION_MAJOR * UINT32_C(1000000) + CYCLIC_VERSION_MINOR * UINT32_C(1000) + CYCLIC_VERSION_PATCH)
+
 #define CYCLIC_MEMORY 1u          /* a growth of memory was refused */
 #define CYCLIC_BAD_WHEN 2u        /* a start or a moment is negative */
 #define CYCLIC_BAD_INTERVAL 3u    /* an interval is below 1 */
@@ -146,6 +150,12 @@ typedef struct cyclic_receipt {
 } cyclic_receipt;
 
 /*
+/*
+ * The version of the library that is linked, as CYCLIC_VERSION_NUMBER of the header that belongs to it.
+ * Stands anywhere.
+ */
+uint32_t cyclic_version(void);
+
  * Opens a CPU with no cyclic. `ceiling` is the greatest pend of a cyclic at a soft level, from 1 on: an expiration that finds
  * that many calls outstanding is lost, and counted. No cyclic expires more than `most` times, from 1 on.
  * Takes memory. Refuses with CYCLIC_MISUSED where the handle is open, or a number is 0; then with CYCLIC_MEMORY.

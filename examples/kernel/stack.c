@@ -46,6 +46,7 @@ static uint32_t deep(const char *name, const void *call, const uint64_t argument
 /* Cyclics of a CPU on one thread: as many as it holds, fired in time and too late, and each removed. */
 static void cpu_calls(void)
 {
+    DEEP(cyclic_version, 0);
     DEEP(cyclic_cpu_open, 100, UINT64_MAX, AT(cpu));
     for (uint64_t k = 1; k <= 257; k++) {
         DEEP(cyclic_add, AT(cpu), k, k % 3, k % 2 == 0 ? 0 : k, 10 + k % 7, 1, AT(busy));

@@ -1,5 +1,5 @@
 /* Prints the number and the name of each refusal of cyclic.h, as the table there has them, and then its version. Ends with 1 where a
- * number has no text, or one that is no refusal has one. */
+ * number has no text, or one that is no refusal has one, or the library is of another version than the header. */
 #include <stdio.h>
 #include <string.h>
 #include "cyclic.h"
@@ -21,5 +21,6 @@ int main(void)
     }
     sprintf(version, "%d.%d.%d", CYCLIC_VERSION_MAJOR, CYCLIC_VERSION_MINOR, CYCLIC_VERSION_PATCH);
     printf("version %s\n", CYCLIC_VERSION);
+    wrong |= cyclic_version() != CYCLIC_VERSION_NUMBER;
     return wrong || known != 0 CYCLIC_REFUSALS(COUNT) || strcmp(version, CYCLIC_VERSION) != 0 || strcmp(cyclic_refusal_text(0), "done") != 0;
 }

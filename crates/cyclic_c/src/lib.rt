@@ -19,3 +19,4 @@ pub mod sealed;
 pub mod sealed_books;
 pub mod sealed_firing;
 pub mod sealed_soft;
+pub mod version;

@@ -87,3 +87,14 @@ pub use moments::{Interval, Moment, NEVER};
 pub use refusals::{FireRefused, Refusal};
 pub use sides::{open, FiringSide, SoftSide};
 pub use values::{Book, Fired, Id, Level, Ran, Receipt, Removal, Soft, Totals};
+
+/// The version of the proved library that is linked: major, minor and patch. It is this package's own where the two belong together.
+///
+/// ```
+/// let (major, minor, patch) = cyclic::version();
+/// assert_eq!(format!("{}.{}.{}", major, minor, patch), env!("CARGO_PKG_VERSION"));
+/// ```
+pub fn version() -> (u32, u32, u32) {
+    let number = unsafe { sys::cyclic_version() };
+    (number / 1_000_000, number / 1_000 % 1_000, number % 1_000)
+}

@@ -41,6 +41,7 @@ pub struct Receipt {
 }
 
 extern "C" {
+    pub fn cyclic_version() -> u32;
     pub fn cyclic_cpu_open(ceiling: u32, most: u64, cpu: *mut Handle) -> u32;
     pub fn cyclic_cpu_close(cpu: *mut Handle) -> u32;
     pub fn cyclic_add(
