@@ -8,7 +8,8 @@
  * doubled and never lost uncounted; and once a removal has answered, no call of its cyclic is handed out. The proof speaks of
  * this library's code. What the caller owes is said at each function; nothing checks it. The sentences that hold for all:
  *
- *   - A pointer is never null, and points to a value of its type that no other thread uses meanwhile.
+ *   - A pointer points to a value of its type that no other thread uses meanwhile, and is never null. Only `busy` may be null: then
+ *     the id that it would get isn't written, and the call does and answers the same.
  *   - A handle is used by one thread at a time, and never copied. Only this library writes its fields.
  *   - The program has malloc, realloc and free from one allocator, and links c/liblibc_c.a of the Rattle kit (see
  *     docs/embedding.md). No function here is called from a signal handler, or in the forked child of a process with threads.
@@ -49,11 +50,11 @@ extern "C" {
 #define CYCLIC_VERSION_PATCH 0
 #define CYCLIC_VERSION "0.1.0"
 
-/* The refusals. */
 /* The same as one number: a million for each major, a thousand for each minor, and the patch. */
 #define CYCLIC_VERSION_NUMBER \
     (CYCLIC_VERSION_MAJOR * UINT32_C(1000000) + CYCLIC_VERSION_MINOR * UINT32_C(1000) + CYCLIC_VERSION_PATCH)
 
+/* The refusals. */
 #define CYCLIC_MEMORY 1u          /* a growth of memory was refused */
 #define CYCLIC_BAD_WHEN 2u        /* a start or a moment is negative */
 #define CYCLIC_BAD_INTERVAL 3u    /* an interval is below 1 */
@@ -150,12 +151,12 @@ typedef struct cyclic_receipt {
 } cyclic_receipt;
 
 /*
-/*
  * The version of the library that is linked, as CYCLIC_VERSION_NUMBER of the header that belongs to it.
  * Stands anywhere.
  */
 uint32_t cyclic_version(void);
 
+/*
  * Opens a CPU with no cyclic. `ceiling` is the greatest pend of a cyclic at a soft level, from 1 on: an expiration that finds
  * that many calls outstanding is lost, and counted. No cyclic expires more than `most` times, from 1 on.
  * Takes memory. Refuses with CYCLIC_MISUSED where the handle is open, or a number is 0; then with CYCLIC_MEMORY.
@@ -176,7 +177,8 @@ uint32_t cyclic_cpu_close(cyclic_cpu *cpu);
  * Takes memory where the CPU's size doubles, and then it switches both soft levels to a greater buffer.
  * Refuses with CYCLIC_MISUSED where the level or the id is none, then CYCLIC_BAD_WHEN for the start, CYCLIC_BAD_INTERVAL,
  * CYCLIC_BAD_WHEN for a negative `now`, CYCLIC_TAKEN, CYCLIC_BAD_NOW, CYCLIC_FULL, and where the size must double CYCLIC_BUSY,
- * CYCLIC_EXPANDING and CYCLIC_MEMORY. `*busy` gets the id of the open removal where it is busy, else 0.
+ * CYCLIC_EXPANDING and CYCLIC_MEMORY. `*busy` gets the id of the open removal where it is busy, else 0; where the handle is closed it
+ * stays. `busy` may be null.
  * Stands in the CPU's thread, outside of interrupts since it takes memory, and in no handler of a high cyclic.
  */
 uint32_t cyclic_add(cyclic_cpu *cpu, uint64_t id, uint32_t level, int64_t start, int64_t interval, int64_t now,
@@ -194,7 +196,8 @@ uint32_t cyclic_reprogram(cyclic_cpu *cpu, uint64_t id, int64_t moment);
  * `*receipt` has its counts, and `*kept` is 0. Else `*kept` gets those calls, the receipt's id is 0, and the removal is open
  * until they are made: go on with cyclic_take and cyclic_finish, and poll it. One removal may be open.
  * Refuses with CYCLIC_NO_CYCLIC, also for a cyclic whose removal has answered; then with CYCLIC_BUSY, and `*busy` gets the id
- * of the open removal, which may be this one. Where it does not refuse so, `*busy` is 0.
+ * of the open removal, which may be this one. Where it does not refuse so, `*busy` is 0; where the handle is closed it stays. `busy` may
+ * be null.
  * Stands in the CPU's thread, and in no handler of a high cyclic. Other calls may stand between it and the answer.
  */
 uint32_t cyclic_begin_remove(cyclic_cpu *cpu, uint64_t id, uint32_t *kept, cyclic_receipt *receipt, uint64_t *busy);

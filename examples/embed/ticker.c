@@ -146,7 +146,6 @@ int main(int count, char **words)
     cyclic_receipt removed;
     cyclic_totals_of high;
     pthread_t threads[2];
-    uint64_t busy;
     uint32_t kept;
 
     if (seconds < 1)
@@ -170,7 +169,7 @@ int main(int count, char **words)
     }
     for (size_t k = 0; k < TIMERS; k++) {
         uint32_t answer;
-        while ((answer = cyclic_firing_add(&firing, k + 1, timers[k].level, 0, timers[k].interval, now(), &busy)) ==
+        while ((answer = cyclic_firing_add(&firing, k + 1, timers[k].level, 0, timers[k].interval, now(), NULL)) ==
                CYCLIC_EXPANDING)
             wake_both();
         done(answer);
@@ -178,7 +177,7 @@ int main(int count, char **words)
 
     /* Half of the time for all three, and then the last is removed. */
     fire_until(&firing, seconds * SECOND / 2);
-    done(cyclic_firing_begin_remove(&firing, TIMERS, &kept, &removed, &busy));
+    done(cyclic_firing_begin_remove(&firing, TIMERS, &kept, &removed, NULL));
     while (removed.id == 0) {
         wake_both();
         done(cyclic_firing_poll_remove(&firing, &removed));

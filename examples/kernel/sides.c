@@ -35,9 +35,9 @@ static void call(uint64_t id, bool high)
 
 uint32_t sides_add(uint32_t level, int64_t start, int64_t interval, int64_t now)
 {
-    uint64_t id = sides.last + 1, busy;
+    uint64_t id = sides.last + 1;
     struct timer *timer = &sides.timers[id];
-    uint32_t answer = cyclic_firing_add(&sides.firing, id, level, start, interval, now, &busy);
+    uint32_t answer = cyclic_firing_add(&sides.firing, id, level, start, interval, now, NULL);
     if (answer != 0)
         return answer;
     timer->level = level;
@@ -102,8 +102,7 @@ static void keep_receipt(const cyclic_receipt *receipt)
 static void remove_one(void)
 {
     cyclic_receipt receipt;
-    uint64_t busy;
-    uint32_t kept, answer = cyclic_firing_begin_remove(&sides.firing, request.id, &kept, &receipt, &busy);
+    uint32_t kept, answer = cyclic_firing_begin_remove(&sides.firing, request.id, &kept, &receipt, NULL);
     if (answer == CYCLIC_BUSY)
         return;
     if (answer != 0) {

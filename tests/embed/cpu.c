@@ -44,9 +44,13 @@ static void a_closed_handle_is_refused(void)
 {
     cyclic_cpu cpu = CYCLIC_CLOSED;
     WANT(cyclic_cpu_close(&cpu), CYCLIC_MISUSED);
+    busy = 7;
     WANT(cyclic_add(&cpu, 1, CYCLIC_LOW, 1, 1, 0, &busy), CYCLIC_MISUSED);
+    WANT(cyclic_add(&cpu, 1, CYCLIC_LOW, 1, 1, 0, NULL), CYCLIC_MISUSED);
     WANT(cyclic_reprogram(&cpu, 1, 1), CYCLIC_MISUSED);
     WANT(cyclic_begin_remove(&cpu, 1, &kept, &receipt, &busy), CYCLIC_MISUSED);
+    WANT(cyclic_begin_remove(&cpu, 1, &kept, &receipt, NULL), CYCLIC_MISUSED);
+    WANT(busy, 7);
     WANT(cyclic_poll_remove(&cpu, &receipt), CYCLIC_MISUSED);
     WANT(cyclic_fire(&cpu, 1, &fired), CYCLIC_MISUSED);
     WANT(cyclic_take(&cpu, CYCLIC_LOW, &id), CYCLIC_MISUSED);
@@ -77,6 +81,7 @@ static void an_add_is_refused_in_order(void)
     WANT(cyclic_add(&cpu, 1, CYCLIC_LOW, 0, 1, CYCLIC_NEVER, &busy), CYCLIC_BAD_NOW);
     WANT(cyclic_add(&cpu, CYCLIC_LAST_ID, CYCLIC_HIGH, 5, 10, 0, &busy), 0);
     WANT(cyclic_add(&cpu, CYCLIC_LAST_ID, CYCLIC_LOW, 5, 10, CYCLIC_NEVER, &busy), CYCLIC_TAKEN);
+    WANT(cyclic_add(&cpu, CYCLIC_LAST_ID, CYCLIC_LOW, 5, 10, CYCLIC_NEVER, NULL), CYCLIC_TAKEN);
     WANT(cyclic_cpu_close(&cpu), 0);
 }
 
@@ -252,6 +257,33 @@ static void a_removal_waits_for_its_calls(void)
     WANT(cyclic_cpu_close(&cpu), 0);
 }
 
+/* Each answer is the same with a null `busy`, and what happened too. */
+static void busy_may_be_null(void)
+{
+    cyclic_cpu cpu;
+    opened(&cpu, 8, UINT64_MAX);
+    WANT(cyclic_begin_remove(&cpu, 1, &kept, &receipt, NULL), CYCLIC_NO_CYCLIC);
+    WANT(cyclic_add(&cpu, 1, CYCLIC_LOW, 1, 1, 0, NULL), 0);
+    WANT(cyclic_fire(&cpu, 3, &fired), 0);
+    WANT(cyclic_begin_remove(&cpu, 1, &kept, &receipt, NULL), 0);
+    WANT(kept, 3);
+    WANT(receipt.id, 0);
+    busy = 7;
+    WANT(cyclic_begin_remove(&cpu, 1, &kept, &receipt, NULL), CYCLIC_BUSY);
+    WANT(kept, 0);
+    WANT(cyclic_add(&cpu, 2, CYCLIC_HIGH, 1, 1, 3, NULL), CYCLIC_BUSY);
+    WANT(busy, 7);
+    WANT(cyclic_add(&cpu, 2, CYCLIC_HIGH, 1, 1, 3, &busy), CYCLIC_BUSY);
+    WANT(busy, 1);
+    WANT(serve(&cpu, CYCLIC_LOW, 8), 3);
+    WANT(cyclic_poll_remove(&cpu, &receipt), 0);
+    WANT(receipt.id, 1);
+    WANT(cyclic_add(&cpu, 2, CYCLIC_HIGH, 1, 1, 3, NULL), 0);
+    WANT(cyclic_begin_remove(&cpu, 2, &kept, &receipt, NULL), 0);
+    WANT(receipt.id, 2);
+    WANT(cyclic_cpu_close(&cpu), 0);
+}
+
 int main(void)
 {
     a_closed_handle_is_refused();
@@ -261,6 +293,7 @@ int main(void)
     a_fire_stops_in_front_of_each_high_call();
     a_call_is_taken_and_finished();
     a_removal_waits_for_its_calls();
+    busy_may_be_null();
     puts("cpu: every answer is as it should be");
     return 0;
 }

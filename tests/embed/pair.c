@@ -37,9 +37,13 @@ static void every_answer(void)
     WANT(cyclic_soft_hand(&lock, &id), CYCLIC_MISUSED);
     WANT(cyclic_book(&books, 0, 0, &book), CYCLIC_MISUSED);
     WANT(cyclic_books_close(&books), CYCLIC_MISUSED);
+    busy = 7;
     WANT(cyclic_firing_add(&firing, 1, CYCLIC_LOW, 1, 1, 0, &busy), CYCLIC_MISUSED);
+    WANT(cyclic_firing_add(&firing, 1, CYCLIC_LOW, 1, 1, 0, NULL), CYCLIC_MISUSED);
     WANT(cyclic_firing_reprogram(&firing, 1, 1), CYCLIC_MISUSED);
     WANT(cyclic_firing_begin_remove(&firing, 1, &kept, &receipt, &busy), CYCLIC_MISUSED);
+    WANT(cyclic_firing_begin_remove(&firing, 1, &kept, &receipt, NULL), CYCLIC_MISUSED);
+    WANT(busy, 7);
     WANT(cyclic_firing_poll_remove(&firing, &receipt), CYCLIC_MISUSED);
     WANT(cyclic_firing_fire(&firing, 1, &fired), CYCLIC_MISUSED);
     WANT(cyclic_firing_pending(&firing, 1, &pending), CYCLIC_MISUSED);
@@ -56,6 +60,8 @@ static void every_answer(void)
     WANT(cyclic_firing_add(&firing, 5, CYCLIC_LOW, 1, 1, CYCLIC_NEVER, &busy), CYCLIC_BAD_NOW);
     WANT(cyclic_firing_add(&firing, 5, CYCLIC_LOW, 1, 10, 0, &busy), 0);
     WANT(cyclic_firing_add(&firing, 5, CYCLIC_LOW, 1, 10, 0, &busy), CYCLIC_TAKEN);
+    WANT(busy, 0);
+    WANT(cyclic_firing_add(&firing, 5, CYCLIC_LOW, 1, 10, 0, NULL), CYCLIC_TAKEN);
     WANT(cyclic_firing_fire(&firing, 1, &fired), 0);
     WANT(fired.expired, 1);
     WANT(fired.next, 11);
@@ -84,7 +90,15 @@ static void every_answer(void)
     WANT(id, 0);
     WANT(cyclic_firing_begin_remove(&firing, 6, &kept, &receipt, &busy), 0);
     WANT(kept, 1);
+    WANT(cyclic_firing_begin_remove(&firing, 5, &kept, &receipt, NULL), CYCLIC_BUSY);
+    WANT(kept, 0);
+    WANT(busy, 0);
     WANT(cyclic_firing_begin_remove(&firing, 5, &kept, &receipt, &busy), CYCLIC_BUSY);
+    WANT(busy, 6);
+    busy = 7;
+    WANT(cyclic_firing_add(&firing, 7, CYCLIC_LOW, 2, 10, 1, NULL), CYCLIC_BUSY);
+    WANT(busy, 7);
+    WANT(cyclic_firing_add(&firing, 7, CYCLIC_LOW, 2, 10, 1, &busy), CYCLIC_BUSY);
     WANT(busy, 6);
     WANT(cyclic_firing_poll_remove(&firing, &receipt), 0);
     WANT(receipt.id, 0);
@@ -98,7 +112,7 @@ static void every_answer(void)
     WANT(cyclic_firing_reprogram(&firing, 5, 20), 0);
     WANT(cyclic_firing_next(&firing, &moment), 0);
     WANT(moment, 20);
-    WANT(cyclic_firing_add(&firing, 9, CYCLIC_HIGH, 40, 10, 2, &busy), 0);
+    WANT(cyclic_firing_add(&firing, 9, CYCLIC_HIGH, 40, 10, 2, NULL), 0);
     WANT(cyclic_firing_fire(&firing, 40, &fired), CYCLIC_HANDLER_REFUSED);
     WANT(fired.id, 9);
     WANT(fired.expired, 3);
@@ -136,6 +150,16 @@ static void every_answer(void)
     WANT(cyclic_firing_drop(&firing), 0);
     WANT(cyclic_firing_drop(&firing), CYCLIC_MISUSED);
     WANT(cyclic_soft_drop(&lock), 0);
+
+    /* With a null `busy` a removal is done, too. */
+    WANT(cyclic_open(2, 2, &firing, &lock, &low), 0);
+    WANT(cyclic_firing_add(&firing, 1, CYCLIC_LOW, 1, 10, 0, NULL), 0);
+    WANT(cyclic_firing_begin_remove(&firing, 1, &kept, &receipt, NULL), 0);
+    WANT(receipt.id, 1);
+    WANT(cyclic_firing_begin_remove(&firing, 1, &kept, &receipt, NULL), CYCLIC_NO_CYCLIC);
+    WANT(cyclic_firing_drop(&firing), 0);
+    WANT(cyclic_soft_drop(&lock), 0);
+    WANT(cyclic_soft_drop(&low), 0);
 }
 
 /* A soft side with the calls that its thread makes, and the word that tells it to end. */

@@ -4,3 +4,5 @@ pub mod Passing
 pub mod SealsFiring
 pub mod SealsSoftSide
 pub mod SealsBooks
+pub mod OutValues
+pub mod OutCalls

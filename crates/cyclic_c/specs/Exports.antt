@@ -19,6 +19,7 @@ use Rattle.cyc_cpu.specs.Soft.{end_at, held_at, HasEmptyLists}
 use Rattle.cyc_cpu.specs.declared.removing.Removal.TheVariants.{Done, Kept}
 use Rattle.cyc_border.specs.Border.{AddNumbers, Reprograms, Adds, AsksPending, AsksTotals, BeginsRemoval, Takes, Finishes}
 use Rattle.cyclic_c.specs.Records.{IsFired, IsRefused, IsTotals, IsReceipt}
+use Rattle.cyclic_c.specs.OutParameters.{Leaves}
 use Rattle.cyclic_c.specs.declared.records.CyclicFired.{CyclicFired}
 use Rattle.cyclic_c.specs.declared.records.CyclicTotals.{CyclicTotals}
 use Rattle.cyclic_c.specs.declared.records.CyclicReceipt.{CyclicReceipt}
@@ -76,11 +77,11 @@ pub record Written (X : Type 0) : Type 0 where
 abbrev pub written : {X : Type 0} → X → X → Written X
 written old new = record { old = old; new = new }
 
--- what the begin of a removal writes
+-- what the begin of a removal writes, with no `busy` where its pointer is null
 pub record RemovalOut : Type 0 where
   pub kept : ℕ
   pub receipt : CyclicReceipt
-  pub busy : ℕ
+  pub busy : Option ℕ
 
 -- the receipt of a removal that was done at once
 abbrev pub IsRemoved : Result Removal Denied → CyclicReceipt → Type 0
@@ -100,8 +101,8 @@ module _ {R X : Type 0} (firing : Raise R)
   ReprogramsOut id moment r v w = (answer : Result (Unit {0}) Denied) × (r ≡ answer_of answer)
       × on (Reprograms firing id moment answer) v w
 
-  abbrev pub AddsOut : AddNumbers → ℕ → ℕ → X → X → Type 0
-  AddsOut numbers r busy v w = (answer : Result (Unit {0}) Denied) × (r ≡ answer_of answer) × (busy ≡ named_by answer)
+  abbrev pub AddsOut : AddNumbers → ℕ → Option ℕ → X → X → Type 0
+  AddsOut numbers r busy v w = (answer : Result (Unit {0}) Denied) × (r ≡ answer_of answer) × Leaves (named_by answer) busy
       × on (Adds firing numbers answer) v w
 
   abbrev pub PendingOut : ℕ → ℕ → ℕ → X → X → Type 0
@@ -118,7 +119,7 @@ module _ {R X : Type 0} (firing : Raise R)
 
   abbrev pub RemovesOut : ℕ → ℕ → RemovalOut → X → X → Type 0
   RemovesOut id r out v w = (answer : Result Removal Denied) × (r ≡ answer_of answer) × (out.kept ≡ kept_by answer)
-      × IsRemoved answer out.receipt × (out.busy ≡ named_by answer) × on (BeginsRemoval firing id answer) v w
+      × IsRemoved answer out.receipt × Leaves (named_by answer) out.busy × on (BeginsRemoval firing id answer) v w
 
   abbrev pub NextOut : ℕ → ℤ → X → X → Type 0
   NextOut r moment v w = (r ≡ 0) × on (λ a b. (moment ≡ pos (earliest (timers a.cyclics))) × (b ≡ a)) v w

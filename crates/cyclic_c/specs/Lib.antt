@@ -1,4 +1,5 @@
 pub mod Owns
 pub mod Records
+pub mod OutParameters
 pub mod Exports
 pub mod PairOut

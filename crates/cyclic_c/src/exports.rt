@@ -1,10 +1,14 @@
 //! The exports that open, close and drain a CPU on one thread.
 
+ghost use Rattle.std.specs.Prelude.{◌≡◌, ℕ, Option};
+ghost use Rattle.std.specs.Borrow.{sem};
+ghost use denote.RawPtr.{Testable};
 ghost use Rattle.cyc_border.specs.Border.{Through};
 ghost use Rattle.cyclic_c.specs.Exports.{Opens, Closes, ReprogramsOut, AddsOut, PendingOut, TotalsOut, PollsOut, TakesOut};
 ghost use Rattle.cyclic_c.specs.Exports.{FinishesOut, FiresOut, RemovesOut, NextOut, OnHard};
 ghost use Rattle.cyc_border.specs.Border.{FiresCpu, add_numbers};
 ghost use Rattle.cyclic_c.specs.Exports.{written};
+ghost use Rattle.cyclic_c.specs.OutParameters.{number_behind, pointer_of, number_of};
 ghost use Rattle.cyc_cpu.specs.Soft.{raise_tables};
 
 use crate::answers::{
@@ -12,6 +16,7 @@ use crate::answers::{
     write_fired, write_totals,
 };
 use crate::handle::CyclicCpu;
+use crate::out_parameter::OutParameter;
 use crate::records::{CyclicFired, CyclicReceipt, CyclicTotals};
 use cyc_border::asking::{begin_remove, pending_of, reprogram, totals_at};
 use cyc_border::calling::add;
@@ -73,8 +78,11 @@ pub extern "C" fn cyclic_reprogram(alloc: Global, cpu: &mut CyclicCpu, id: u64, 
 }
 
 /// Adds a cyclic of this id, which no other cyclic here has; `busy` gets the id of an open removal that refused it, else 0.
+/// It may be null, and then nothing is written.
+///
+/// A pointer may be compared with null where it leads less than 2^63 bytes into its object, as each pointer of C does.
 #[unsafe(no_mangle)]
-pub extern "C" fn cyclic_add(
+pub unsafe extern "C" fn cyclic_add(
     alloc: Global,
     cpu: &mut CyclicCpu,
     id: u64,
@@ -82,18 +90,43 @@ pub extern "C" fn cyclic_add(
     start: i64,
     interval: i64,
     now: i64,
-    busy: &mut u64,
+    busy: *mut u64,
 ) -> u32
-    ensures { Through cpu.old.inner.held cpu.new.inner.held result
-        (AddsOut raise_tables OnHard (add_numbers id level start interval now) result busy.new) }
+    ghost before: { Option ℕ }
+    requires testable { Testable busy }
+    requires* memory { sem 𝓛 (number_behind busy before) }
+    ensures* { ∃ₛ (λ (after : Option ℕ). sem 𝓛 (number_behind busy after)
+        ∗ ⌜ Through cpu.old.inner.held cpu.new.inner.held result
+        (AddsOut raise_tables OnHard (add_numbers id level start interval now) result after) ⌝) }
+{
+    let busy = unsafe { OutParameter::behind(busy) };
+    added(alloc, cpu, id, level, start, interval, now, busy).0
+}
+
+/// The add, with the number of its answer and the out-parameter again.
+fn added(
+    alloc: Global,
+    cpu: &mut CyclicCpu,
+    id: u64,
+    level: u32,
+    start: i64,
+    interval: i64,
+    now: i64,
+    busy: Option<OutParameter>,
+) -> (u32, Option<OutParameter>)
+    ensures done { Through cpu.old.inner.held cpu.new.inner.held result.0
+        (AddsOut raise_tables OnHard (add_numbers id level start interval now) result.0 (number_of result.1)) }
+    ensures pointer { pointer_of result.1 ≡ pointer_of busy }
 {
     let Some(mut open) = cpu.take(alloc) else {
-        return MISUSED;
+        return (MISUSED, busy);
     };
     let answer = add(&mut open.hard, id, level, start, interval, now);
     cpu.put(open);
-    *busy = named_in(&answer);
-    number_of_answer(&answer)
+    (
+        number_of_answer(&answer),
+        OutParameter::written(busy, named_in(&answer)),
+    )
 }
 
 /// The calls of the cyclic that are outstanding, 0 where it is refused.
@@ -212,29 +245,49 @@ pub extern "C" fn cyclic_fire(
 }
 
 /// Begins the removal of a cyclic. Done at once, `receipt` is written and `kept` is 0; else `kept` gets the calls that are
-/// outstanding. Where it is refused `kept` is 0, and `busy` gets the id of the open removal.
+/// outstanding. Where it is refused `kept` is 0, and `busy`, which may be null, gets the id of the open removal.
 #[unsafe(no_mangle)]
-pub extern "C" fn cyclic_begin_remove(
+pub unsafe extern "C" fn cyclic_begin_remove(
     alloc: Global,
     cpu: &mut CyclicCpu,
     id: u64,
     kept: &mut u32,
     receipt: &mut CyclicReceipt,
-    busy: &mut u64,
+    busy: *mut u64,
 ) -> u32
-    ensures { Through cpu.old.inner.held cpu.new.inner.held result
-        (RemovesOut raise_tables OnHard id result
-        (record { kept = kept.new; receipt = receipt.new; busy = busy.new })) }
+    ghost before: { Option ℕ }
+    requires testable { Testable busy }
+    requires* memory { sem 𝓛 (number_behind busy before) }
+    ensures* { ∃ₛ (λ (after : Option ℕ). sem 𝓛 (number_behind busy after)
+        ∗ ⌜ Through cpu.old.inner.held cpu.new.inner.held result (RemovesOut raise_tables OnHard id result
+        (record { kept = kept.new; receipt = receipt.new; busy = after })) ⌝) }
+{
+    let busy = unsafe { OutParameter::behind(busy) };
+    removal_begun(alloc, cpu, id, kept, receipt, busy).0
+}
+
+/// The begin of a removal, with the number of its answer and the out-parameter again.
+fn removal_begun(
+    alloc: Global,
+    cpu: &mut CyclicCpu,
+    id: u64,
+    kept: &mut u32,
+    receipt: &mut CyclicReceipt,
+    busy: Option<OutParameter>,
+) -> (u32, Option<OutParameter>)
+    ensures done { Through cpu.old.inner.held cpu.new.inner.held result.0 (RemovesOut raise_tables OnHard id result.0
+        (record { kept = kept.new; receipt = receipt.new; busy = number_of result.1 })) }
+    ensures pointer { pointer_of result.1 ≡ pointer_of busy }
 {
     let Some(mut open) = cpu.take(alloc) else {
-        return MISUSED;
+        return (MISUSED, busy);
     };
     let answer = begin_remove(&mut open.hard, id);
     cpu.put(open);
     *kept = kept_of(&answer);
     *receipt = removed_of(&answer);
-    *busy = named_in(&answer);
-    number_of_answer(&answer)
+    let busy = OutParameter::written(busy, named_in(&answer));
+    (number_of_answer(&answer), busy)
 }
 
 /// The least expiration of the CPU, never where there is none.

@@ -1,7 +1,11 @@
 //! The exports of the firing side.
 
+ghost use Rattle.std.specs.Prelude.{◌≡◌, ℕ, Option};
+ghost use Rattle.std.specs.Borrow.{sem};
+ghost use denote.RawPtr.{Testable};
 ghost use Rattle.cyc_border.specs.Border.{Through, add_numbers};
 ghost use Rattle.cyclic_c.specs.Exports.{written};
+ghost use Rattle.cyclic_c.specs.OutParameters.{number_behind, pointer_of, number_of};
 ghost use Rattle.cyclic_c.specs.Exports.{ReprogramsOut, AddsOut, PendingOut, TotalsOut, PollsOut, FiresOut, RemovesOut, NextOut};
 ghost use Rattle.cyc_border.specs.Pair.{raise_held, OnSide, FiresSide};
 
@@ -10,6 +14,7 @@ use crate::answers::{
     write_totals,
 };
 use crate::handle_firing::CyclicFiring;
+use crate::out_parameter::OutParameter;
 use crate::records::{CyclicFired, CyclicReceipt, CyclicTotals};
 use cyc_border::asking::{begin_remove, pending_of, reprogram, totals_at};
 use cyc_border::calling::add;
@@ -17,8 +22,9 @@ use cyc_types::Moment;
 use std::alloc::Global;
 
 /// Adds a cyclic of this id, which no other cyclic here has; `busy` gets the id of an open removal that refused it, else 0.
+/// It may be null, and then nothing is written.
 #[unsafe(no_mangle)]
-pub extern "C" fn cyclic_firing_add(
+pub unsafe extern "C" fn cyclic_firing_add(
     alloc: Global,
     firing: &mut CyclicFiring,
     id: u64,
@@ -26,18 +32,43 @@ pub extern "C" fn cyclic_firing_add(
     start: i64,
     interval: i64,
     now: i64,
-    busy: &mut u64,
+    busy: *mut u64,
 ) -> u32
-    ensures { Through firing.old.inner.held firing.new.inner.held result
-        (AddsOut raise_held OnSide (add_numbers id level start interval now) result busy.new) }
+    ghost before: { Option ℕ }
+    requires testable { Testable busy }
+    requires* memory { sem 𝓛 (number_behind busy before) }
+    ensures* { ∃ₛ (λ (after : Option ℕ). sem 𝓛 (number_behind busy after)
+        ∗ ⌜ Through firing.old.inner.held firing.new.inner.held result
+        (AddsOut raise_held OnSide (add_numbers id level start interval now) result after) ⌝) }
+{
+    let busy = unsafe { OutParameter::behind(busy) };
+    added(alloc, firing, id, level, start, interval, now, busy).0
+}
+
+/// The add, with the number of its answer and the out-parameter again.
+fn added(
+    alloc: Global,
+    firing: &mut CyclicFiring,
+    id: u64,
+    level: u32,
+    start: i64,
+    interval: i64,
+    now: i64,
+    busy: Option<OutParameter>,
+) -> (u32, Option<OutParameter>)
+    ensures done { Through firing.old.inner.held firing.new.inner.held result.0
+        (AddsOut raise_held OnSide (add_numbers id level start interval now) result.0 (number_of result.1)) }
+    ensures pointer { pointer_of result.1 ≡ pointer_of busy }
 {
     let Some(mut open) = firing.take(alloc) else {
-        return MISUSED;
+        return (MISUSED, busy);
     };
     let answer = add(&mut open.hard, id, level, start, interval, now);
     firing.put(open);
-    *busy = named_in(&answer);
-    number_of_answer(&answer)
+    (
+        number_of_answer(&answer),
+        OutParameter::written(busy, named_in(&answer)),
+    )
 }
 
 /// Gives a cyclic another next expiration (`reprogram` of the CPU).
@@ -60,29 +91,49 @@ pub extern "C" fn cyclic_firing_reprogram(
 }
 
 /// Begins the removal of a cyclic. Done at once, `receipt` is written and `kept` is 0; else `kept` gets the calls that are
-/// outstanding. Where it is refused `kept` is 0, and `busy` gets the id of the open removal.
+/// outstanding. Where it is refused `kept` is 0, and `busy`, which may be null, gets the id of the open removal.
 #[unsafe(no_mangle)]
-pub extern "C" fn cyclic_firing_begin_remove(
+pub unsafe extern "C" fn cyclic_firing_begin_remove(
     alloc: Global,
     firing: &mut CyclicFiring,
     id: u64,
     kept: &mut u32,
     receipt: &mut CyclicReceipt,
-    busy: &mut u64,
+    busy: *mut u64,
 ) -> u32
-    ensures { Through firing.old.inner.held firing.new.inner.held result
-        (RemovesOut raise_held OnSide id result
-        (record { kept = kept.new; receipt = receipt.new; busy = busy.new })) }
+    ghost before: { Option ℕ }
+    requires testable { Testable busy }
+    requires* memory { sem 𝓛 (number_behind busy before) }
+    ensures* { ∃ₛ (λ (after : Option ℕ). sem 𝓛 (number_behind busy after)
+        ∗ ⌜ Through firing.old.inner.held firing.new.inner.held result (RemovesOut raise_held OnSide id result
+        (record { kept = kept.new; receipt = receipt.new; busy = after })) ⌝) }
+{
+    let busy = unsafe { OutParameter::behind(busy) };
+    removal_begun(alloc, firing, id, kept, receipt, busy).0
+}
+
+/// The begin of a removal, with the number of its answer and the out-parameter again.
+fn removal_begun(
+    alloc: Global,
+    firing: &mut CyclicFiring,
+    id: u64,
+    kept: &mut u32,
+    receipt: &mut CyclicReceipt,
+    busy: Option<OutParameter>,
+) -> (u32, Option<OutParameter>)
+    ensures done { Through firing.old.inner.held firing.new.inner.held result.0 (RemovesOut raise_held OnSide id result.0
+        (record { kept = kept.new; receipt = receipt.new; busy = number_of result.1 })) }
+    ensures pointer { pointer_of result.1 ≡ pointer_of busy }
 {
     let Some(mut open) = firing.take(alloc) else {
-        return MISUSED;
+        return (MISUSED, busy);
     };
     let answer = begin_remove(&mut open.hard, id);
     firing.put(open);
     *kept = kept_of(&answer);
     *receipt = removed_of(&answer);
-    *busy = named_in(&answer);
-    number_of_answer(&answer)
+    let busy = OutParameter::written(busy, named_in(&answer));
+    (number_of_answer(&answer), busy)
 }
 
 /// Ends the open removal where its last call was made, and writes the receipt; else `receipt` gets the id 0.

@@ -14,6 +14,7 @@ pub mod handle_books;
 pub mod handle_firing;
 pub mod handle_soft;
 pub mod loose;
+pub mod out_parameter;
 pub mod records;
 pub mod sealed;
 pub mod sealed_books;

@@ -51,7 +51,7 @@ extern "C" {
         start: i64,
         interval: i64,
         now: i64,
-        busy: &mut u64,
+        busy: *mut u64,
     ) -> u32;
     pub fn cyclic_reprogram(cpu: *mut Handle, id: u64, moment: i64) -> u32;
     pub fn cyclic_begin_remove(
@@ -59,7 +59,7 @@ extern "C" {
         id: u64,
         kept: &mut u32,
         receipt: &mut Receipt,
-        busy: &mut u64,
+        busy: *mut u64,
     ) -> u32;
     pub fn cyclic_poll_remove(cpu: *mut Handle, receipt: &mut Receipt) -> u32;
     pub fn cyclic_fire(cpu: *mut Handle, now: i64, fired: &mut Fired) -> u32;
@@ -105,7 +105,7 @@ extern "C" {
         start: i64,
         interval: i64,
         now: i64,
-        busy: &mut u64,
+        busy: *mut u64,
     ) -> u32;
     pub fn cyclic_firing_reprogram(firing: *mut Handle, id: u64, moment: i64) -> u32;
     pub fn cyclic_firing_begin_remove(
@@ -113,7 +113,7 @@ extern "C" {
         id: u64,
         kept: &mut u32,
         receipt: &mut Receipt,
-        busy: &mut u64,
+        busy: *mut u64,
     ) -> u32;
     pub fn cyclic_firing_poll_remove(firing: *mut Handle, receipt: &mut Receipt) -> u32;
     pub fn cyclic_firing_fire(firing: *mut Handle, now: i64, fired: &mut Fired) -> u32;

@@ -1,22 +1,23 @@
-use Rattle.std.proofs.Common.{subst, ap, to_z-of_z, to_z, of_z, w64, ℤ}
+use Rattle.std.proofs.Common.{ℕ, subst, ap, to_z-of_z, to_z, of_z, w64, ℤ}
 use Rattle.cyc_border.specs.Pair.{raise_held}
 use Rattle.cyc_border.specs.Border.{Adds, add_numbers}
 use Rattle.cyc_border.specs.declared.pair.Firing.{Firing}
+use Rattle.cyclic_c.specs.OutParameters.{Leaves, number_of}
 use Rattle.cyclic_c.proofs.Passing.{through}
-use Rattle.cyclic_c.proofs.exports_firing.cyclic_firing_add.Goals as goal
+use Rattle.cyclic_c.proofs.exports_firing.added.Goals as goal
 
 abbrev read : ℤ → ℤ
 read z = to_z w64 (of_z w64 z)
 
-pub returns : goal.returns
-returns c =
+pub returns-clause-done : goal.returns-clause-done
+returns-clause-done c =
     let answer = c.add-answer.result in let new = c.add-answer.new.cpu in let id = c.args.id in let level = c.args.level in
     let start = c.args.start in let interval = c.args.interval in let now = c.args.now in
     let old = c.deref_mut.result.now.hard in let same = c.deref_mut.ensures.value in
     through _ _ _ _ _ _ c.in-Some.ensures.some c.put.ensures (
       answer,
       c.number_of_answer.ensures,
-      c.named_in.ensures,
+      subst (λ (k : ℕ). Leaves k (number_of c.written.result)) c.named_in.ensures c.written.ensures.number,
       (
         subst (λ (v : Firing). Adds raise_held (add_numbers id level start interval now) answer v.hard new) same
             (subst (λ (z : ℤ). Adds raise_held (add_numbers id level start interval z) answer old new)
