@@ -1,5 +1,5 @@
 #!/usr/bin/env python3
-"""Runs the examples of the pages, and looks up the names that they use.
+"""Runs the examples of the pages, and looks up the names, the code and the contracts that they quote.
 
     tests/pages.py [PAGE ..]     those of the named pages, or of all of docs/ and the README
 
@@ -9,6 +9,10 @@ An example is a block that begins with ```console. A line '$ COMMAND' is run by 
 The pages of NAMED use names of the code, in `code spans` and in indented lines. Each is a path of the repository or one that ends a path, or each of its
 words stands in crates/ or is one of the kernel's. 'CRATE::NAME' is a word of that crate, and 'NAME of CRATE', also with the names
 before it, are words of that crate. A command of the toolchain or of the repository is known by its first word.
+
+The lines of a block of Rust below 'From [FILE](FILE):' stand in that file in this order; '..' is for those left out. A block of text
+whose first line is a path of crates/ quotes contracts of that file and of those that it names further on, as the kit's pages do: each
+function, and each clause, stands there, with `self.old`, `self.now` or `self` for `S` and `self.new` for `S'`.
 
 Each link to a file of the repository must lead to one. Each fault is printed, and the status is then 1.
 """
@@ -25,7 +29,11 @@ BLOCK = re.compile(r"^```console\n(.*?)^```$", re.M | re.S)
 FENCE = re.compile(r"^```.*?^```$", re.M | re.S)
 SPAN = re.compile(r"`([^`\n]+)`")
 LINK = re.compile(r"\]\(([^)#\s]+)[^)]*\)")
-NAMED = ("docs/kernel.md", "docs/proof.md", "docs/README.md", "CONTRIBUTING.md")
+CODE = re.compile(r"^From \[[^]]*\]\(([^)]+)\):\n\n```rust\n(.*?)^```$", re.M | re.S)
+CONTRACTS = re.compile(r"^```text\n(?=crates/)(.*?)^```$", re.M | re.S)
+QUOTED = re.compile(r"^(?:\S.*|  \w.*(?:\n   .*)*)$", re.M)
+CLAUSE = re.compile(r"(requires|ensures)( \w+)?: (.*)")
+NAMED = ("docs/CALLING.md", "docs/kernel.md", "docs/proof.md", "docs/README.md", "CONTRIBUTING.md")
 KERNEL = re.compile(r"cyclic_|cyc_\w+_t$|cy_|cyb_|cyh_|cyi_|cyo_|cyp_|cys_|cyt_|cypc_|CY_|UINT32_MAX|cyclic$|sys$|impl$|c$|h$")
 WORD = re.compile(r"[A-Za-z_][A-Za-z_0-9]*")
 COMMENT = re.compile(r"(?://|-- ).*")
@@ -104,6 +112,38 @@ def dead_links(page, text):
             yield text.count("\n", 0, link.start()) + 1, link[1]
 
 
+def plain(text):
+    """The text on one line, as it is where a list of parameters is not broken."""
+    return re.sub(r"\( ", "(", re.sub(r",? \)", ")", " ".join(text.split())))
+
+
+def unlike_code(page, text):
+    """The number of the line and each line of quoted code that doesn't stand in its file, or not there."""
+    for block in CODE.finditer(text):
+        with open(os.path.join(os.path.dirname(page), block[1]), encoding="utf-8") as file:
+            lines = iter(file.read().splitlines())
+        for row, line in enumerate(block[2].splitlines(), text.count("\n", 0, block.start(2)) + 1):
+            if line.strip() not in ("", "..") and line not in lines:
+                yield row, f"not in {block[1]} after the line before: {line.strip()}"
+                break
+
+
+def unlike_contracts(text):
+    """The number of the line and each function or clause that doesn't stand in the file that it is quoted from."""
+    for block in CONTRACTS.finditer(text):
+        for part in QUOTED.finditer(text, block.start(1), block.end(1)):
+            row, line, clause = text.count("\n", 0, part.start()) + 1, plain(part[0]), CLAUSE.fullmatch(plain(part[0]))
+            if line.startswith("crates/"):
+                with open(line, encoding="utf-8") as file:
+                    source = plain(file.read())
+            elif clause:
+                wanted = re.escape(f"{clause[1]}{clause[2] or ''} {{ {clause[3]} }}").replace("S'", "self.new")
+                if not re.search(re.sub(r"\bS\b", r"self(?:\\.old|\\.now)?", wanted), source):
+                    yield row, f"no such clause: {line}"
+            elif line not in source:
+                yield row, f"no such function: {line}"
+
+
 def differing(text):
     """The number of the line and what is wrong with each example that writes other than the page has."""
     how = {"stdin": subprocess.DEVNULL, "stdout": subprocess.PIPE, "stderr": subprocess.STDOUT, "text": True}
@@ -123,6 +163,7 @@ def main():
         tried += len(examples(text))
         faults += [(page, *it) for it in differing(text)]
         faults += [(page, row, f"no file {link}") for row, link in dead_links(page, text)]
+        faults += [(page, *it) for it in (*unlike_code(page, text), *unlike_contracts(text))]
         if page in NAMED:
             faults += [(page, row, f"no name {span}") for row, span in unknown_names(text)]
     for page, row, fault in faults:

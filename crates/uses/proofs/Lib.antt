@@ -1,0 +1,5 @@
+pub mod Ticking
+pub mod Serving
+pub mod Raising
+pub mod Closing
+pub mod Keeping

@@ -1,0 +1,3 @@
+pub mod Tick
+pub mod Ring
+pub mod System
