@@ -19,13 +19,9 @@ fn over<R: Raise + Drop>(alloc: Global, first: (R, R), second: (R, R)) -> Result
     requires second_low { IsFresh (R.view second.1) }
 {
     let id = id(1)?;
-    let mut ends = Vec::new(alloc);
-    let Ok(()) = ends.push(first) else {
-        return Err(Fail::from("memory"));
-    };
-    let Ok(()) = ends.push(second) else {
-        return Err(Fail::from("memory"));
-    };
+    let mut ends = Vec::with_capacity(alloc, 2)?;
+    ends.push_reserved(first);
+    ends.push_reserved(second);
     match System::new(alloc, ends, u64::MAX, id) {
         Ok(system) => Ok(system),
         Err(_) => Err(Fail::from("memory")),

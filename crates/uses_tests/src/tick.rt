@@ -41,16 +41,21 @@ fn play(rt: &impl Abort, cpu: &mut Hard<LevelCore>, tasks: &mut Tasks) -> Result
     Ok(())
 }
 
+/// Plays on a new CPU.
+fn play_alone(rt: &impl Abort, alloc: Global, tasks: &mut Tasks) -> Result<(), Fail> {
+    let mut cpu = cpu(alloc)?;
+    play(rt, &mut cpu, tasks)
+}
+
 #[test]
 fn a_tick_calls_what_is_due(rt: HostRuntime) -> Result<(), Fail> {
+    let (high, low) = (id(1)?, id(2)?);
     let mut tasks = Tasks {
-        calls: Tally::new(rt.alloc(), id(1)?, 2, u64::MAX)?,
+        calls: Tally::new(rt.alloc(), high, 2, u64::MAX)?,
         switch: false,
     };
-    let mut cpu = cpu(rt.alloc())?;
-    play(&rt, &mut cpu, &mut tasks)?;
-    let called = (tasks.calls.count(id(1)?), tasks.calls.count(id(2)?));
-    assert_eq!(&rt; called, (Some(3), Some(4)));
-    assert!(&rt; tasks.switch);
+    play_alone(&rt, rt.alloc(), &mut tasks)?;
+    let called = (tasks.calls.count(high), tasks.calls.count(low));
+    assert_eq!(&rt; (called, tasks.switch), ((Some(3), Some(4)), true));
     Ok(())
 }
