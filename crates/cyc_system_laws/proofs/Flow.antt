@@ -1,9 +1,8 @@
 -- What calls bring to the CPUs, and take from them, of an id.
 use Rattle.std.proofs.Common.{◌≡◌, ◌∙◌, ◌==◌, ℕ, zero, suc, ◌+◌, Bool, true, false, cond, Some, None, Ok, Err, List, [], ◌∷◌}
-use Rattle.std.proofs.Common.{length, slice_set, refl, sym, ap, arith}
+use Rattle.std.proofs.Common.{slice_set, refl, sym, ap, arith}
 use Rattle.std.specs.Prelude.{sum_by}
 use Rattle.std.specs.List.{slice_get}
-use Rattle.std.proofs.lemmas.List.{length-set}
 use Rattle.std.proofs.lemmas.List.Sums.{sum_by-cons, sum_by-set, sum_by-remove, sum_by-insert}
 use Rattle.cyc_types.specs.declared.Raise.{Ghosts as Raise}
 use Rattle.cyc_timers.specs.Rows.{Cyclic}
