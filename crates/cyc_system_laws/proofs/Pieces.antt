@@ -151,7 +151,7 @@ withouts id [] outs k d low = absurd (omega (arith, low))
 withouts id (c ∷ way) outs zero d low = outs.0
 withouts id (c ∷ way) outs (suc k) d low = withouts id way outs.1 k d (omega (arith, low))
 
-pub all_cons : {A : Type 0} (P : A → Type 0) (x : A) (xs : List A) → P x → All P xs → All P (x ∷ xs)
+all_cons : {A : Type 0} (P : A → Type 0) (x : A) (xs : List A) → P x → All P xs → All P (x ∷ xs)
 all_cons P x xs p all zero d low = p
 all_cons P x xs p all (suc k) d low = all k d (omega (arith, low))
 

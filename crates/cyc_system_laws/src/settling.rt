@@ -17,13 +17,15 @@ ghost use Rattle.cyc_system.specs.Removing.{cpus_with};
 ghost use Rattle.cyc_system.specs.Counts.{AreLawful};
 ghost use Rattle.cyc_system.specs.Juggling.{MovesAway, single_ids};
 ghost use Rattle.cyc_system.specs.Calls.{SystemCall, Changes, Does, BeginRemove, Juggle, Offline};
-ghost use Rattle.cyc_system_laws.specs.Settling.{IsRefusedUntil, IsAmong, Asks, FiresNot, refusals_of, AreSettledBeside};
+ghost use Rattle.cyc_system_laws.specs.Settling.{IsRefusedUntil, IsAmong, Asks, FiresNot, refused_turns, IsRefusedTurn};
+ghost use Rattle.cyc_system_laws.specs.Settling.{IsUnsettledOrGrown, AreSettledBeside};
 
 use cyc_types::{Calls, Raise};
 
 /// While what `settled` told of a CPU is true, no call is refused for it until something is done first. A call that is refused
 /// with Expanding, Busy or Pending has asked a CPU that has not settled; no other CPU can be the reason. The same is true of a
-/// removal that stays open as it begins, and of a turn of a juggle that is counted as pending or refused.
+/// removal that stays open as it begins, and of a turn of a juggle that is counted as pending. It is true of one that is counted
+/// as refused, unless an earlier turn of the same juggle has made its destination grow.
 ///
 /// It does nothing when it runs: its clauses are the law.
 pub fn settled_law<R: Raise>()
@@ -38,12 +40,19 @@ pub fn settled_law<R: Raise>()
         → OfCpu n (IsSettled R.view) s.cpus → report.pending ≡ 0 }
     ensures left { (n : ℕ) (report : Report) (s t : SystemView R) → OfCpu n (IsSettled R.view) s.cpus
         → Changes R.Raise s (Offline n (Err (Left report))) t → report.pending ≡ 0 }
-    // Where all others have settled, and none switches banks by it, each turn that is counted as refused was so for want of room
-    // or memory alone.
+    // The turns that are counted as refused are these: the destination of its own moment has refused each.
+    ensures counted { (n : ℕ) (report : Report) (s t : SystemView R) → (moves : MovesAway R.Raise n report s t)
+        → (length (refused_turns R.Raise n (single_ids n s) report s t moves) ≡ report.refused)
+        × All (IsRefusedTurn R.Raise n) (refused_turns R.Raise n (single_ids n s) report s t moves) }
+    // It refuses with Busy or Pending only where it had not settled when the step began, and with Expanding only there or where an
+    // earlier turn of the same step has made it grow.
+    ensures stopped { (n : ℕ) (report : Report) (s t : SystemView R) → (moves : MovesAway R.Raise n report s t)
+        → All (λ turn. IsUntil turn.why → IsUnsettledOrGrown R.view s turn)
+        (refused_turns R.Raise n (single_ids n s) report s t moves) }
+    // So where all others have settled, and none switches banks by it, each was refused for want of room or memory alone.
     ensures turned { (n : ℕ) (report : Report) (s t : SystemView R) → (moves : MovesAway R.Raise n report s t)
-        → (length (refusals_of R.Raise n (single_ids n s) report s t moves) ≡ report.refused)
-        × (AreSettledBeside R.view n s t
-        → All (λ e. IsUntil e → ⊥) (refusals_of R.Raise n (single_ids n s) report s t moves)) }
+        → AreSettledBeside R.view n s t
+        → All (λ turn. IsUntil turn.why → ⊥) (refused_turns R.Raise n (single_ids n s) report s t moves) }
 {}
 
 /// What `settled` told of a CPU stays true over any calls of its system, but for a fire and a switch of banks of this very CPU.
