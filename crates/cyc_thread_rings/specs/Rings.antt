@@ -1,9 +1,10 @@
 -- The rings of a CPU: their seats, their ends, and what is left of them.
-use Rattle.std.specs.Prelude.{◌≡◌, ℕ, []}
-use Rattle.ring_rule.specs.Conservation.{IsAccounted}
+use Rattle.std.specs.Prelude.{◌≡◌, ℕ, List, []}
+use Rattle.ring_rule.specs.Log.{RingStep}
+use Rattle.ring_rule.specs.Conservation.{AllStood, IsAccounted}
 use Rattle.cyc_ring.specs.declared.ring.Ring.{Ring}
 use Rattle.cyc_ring.specs.declared.closed.Closed.{Closed}
-use Rattle.cyc_ring.specs.Ends.{IsRaiseSeatOf, IsDrainSeatOf, raise_trail, drain_trail}
+use Rattle.cyc_ring.specs.Ends.{IsRaiseSeatOf, IsDrainSeatOf, IsOrderOf, raise_trail, drain_trail}
 use Rattle.cyc_ring.specs.declared.ends.RaiseEnd.{RaiseEnd}
 use Rattle.cyc_ring.specs.declared.ends.DrainEnd.{DrainEnd}
 use Rattle.cyc_ring.specs.declared.seats.RaiseSeat.{RaiseSeat}
@@ -63,10 +64,13 @@ soft_seats_on x = ((x.lock.drain.seat, x.lock.calls), (x.low.drain.seat, x.low.c
 abbrev pub soft_seats : {C : Type 0} → Seated C → (DrainSeat × C) × (DrainSeat × C)
 soft_seats s = ((s.seats.lock.drain, s.calls.lock), (s.seats.low.drain, s.calls.low))
 
--- the ring was closed with these seats, and its two sides' trails agree: of each id what was raised is made, lost or left
+-- the ring was closed with these seats
 pub record IsClosed (s : Seats) (c : Closed) : Type 0 where
   pub raise_seat : c.raise_seat.value ≡ s.raise
   pub drain_seat : c.drain_seat.value ≡ s.drain
+  -- there is one order of all atomic steps of its two sides, and a lawful level stood before and after each of them
+  pub stood : (log : List RingStep) × IsOrderOf log s.raise s.drain × AllStood s.raise.setting log
+  -- the two sides' trails agree: of each id what was raised is made, lost or left
   pub accounted : IsAccounted (raise_trail s.raise) (drain_trail s.drain)
 
 abbrev pub AreClosed : Levels Seats → Levels Closed → Type 0
