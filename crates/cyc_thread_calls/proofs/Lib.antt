@@ -14,6 +14,7 @@ pub mod Leveled
 pub mod Worded
 pub mod Owning
 pub mod Polled
+pub mod Stood
 pub use Rattle.cyc_system_expected.proofs.WholeRun
 pub use Rattle.cyc_threads.proofs.Lists
 pub use Rattle.cyc_threads.proofs.Spots

@@ -71,7 +71,7 @@ module _ {C : Type 0} (handler : Calls C) (script : Script)
         subst (λ (y : CpuView RaiseEnd). IsSpare script.ceiling y.low) (sym is) (spare_new x.1 q b),
       )
 
-  spare_last : OfAll raise_end (IsSpare script.ceiling) (goes_spare script.ceiling) last.cpus.cpus
+  pub spare_last : OfAll raise_end (IsSpare script.ceiling) (goes_spare script.ceiling) last.cpus.cpus
   spare_last = let l = from_new handler script calls e text r in
       led_all raise_end (IsSpare script.ceiling) (goes_spare script.ceiling) handler way
       r.played.first.side r.played.told.side l.sound l.ready l.run spare_first

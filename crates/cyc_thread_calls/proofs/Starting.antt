@@ -77,7 +77,7 @@ lawful_new bound lock low a b = record {
 -- ---- all of them
 
 -- an element of one of two lists that maps make the same stands beside one of the other
-beside : {A B X : Type 0} (f : A → X) (g : B → X) (xs : List A) (ys : List B) → map f xs ≡ map g ys → (n : ℕ) (x : A)
+pub beside : {A B X : Type 0} (f : A → X) (g : B → X) (xs : List A) (ys : List B) → map f xs ≡ map g ys → (n : ℕ) (x : A)
     → slice_get xs n ≡ Some x → (y : B) × (slice_get ys n ≡ Some y) × (f x ≡ g y)
 beside {A} {B} f g xs ys e n x at = by (slice_get ys n) refl
   where

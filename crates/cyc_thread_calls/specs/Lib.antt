@@ -5,6 +5,7 @@ pub mod Lines
 pub mod Calling
 pub mod Levels
 pub mod Answering
+pub mod Standing
 pub use Rattle.cyc_threads.specs.declared.counting.Line
 pub use Rattle.cyc_threads.specs.declared.running.Ended
 pub use Rattle.cyc_threads.specs.Reporting

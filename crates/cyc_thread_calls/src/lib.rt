@@ -1,5 +1,6 @@
-//! Laws of a run of a script in threads: as a run of calls of a system, and what its report says of each name. The functions here
-//! do nothing when they run. Their clauses are the laws, so that they are proved.
+//! Laws of a run of a script in threads: as a run of calls of a system, what its report says of each name, and what stands on its
+//! rings between any two atomic steps. The functions here do nothing when they run. Their clauses are the laws, so that they are
+//! proved.
 #![tactic(auto)]
 
 mod answering;
@@ -9,6 +10,7 @@ mod leading;
 mod meeting;
 mod naming;
 mod reporting;
+mod standing;
 
 pub use answering::answering_law;
 pub use calling::called_law;
@@ -17,3 +19,4 @@ pub use leading::{leading_law, opened_law};
 pub use meeting::meeting_law;
 pub use naming::named_law;
 pub use reporting::reported_law;
+pub use standing::standing_law;
