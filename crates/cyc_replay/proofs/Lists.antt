@@ -1,4 +1,4 @@
--- Lists with one element set, and numbers of online CPUs.
+-- Lists with one element set, and lists of one element over and over.
 use Rattle.std.proofs.Common.{◌≡◌, ℕ, zero, suc, ◌<◌, List, [], ◌∷◌, length, get_or, refl, ap, arith}
 use Rattle.std.specs.Prelude.{slice_set, replicate}
 
