@@ -35,7 +35,7 @@ fn put_text<S: Sink>(
 }
 
 /// Runs the steps of a script on one thread, and puts the text that tells of them: the lines of a step at once, and then those of
-/// the report one by one. Gives back the machine that the run left.
+/// the report one by one. Gives back the machine that the run left, so that `run` is of a machine that the caller has.
 ///
 /// The handler of every cyclic counts its call and does nothing else. It takes the memory of the machine before the first line,
 /// and that of a line where it first needs it: `Refused` comes with `Memory` alone. `Write` comes exactly where the sink has
@@ -48,7 +48,8 @@ pub fn run_script<S: Sink>(
     requires { S.has_failed sink.old ≡ false }
     ensures text { Puts (S.written sink.old) (S.written sink.new) result (text_of script.now) }
 
-    // The machine's own cyclics got free indexes, and the conservation theorem holds after each event of its run.
+    // The machine is the one that the definition's run led to: the cyclics of that run got free indexes, and the conservation
+    // theorem holds after each of its events.
     ensures run { IfOk result (HasRun script.now) }
     ensures write { S.has_failed sink.new ≡ is_write result }
     ensures memory { IfErr result IsMemoryOrWrite }
@@ -60,7 +61,8 @@ pub fn run_script<S: Sink>(
     Ok(machine)
 }
 
-/// Runs a script, as `run_script` does and with as much memory, and lets its machine go.
+/// Runs a script, as `run_script` does and with as much memory, and lets its machine go: for a caller that wants the text alone.
+/// Its contract says nothing of a machine, and so not that one ran: that is the clause `run` of `run_script`.
 pub fn replay<S: Sink>(alloc: Global, script: &Script, sink: &mut S) -> Result<(), RunFault>
     requires { S.has_failed sink.old ≡ false }
     ensures text { Puts (S.written sink.old) (S.written sink.new) result (text_of script.now) }

@@ -7,7 +7,7 @@ ghost use Rattle.std.specs.IoError.{error_kind};
 
 use cyc_command::{Command, command_of};
 use cyc_input::{BoundedReader, read_input};
-use cyc_replay::{RunFault, replay};
+use cyc_replay::{RunFault, run_script};
 use cyc_script::{Script, read_script};
 use cyc_text::{BoundedWriter, Fault, Out, status_of};
 use cyc_threads::{run, tallies};
@@ -60,11 +60,11 @@ fn script(alloc: Global, bytes: &[u8]) -> Result<Script, Fault> {
     read_script(alloc, bytes).map_err(refused)
 }
 
-/// Runs the script on one thread into the writer, and gives the writer back.
+/// Runs the script on one thread into the writer, and gives the writer back. The machine that the run left is let go.
 fn replay_into<W: Write + Drop>(alloc: Global, script: &Script, writer: W) -> Result<W, Fault> {
     let mut out = Out::new(writer);
-    match replay(alloc, script, &mut out) {
-        Ok(()) => Ok(out.into_inner()),
+    match run_script(alloc, script, &mut out) {
+        Ok(_machine) => Ok(out.into_inner()),
         Err(fault) => Err(Fault::Run(fault)),
     }
 }

@@ -3,7 +3,7 @@
 #![tactic(auto)]
 
 use cyc_input::{BoundedReader, read_input};
-use cyc_replay::{RunFault, replay};
+use cyc_replay::{RunFault, run_script};
 use cyc_script::{Script, read_script};
 use cyc_text::{BoundedWriter, Fault, Out, status_of};
 use cyc_types::Refusal;
@@ -27,11 +27,11 @@ fn input<R: Input + AllocGlobal>(rt: &R) -> Result<Script, Fault> {
     script_of(rt.alloc(), bytes.as_slice())
 }
 
-/// Replays the script into the writer, and gives the writer back.
+/// Replays the script into the writer, and gives the writer back. The machine that the run left is let go.
 fn replay_into<W: Write + Drop>(alloc: Global, script: &Script, writer: W) -> Result<W, Fault> {
     let mut out = Out::new(writer);
-    match replay(alloc, script, &mut out) {
-        Ok(()) => Ok(out.into_inner()),
+    match run_script(alloc, script, &mut out) {
+        Ok(_machine) => Ok(out.into_inner()),
         Err(fault) => Err(Fault::Run(fault)),
     }
 }
