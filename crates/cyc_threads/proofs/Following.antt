@@ -22,8 +22,7 @@ module _ {C R : Type 0} (handler : Calls C)
     (firing : Raise R) (K : Progress R C → Progress R C → Type 0)
     (same : (s : Progress R C) → K s s) (joined : (s t u : Progress R C) → K s t → K t u → K s u)
     (calls : (name : ℕ) (call : SystemCall) (s t : Progress R C) → CallsFor firing name call s t → K s t)
-    (settles : (s t : Progress R C) → Settles firing s t → K s t)
-    (fires : (now : ℕ) (s t : Progress R C) → Fires handler firing now s t → K s t) where
+    (settles : (s t : Progress R C) → Settles firing s t → K s t) where
   is_same : (s t : Progress R C) → t ≡ s → K s t
   is_same s t e = subst (λ (x : Progress R C). K s x) (sym e) (same s)
 
@@ -35,50 +34,54 @@ module _ {C R : Type 0} (handler : Calls C)
   waits_all : (s t : Progress R C) → Waits firing s t → K s t
   waits_all s t (polls, u, p, q) = joined s u t (polls_all polls s u p) (settles u t q)
 
-  begins_all : (b : Bool) (s t : Progress R C) → Begins firing b s t → K s t
+  pub begins_all : (b : Bool) (s t : Progress R C) → Begins firing b s t → K s t
   begins_all true s t w = waits_all s t w
   begins_all false s t e = is_same s t e
 
-  does_all : (x : Step) (s t : Progress R C) → Does handler firing x s t → K s t
-  does_all (steps.Add a) s t d = with_series a.start a.interval _ (K s t) (t ≡ s) d (λ when p. calls a.name _ s t p.1)
-      (is_same s t)
-  does_all (steps.Omni a) s t d = with_series a.start a.interval _ (K s t) (t ≡ s) d (λ when p. calls a.name _ s t p.1)
-      (is_same s t)
-  does_all (steps.Bind b) s t d = with_id (id_of (named_at s.names b.name)) _ (K s t) (t ≡ s) d (λ id p. calls b.name _ s t p.1)
-      (is_same s t)
-  does_all (steps.Unbind name) s t d = with_id (id_of (named_at s.names name)) _ (K s t) (t ≡ s) d (λ id p. calls name _ s t p.1)
-      (is_same s t)
-  does_all (steps.Reprogram r) s t d = with_moment r.moment _ (K s t) (t ≡ s) d
-      (λ moment q. with_id (id_of (named_at s.names r.name)) _ (K s t) (t ≡ s) q (λ id p. calls r.name _ s t p.1) (is_same s t))
-      (is_same s t)
-  does_all (steps.Remove name) s t d = with_id (id_of (named_at s.names name)) _ (K s t) (t ≡ s) d (λ id p. calls name _ s t p.1)
-      (is_same s t)
-  does_all (steps.Advance now) s t d = fires now s t d
-  does_all (steps.Softint i) s t d = is_same s t d
-  does_all (steps.Juggle n) s t d = calls 0 _ s t d.1
-  does_all (steps.Offline n) s t d = calls 0 _ s t d.1
-  does_all (steps.Online n) s t d = calls 0 _ s t d.1
+  -- what follows of a step's call, where it follows of what a call keeps, and of the fires of an `advance`
+  pub does_all : (L : Type 0) (x : Step) (s t : Progress R C) → (K s t → L)
+      → ((now : ℕ) → Fires handler firing now s t → L) → Does handler firing x s t → L
+  does_all L (steps.Add a) s t go fires d = with_series a.start a.interval _ L (t ≡ s) d
+      (λ when p. go (calls a.name _ s t p.1)) (λ e. go (is_same s t e))
+  does_all L (steps.Omni a) s t go fires d = with_series a.start a.interval _ L (t ≡ s) d
+      (λ when p. go (calls a.name _ s t p.1)) (λ e. go (is_same s t e))
+  does_all L (steps.Bind b) s t go fires d = with_id (id_of (named_at s.names b.name)) _ L (t ≡ s) d
+      (λ id p. go (calls b.name _ s t p.1)) (λ e. go (is_same s t e))
+  does_all L (steps.Unbind name) s t go fires d = with_id (id_of (named_at s.names name)) _ L (t ≡ s) d
+      (λ id p. go (calls name _ s t p.1)) (λ e. go (is_same s t e))
+  does_all L (steps.Reprogram r) s t go fires d = with_moment r.moment _ L (t ≡ s) d
+      (λ moment q. with_id (id_of (named_at s.names r.name)) _ L (t ≡ s) q
+      (λ id p. go (calls r.name _ s t p.1)) (λ e. go (is_same s t e))) (λ e. go (is_same s t e))
+  does_all L (steps.Remove name) s t go fires d = with_id (id_of (named_at s.names name)) _ L (t ≡ s) d
+      (λ id p. go (calls name _ s t p.1)) (λ e. go (is_same s t e))
+  does_all L (steps.Advance now) s t go fires d = fires now d
+  does_all L (steps.Softint i) s t go fires d = go (is_same s t d)
+  does_all L (steps.Juggle n) s t go fires d = go (calls 0 _ s t d.1)
+  does_all L (steps.Offline n) s t go fires d = go (calls 0 _ s t d.1)
+  does_all L (steps.Online n) s t go fires d = go (calls 0 _ s t d.1)
 
-  steps_all : (all : List Step) (s t : Progress R C) → TakesSteps handler firing s all t → K s t
-  steps_all [] s t e = is_same s t (sym e)
-  steps_all (x ∷ all) s t (u, d, rest) =
-      joined s u t (joined s d.0 u (begins_all (waits_first x) s d.0 d.1) (does_all x d.0 u d.2)) (steps_all all u t rest)
+  module _ (fires : (now : ℕ) (s t : Progress R C) → Fires handler firing now s t → K s t) where
+    steps_all : (all : List Step) (s t : Progress R C) → TakesSteps handler firing s all t → K s t
+    steps_all [] s t e = is_same s t (sym e)
+    steps_all (x ∷ all) s t (u, (v, begins, does), rest) = joined s u t
+        (joined s v u (begins_all (waits_first x) s v begins) (does_all (K v u) x v u (λ k. k) (λ now f. fires now v u f) does))
+        (steps_all all u t rest)
 
-  pub runs_all : (all : List Step) (s t : Progress R C) → Runs handler firing s all t → K s t
-  runs_all all s t (u, p, q) = joined s u t (steps_all all s u p) (waits_all u t q)
+    pub runs_all : (all : List Step) (s t : Progress R C) → Runs handler firing s all t → K s t
+    runs_all all s t (u, p, q) = joined s u t (steps_all all s u p) (waits_all u t q)
 
-  tells_one : (told : Told) (s t : Progress R C) → Tells firing s told t → K s t
-  tells_one told s t d = by told.named told.line d
-    where
-      by : (n : Named) (line : Line) → TellsOf firing n line s t → K s t
-      by Nothing line (e, is) = is_same s t is
-      by (Cyclic id) line (answer, c, e) = calls 0 _ s t c
-      by (Leaving id) line (answer, c, e) = calls 0 _ s t c
-      by (Removed receipt) line (e, is) = is_same s t is
+    tells_one : (told : Told) (s t : Progress R C) → Tells firing s told t → K s t
+    tells_one told s t d = by told.named told.line d
+      where
+        by : (n : Named) (line : Line) → TellsOf firing n line s t → K s t
+        by Nothing line (e, is) = is_same s t is
+        by (Cyclic id) line (answer, c, e) = calls 0 _ s t c
+        by (Leaving id) line (answer, c, e) = calls 0 _ s t c
+        by (Removed receipt) line (e, is) = is_same s t is
 
-  tells_all : (all : List Told) (s t : Progress R C) → FoldsTo (Tells firing) s all t → K s t
-  tells_all [] s t e = is_same s t (sym e)
-  tells_all (told ∷ all) s t (u, d, rest) = joined s u t (tells_one told s u d) (tells_all all u t rest)
+    tells_all : (all : List Told) (s t : Progress R C) → FoldsTo (Tells firing) s all t → K s t
+    tells_all [] s t e = is_same s t (sym e)
+    tells_all (told ∷ all) s t (u, d, rest) = joined s u t (tells_one told s u d) (tells_all all u t rest)
 
-  pub reports_all : (lines : List Line) (s t : Progress R C) → Reports firing lines s t → K s t
-  reports_all lines s t r = tells_all r.all s t r.tells
+    pub reports_all : (lines : List Line) (s t : Progress R C) → Reports firing lines s t → K s t
+    reports_all lines s t r = tells_all r.all s t r.tells

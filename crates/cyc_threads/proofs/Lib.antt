@@ -11,6 +11,8 @@ pub mod First
 pub mod Workers
 pub mod Playing
 pub mod Texts
+pub mod Fires
+pub mod Expiring
 pub mod Played
 pub mod Ran
 pub use Rattle.cyc_system_laws.proofs.Spots

@@ -1,9 +1,10 @@
 -- What the parts of a run add up to.
-use Rattle.std.proofs.Common.{◌≡◌, ℕ, ◌≤◌, ◌<◌, List, [], sym, ap, subst, ◌∙◌, inl, inr, map, length, arith}
+use Rattle.std.proofs.Common.{◌≡◌, ℕ, ◌≤◌, ◌<◌, ◌⊎◌, List, [], sym, ap, subst, ◌∙◌, inl, inr, map, length, arith}
 use Rattle.std.specs.Prelude.{All, replicate, Result, Ok, Err, IfOk}
 use Rattle.std.proofs.lemmas.List.{length-map}
 use Rattle.cyc_types.specs.declared.Calls.{Ghosts as Calls}
 use Rattle.cyc_types.specs.declared.refusal.Refusal.{Refusal}
+use Rattle.cyc_types.specs.declared.refusal.Refusal.TheVariants.{Memory}
 use Rattle.cyc_types.specs.Pairs.{EachTwo}
 use Rattle.cyc_ring.specs.declared.ring.Ring.{Ring}
 use Rattle.cyc_ring.specs.declared.ends.RaiseEnd.{RaiseEnd}
@@ -11,6 +12,7 @@ use Rattle.cyc_ring.specs.declared.ends.DrainEnd.{DrainEnd}
 use Rattle.cyc_ring.specs.Ends.{raise_end, end_view, drain_end}
 use Rattle.cyc_cpu.specs.Cpu.{IsFresh}
 use Rattle.cyc_workers.specs.declared.settling.Lead.{Lead}
+use Rattle.cyc_workers.specs.Refusals.{HandlerRefuses}
 use Rattle.cyc_agreement.specs.Cpus.{CpusView, new_cpus}
 use Rattle.cyc_script.specs.declared.script.Script.{Script}
 use Rattle.cyc_threads.specs.SameSeats.{HaveSameSeats}
@@ -23,17 +25,21 @@ use Rattle.cyc_thread_rings.specs.Rings.{AreSeated, AreNew, IsAttached, seats_of
 use Rattle.cyc_thread_rings.specs.Rings.{soft_seats_on}
 use Rattle.cyc_thread_rings.proofs.Each.{each_long}
 use Rattle.cyc_threads.specs.declared.named.Named.TheVariants.{Nothing}
+use Rattle.cyc_threads.specs.declared.halt.Halt.TheVariants as halt
 use Rattle.cyc_threads.specs.declared.progress.Progress.{Progress}
+use Rattle.cyc_threads.specs.Steps.{IsHalted}
 use Rattle.cyc_threads.specs.declared.counting.Line.{Line}
 use Rattle.cyc_threads.specs.Counting.{Reports}
 use Rattle.cyc_threads.specs.declared.running.Played.{Played}
 use Rattle.cyc_threads.specs.declared.working.Worked.{Worked}
-use Rattle.cyc_threads.specs.Working.{HaveMade, HasWorked, WhyRefused}
+use Rattle.cyc_threads.specs.Working.{Work, HaveMade, HasWorked, HaveRefused, WhyRefused}
 use Rattle.cyc_threads.specs.Running.{IsAtFirst, IsAtLast, HasPlayed, most}
-use Rattle.cyc_threads.specs.Refusing.{WhyNotPlayed}
+use Rattle.cyc_threads.specs.Refusing.{PlayRefuses, WhyNotPlayed}
+use Rattle.cyc_threads.proofs.Workers.{why_refused}
+use Rattle.cyc_threads.proofs.Expiring.{HasExpired, halted_by_handler}
 use Rattle.cyc_threads.proofs.First.{many_cpus}
 use Rattle.cyc_threads.proofs.Seats.{IsWell, Keeps, runs_keep, reports_keep}
-use Rattle.cyc_threads.proofs.Playing.{each_same, same_firing, same_high, fresh_all, served_all, seated_all}
+use Rattle.cyc_threads.proofs.Playing.{each_same, same_firing, same_high, same_soft, fresh_all, served_all, seated_all}
 
 -- as many ends as CPUs
 pub many_ends : {C : Type 0} (all : List (Seated C)) (att : List (Attached C)) (ends : List (RaiseEnd × RaiseEnd))
@@ -80,13 +86,37 @@ begins names all att ends first e is high cpus records last clock named = record
 }
 
 module _ {C : Type 0} (handler : Calls C) where
-  pub not_played : (script : Script) (all : List (Seated C)) (first : Progress RaiseEnd C) (e : Refusal)
-      → IsAtFirst (length script.names.items) all first →
-      WhyRefused handler raise_end script.steps.items first e
-      → WhyNotPlayed handler script all e
-  not_played script all first e b (inl m) = inl m
-  not_played script all first e b (inr (inl h)) = inr (inl h)
-  not_played script all first e b (inr (inr (n, h))) = inr (inr (record { first = first; cpu = n; begins = b; halted = h }))
+  -- why the workers of a script were refused, which begin over these seats
+  module _ (script : Script) (all : List (Seated C)) (att : List (Attached C)) (first : Progress RaiseEnd C)
+      (sides : List (Levels (SoftSide DrainEnd C))) (is : sides ≡ map (λ a. a.soft) att) (attached : EachTwo IsAttached all att)
+      (b : IsAtFirst (length script.names.items) all first) (none : HasExpired raise_end 0 first.side) where
+    abbrev given : Work C RaiseEnd DrainEnd
+    given = record { steps = script.steps.items; lead = first; sides = sides }
+
+    play_refuses : (e : Refusal) → HaveRefused handler raise_end drain_end given e → PlayRefuses handler script all e
+    play_refuses e w = record {
+      first = first;
+      sides = sides;
+      begins = b;
+      own = ap (λ (x : List (Levels (SoftSide DrainEnd C))). map soft_seats_on x) is ∙ same_soft all att attached;
+      refused = w;
+    }
+
+    pub not_played : (e : Refusal) → WhyRefused handler raise_end drain_end given e → WhyNotPlayed handler script all e
+    not_played e (inl m) = inl m
+    not_played e (inr w) = by (why_refused handler raise_end drain_end script.steps.items first sides w.drained w.ended.each
+        w.taken e w.ended.halted w.first)
+      where
+        by : (e ≡ Memory) ⊎ (HandlerRefuses handler.may_refuse e
+            ⊎ ((n : ℕ) × IsHalted handler raise_end first script.steps.items (halt.Fired n e)))
+            → WhyNotPlayed handler script all e
+        by (inl m) = inl m
+        by (inr (inl h)) = inr (h, play_refuses e w)
+        by (inr (inr (n, h))) = inr (
+          halted_by_handler handler raise_end script.steps.items (length script.names.items) first n e
+              script.well_formed none h,
+          play_refuses e w,
+        )
 
   module _ (script : Script) (all : List (Seated C)) (att : List (Attached C)) (first : Progress RaiseEnd C)
       (sides : List (Levels (SoftSide DrainEnd C)))

@@ -78,6 +78,14 @@ same_high [] (a ∷ att) e = absurd e
 same_high (s ∷ all) [] e = absurd e
 same_high (s ∷ all) (a ∷ att) e = let rest = same_high all att e.1 in λ z. e.0.high z ∷ rest z
 
+pub same_soft : {C : Type 0} (all : List (Seated C)) (att : List (Attached C)) → EachTwo IsAttached all att
+    → map soft_seats_on (map (λ a. a.soft) att) ≡ map soft_seats all
+same_soft [] [] e = refl
+same_soft [] (a ∷ att) e = absurd e
+same_soft (s ∷ all) [] e = absurd e
+same_soft (s ∷ all) (a ∷ att) e = let rest = same_soft all att e.1 in
+    λ z. ((e.0.lock_drain z, e.0.lock z), (e.0.low_drain z, e.0.low z)) ∷ rest z
+
 -- ---- after the last one
 
 module _ {C : Type 0} (handler : Calls C) where

@@ -1,5 +1,5 @@
 -- The lines of a system that has settled: nothing is pending, and it has settled after them.
-use Rattle.std.proofs.Common.{◌≡◌, ◌≢◌, ℕ, ◌+◌, List, [], ◌∷◌, Option, Some, None, map, refl, sym, ap, subst, ◌∙◌, arith}
+use Rattle.std.proofs.Common.{◌≡◌, ℕ, List, [], ◌∷◌, Option, Some, None, map, refl, sym, ap, subst, ◌∙◌, arith}
 use Rattle.std.specs.Prelude.{All, sum_by}
 use Rattle.std.specs.List.{FoldsTo}
 use Rattle.std.proofs.lemmas.List.Elements.{All-nil, All-cons}
@@ -23,9 +23,8 @@ use Rattle.cyc_threads.specs.declared.named.Named.{Named}
 use Rattle.cyc_threads.specs.declared.named.Named.TheVariants.{Nothing, Cyclic, Leaving, Removed}
 use Rattle.cyc_threads.specs.declared.progress.Progress.{Progress}
 use Rattle.cyc_threads.specs.declared.counting.Line.{Line}
-use Rattle.cyc_threads.specs.Names.{named_at}
 use Rattle.cyc_threads.proofs.Telling.{Begun}
-use Rattle.cyc_threads.specs.Counting.{Told, Asks, Tells, TellsOf, Reports, totals_line}
+use Rattle.cyc_threads.specs.Counting.{Told, Asks, Tells, TellsOf, totals_line}
 
 -- nothing of its cyclic is pending
 abbrev pub IsQuiet : Line → Type 0

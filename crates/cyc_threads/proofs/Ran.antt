@@ -1,5 +1,5 @@
 -- What a run adds up to.
-use Rattle.std.proofs.Common.{◌≡◌, ℕ, List, sym, ap, subst, ◌∙◌, inr, map, length}
+use Rattle.std.proofs.Common.{◌≡◌, ℕ, List, sym, ap, subst, ◌∙◌, inl, inr, map, length}
 use Rattle.std.specs.Prelude.{All, flat_map, string_bytes}
 use Rattle.std.proofs.lemmas.List.{length-map}
 use Rattle.cyc_types.specs.declared.Calls.{Ghosts as Calls}
@@ -52,7 +52,8 @@ closed_all all last closed rings left shut laid = record {
 module _ {C : Type 0} (handler : Calls C) (script : Script) (calls : List C) (before : List (Seated C))
     (given : calls_of before ≡ calls) (new : All (AreNew script.ceiling) (map (λ s. s.seats) before)) where
   pub not_ran : (e : Refusal) → WhyNotPlayed handler script before e → WhyNotRun handler script calls e
-  not_ran e w = inr (before, given, new, w)
+  not_ran e (inl m) = inl m
+  not_ran e (inr (h, w)) = inr (h, before, given, new, w)
 
   pub ran : (after : List (Seated C)) (lines : List Line) (text : List ℕ) (e : Ended C) → length before ≡ script.cpus
       → HasPlayed handler script before after lines → text ≡ report_text (map string_bytes script.names.items) lines

@@ -28,7 +28,7 @@ module _ {R : Type 0} (firing : Raise R) where
   parts_long (SetOnline n online ∷ way) v w (u, e, rest) =
       parts_long way u w rest ∙ ap (λ (z : CpusView R). length z.cpus) e
 
-  changes_long : (s t : SystemView R) (call : SystemCall) → Changes firing s call t → length t.cpus.cpus ≡ length s.cpus.cpus
+  pub changes_long : (s t : SystemView R) (call : SystemCall) → Changes firing s call t → length t.cpus.cpus ≡ length s.cpus.cpus
   changes_long s t call d = let m = made_of firing s t call d in parts_long m.way s.cpus t.cpus m.works
 
 module _ {C R : Type 0} (handler : Calls C) (firing : Raise R) where

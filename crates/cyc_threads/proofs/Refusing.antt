@@ -1,6 +1,5 @@
 -- The first of several refusals, and why a run ends.
-use Rattle.std.proofs.Common.{◌≡◌, ℕ, ◌+◌, ◌<◌, ◌≤◌, inl, inr, List, [], ◌∷◌, Option, Some, None, length, refl, sym, ap, subst}
-use Rattle.std.proofs.Common.{◌∙◌, arith}
+use Rattle.std.proofs.Common.{◌≡◌, ℕ, ◌<◌, inl, inr, List, Option, None, length, refl, subst}
 use Rattle.std.specs.Prelude.{Result, take, slice_index_or}
 use Rattle.cyc_types.specs.declared.Calls.{Ghosts as Calls}
 use Rattle.cyc_types.specs.declared.Raise.{Ghosts as Raise}
@@ -8,7 +7,6 @@ use Rattle.cyc_types.specs.declared.refusal.Refusal.{Refusal}
 use Rattle.cyc_timers.specs.declared.fire.Fired.{Fired}
 use Rattle.cyc_timers.specs.declared.fire.FireRefused.{FireRefused}
 use Rattle.cyc_script.specs.declared.step.Step.{Step}
-use Rattle.cyc_script.specs.declared.step.Step.TheVariants as steps
 use Rattle.cyc_threads.specs.declared.halt.Halt.{Halt}
 use Rattle.cyc_threads.specs.declared.progress.Progress.{Progress}
 use Rattle.cyc_system_workers.specs.declared.advancing.Advanced.{Advanced}
@@ -17,7 +15,7 @@ use Rattle.cyc_threads.specs.declared.halt.Halt.TheVariants as halt
 use Rattle.cyc_system_laws.specs.Sound.{IsSound}
 use Rattle.cyc_threads.specs.StepCalls.{Fires, IsFirstRefused, refusal_at}
 use Rattle.cyc_threads.specs.Words.{Begins, waits_first}
-use Rattle.cyc_threads.specs.Steps.{IsTold, TakesSteps, AdvanceHalts, StepHalts, WhyHalted}
+use Rattle.cyc_threads.specs.Steps.{TakesSteps, AdvanceHalts, StepHalts, WhyHalted}
 
 module _ {C R : Type 0} (handler : Calls C) (firing : Raise R) where
   -- a step that had to wait is no `advance`

@@ -1,8 +1,7 @@
 -- Steps of a script, one after another.
-use Rattle.std.proofs.Common.{◌≡◌, ℕ, ◌+◌, ◌<◌, ◌≤◌, inl, inr, List, [], ◌∷◌, ◌++◌, length, drop, get_or, refl, sym, ap, subst}
-use Rattle.std.proofs.Common.{◌∙◌, arith}
+use Rattle.std.proofs.Common.{◌≡◌, ℕ, zero, suc, ◌+◌, ◌<◌, ◌≤◌, inl, List, [], ◌∷◌, ◌++◌, length, drop, get_or, refl, sym}
+use Rattle.std.proofs.Common.{subst, arith}
 use Rattle.std.specs.Prelude.{Bool, true, false, ◌&&◌, take, slice_index_or, nat_le, nat_lt, Result, Ok, Err, IfOk, IfErr}
-use Rattle.std.specs.List.{FoldsTo}
 use Rattle.std.proofs.lemmas.Bool.Decides.{nat_tests}
 use Rattle.std.proofs.lemmas.List.{take_more, take_all}
 use Rattle.cyc_types.specs.declared.Calls.{Ghosts as Calls}
@@ -47,6 +46,12 @@ fit_before xs i x low is (now, fit) = before now x (moments_fit_next now xs i x 
 
 pub fit_next : (xs : List Step) (i : ℕ) (x : Step) → i < length xs → x ≡ get_or xs i x → Fit (drop i xs) → Fit (drop (i + 1) xs)
 fit_next xs i x low is (now, fit) = (moment_after now x, (moments_fit_next now xs i x low is fit).1)
+
+pub fit_drop : (xs : List Step) (i : ℕ) → Fit xs → Fit (drop i xs)
+fit_drop xs zero fit = fit
+fit_drop [] (suc i) fit = fit
+fit_drop (x ∷ xs) (suc i) (now, fit) =
+    fit_drop xs i (moment_after now x, second (moment_fits now x) (moments_fit (moment_after now x) xs) fit)
 
 module _ {C R : Type 0} (handler : Calls C) (firing : Raise R) where
   -- one step more
@@ -102,10 +107,10 @@ module _ {C R : Type 0} (handler : Calls C) (firing : Raise R) where
   reached_ends xs i s u (Ok t) far q w = runs xs i s u t far q.taken w
   reached_ends xs i s u (Err h) far q w = tt
 
-  pub told_halts : (s : Progress R C) (xs : List Step) (r : Result (Progress R C) Halt)
-      → IfErr r (λ h. IsTold handler.may_refuse h) → IfErr r (λ h. WhyHalted handler firing s xs h)
-  told_halts s xs (Ok t) w = tt
-  told_halts s xs (Err h) w = inl w
+  pub told_halts : (xs : List Step) (i : ℕ) (s u : Progress R C) (r : Result (Progress R C) Halt) → length xs ≤ i
+      → Reached xs i s u → IfErr r (λ h. IsTold handler.may_refuse h) → IfErr r (λ h. WhyHalted handler firing s xs h)
+  told_halts xs i s u (Ok t) far q w = tt
+  told_halts xs i s u (Err h) far q w = inl (u, steps_all xs i s u far q.taken, w)
 
   -- what a word did, where the step is that word and it left this
   pub does_same : (x y : Step) (s t u : Progress R C) → x ≡ y → u ≡ t → Does handler firing y s t → Does handler firing x s u

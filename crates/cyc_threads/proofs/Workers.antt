@@ -34,7 +34,7 @@ use Rattle.cyc_threads.specs.declared.halt.Halt.TheVariants as halt
 use Rattle.cyc_threads.specs.declared.progress.Progress.{Progress}
 use Rattle.cyc_threads.specs.Steps.{Runs, WhyHalted, IsHalted, StepHalts}
 use Rattle.cyc_threads.specs.declared.working.Worked.{Worked}
-use Rattle.cyc_threads.specs.Working.{refusal_of, HaveMade, WhyRefused, Works}
+use Rattle.cyc_threads.specs.Working.{refusal_of, HaveMade, Works}
 use Rattle.cyc_system_laws.proofs.Spots.{same_some}
 
 some_none : {A : Type 0} {x : A} → Some x ≡ None → ⊥
@@ -139,8 +139,9 @@ module _ {C D : Type 0} (handler : Calls C) (draining : Drain D) where
 module _ {C R D : Type 0} (handler : Calls C) (firing : Raise R) (draining : Drain D) (steps : List Step)
     (a : Progress R C) (sides : List (Levels (SoftSide D C))) (ds : List (Levels (Drained D C)))
     (drained : EachTwo (HaveDrained draining handler) sides ds) where
-  abbrev Why : Refusal → Type 0
-  Why = WhyRefused handler firing steps a
+  -- memory was refused, or a handler of a soft level was, or a fire
+  abbrev pub Why : Refusal → Type 0
+  Why e = (e ≡ Memory) ⊎ (HandlerRefuses handler.may_refuse e ⊎ ((n : ℕ) × IsHalted handler firing a steps (halt.Fired n e)))
 
   of_soft : (fire : Option Fire) (e : Refusal) → first_in (refusals_from 0 fire ds) ≡ Some e → HandlerRefuses handler.may_refuse e
       ⊎ IsFires fire e
@@ -152,7 +153,7 @@ module _ {C R D : Type 0} (handler : Calls C) (firing : Raise R) (draining : Dra
   no_fire e (inr (f, is, why)) = absurd (some_none (sym is))
 
   told_why : (id : ℕ) → WhyHalted handler firing a steps (halt.Told id) → HandlerRefuses handler.may_refuse (HandlerRefused id)
-  told_why id (inl can) = (id, refl, can)
+  told_why id (inl (u, taken, can)) = (id, refl, can)
   told_why id (inr h) = by h.halts
     where
       by : StepHalts handler firing h.last h.before (halt.Told id) → HandlerRefuses handler.may_refuse (HandlerRefused id)
@@ -160,7 +161,7 @@ module _ {C R D : Type 0} (handler : Calls C) (firing : Raise R) (draining : Dra
       by (inr (now, is, none)) = absurd none
 
   memory_why : (x : Refusal) → WhyHalted handler firing a steps (halt.Refused x) → x ≡ Memory
-  memory_why x (inl none) = absurd none
+  memory_why x (inl (u, taken, none)) = absurd none
   memory_why x (inr h) = by h.halts
     where
       by : StepHalts handler firing h.last h.before (halt.Refused x) → x ≡ Memory
@@ -169,7 +170,7 @@ module _ {C R D : Type 0} (handler : Calls C) (firing : Raise R) (draining : Dra
 
   fired_why : (n : ℕ) (why : Refusal) → WhyHalted handler firing a steps (halt.Fired n why)
       → IsHalted handler firing a steps (halt.Fired n why)
-  fired_why n why (inl none) = absurd none
+  fired_why n why (inl (u, taken, none)) = absurd none
   fired_why n why (inr h) = h
 
   by_fire : (n : ℕ) (why e : Refusal) → WhyHalted handler firing a steps (halt.Fired n why) →
@@ -181,7 +182,8 @@ module _ {C R D : Type 0} (handler : Calls C) (firing : Raise R) (draining : Dra
         (sym (same ∙ ap (λ (g : Fire). g.why) (sym (same_some is)))) (fired_why n why w),
   ))
 
-  why_refused : {A : Type 0} (taken : Result A Halt) (e : Refusal)
+  -- what the refusal that counts first is of
+  pub why_refused : {A : Type 0} (taken : Result A Halt) (e : Refusal)
       → IfErr taken (λ h. WhyHalted handler firing a steps h) →
       refusal_of taken ds ≡ Some e → Why e
   why_refused (Ok x) e w is = no_fire e (of_soft None e is)
@@ -216,4 +218,9 @@ module _ {C R D : Type 0} (handler : Calls C) (firing : Raise R) (draining : Dra
         (subst (λ (x : Result (Progress R C) Halt). refusal_of x ds ≡ None) lead none));
   }
   works_all taken (Err e) r h none lead left (inl m) = inl m
-  works_all taken (Err e) r h none lead left (inr is) = why_refused taken e h is
+  works_all taken (Err e) r h none lead left (inr is) = inr (record {
+    taken = taken;
+    drained = ds;
+    ended = record { ran = r; halted = h; each = drained };
+    first = is;
+  })

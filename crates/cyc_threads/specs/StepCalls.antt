@@ -11,7 +11,6 @@ use Rattle.cyc_system_workers.specs.Settled.{AllSettled}
 use Rattle.cyc_system_workers.specs.Calls.{SystemCall, Changes, PollRemove}
 use Rattle.cyc_system_laws.specs.Sound.{IsSound}
 use Rattle.cyc_system_workers.specs.declared.advancing.Advanced.{Advanced}
-use Rattle.cyc_system_workers.specs.declared.side.SystemSide.{SystemSide}
 use Rattle.cyc_system_workers.specs.Advancing.{AllFire}
 use Rattle.cyc_system_workers.specs.Settling.{OnlyAsked}
 use Rattle.cyc_threads.specs.declared.named.Named.TheVariants.{Leaving}

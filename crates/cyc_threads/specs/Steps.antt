@@ -21,7 +21,7 @@ abbrev pub IsBefore : Step → Type 0
 IsBefore (steps.Advance now) = now < never
 IsBefore x = ⊤
 
--- the handler of a draining thread refused, which may
+-- the lead heard that a draining thread was refused, by a handler that can refuse
 abbrev pub IsTold : {C : Type 0} → (C → ℕ → Type 0) → Halt → Type 0
 IsTold may_refuse (halt.Told id) = CanRefuse may_refuse id
 IsTold may_refuse (halt.Fired n why) = ⊥
@@ -47,7 +47,8 @@ AdvanceHalts {C} {R} handler firing now s (halt.Fired n why) = (after : Advanced
 AdvanceHalts handler firing now s (halt.Refused e) = e ≡ Memory
 AdvanceHalts handler firing now s (halt.Told id) = ⊥
 
--- why one step ended a run: it is an `advance` that does; or the handler of a draining thread refused, which may
+-- why one step ended a run: it is an `advance` that does; or in the wait before it the lead heard that a draining thread was
+-- refused
 abbrev pub StepHalts : {C R : Type 0} → Calls C
     → Raise R → Step → Progress R C → Halt → Type 0
 StepHalts handler firing x s h = IsTold handler.may_refuse h
@@ -63,7 +64,9 @@ pub record IsHalted {C R : Type 0} (handler : Calls C)
   pub taken : TakesSteps handler firing s (take place all) before
   pub halts : StepHalts handler firing last before h
 
--- why the steps ended early: the handler of a draining thread refused, which may; or one of them ended the run
+-- why the steps ended early: one of them ended the run; or all of them were taken, and in the wait after them the lead heard that
+-- a draining thread was refused
 abbrev pub WhyHalted : {C R : Type 0} → Calls C
     → Raise R → Progress R C → List Step → Halt → Type 0
-WhyHalted handler firing s all h = IsTold handler.may_refuse h ⊎ IsHalted handler firing s all h
+WhyHalted {C} {R} handler firing s all h =
+    ((u : Progress R C) × TakesSteps handler firing s all u × IsTold handler.may_refuse h) ⊎ IsHalted handler firing s all h

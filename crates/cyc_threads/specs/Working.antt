@@ -1,5 +1,5 @@
 -- What all workers of a run do together.
-use Rattle.std.specs.Prelude.{◌≡◌, ℕ, ◌⊎◌, List, Option, Some, None, Result, Ok, Err, unwrap_or}
+use Rattle.std.specs.Prelude.{◌≡◌, ◌⊎◌, List, Option, Some, None, Result, Ok, Err, IfOk, IfErr, unwrap_or}
 use Rattle.cyc_types.specs.declared.Calls.{Ghosts as Calls}
 use Rattle.cyc_types.specs.declared.Drain.{Ghosts as Drain}
 use Rattle.cyc_types.specs.declared.Raise.{Ghosts as Raise}
@@ -14,15 +14,16 @@ use Rattle.cyc_workers.specs.declared.draining.Drained.{Drained}
 use Rattle.cyc_threads.specs.declared.halt.Halt.{Halt}
 use Rattle.cyc_threads.specs.declared.halt.Halt.TheVariants as halt
 use Rattle.cyc_workers.specs.Draining.{Makes}
-use Rattle.cyc_workers.specs.Refusals.{HandlerRefuses}
 use Rattle.cyc_thread_rings.specs.declared.levels.Levels.{Levels}
+use Rattle.cyc_thread_rings.specs.Working.{HaveDrained}
 use Rattle.cyc_thread_rings.specs.Refusing.{refusals_from, first_in}
 use Rattle.cyc_threads.specs.declared.progress.Progress.{Progress}
-use Rattle.cyc_threads.specs.Steps.{Runs, IsHalted}
+use Rattle.cyc_threads.specs.Steps.{Runs, WhyHalted}
 use Rattle.cyc_threads.specs.declared.working.Worked.{Worked}
 
--- the refusal that a run ends with, by how the steps ended and by what the draining workers left: where memory was refused that
--- comes first, and else that of the smallest CPU, firing before lock before low
+-- The refusal that a run ends with, by how the steps ended and by what the draining workers left: where memory was refused that
+-- comes first, and else that of the smallest CPU, firing before lock before low. Where the lead heard of a refusal by a draining
+-- worker and none of them left one, it is that of the id which it heard.
 abbrev pub refusal_of : {A D C : Type 0} → Result A Halt → List (Levels (Drained D C)) → Option Refusal
 refusal_of (Ok a) drained = first_in (refusals_from 0 None drained)
 refusal_of (Err (halt.Refused e)) drained = Some e
@@ -50,12 +51,26 @@ pub record HasWorked {C R D : Type 0} (handler : Calls C) (firing : Raise R) (dr
   pub runs : Runs handler firing a.lead a.steps b.lead
   pub makes : EachTwo (HaveMade draining handler) a.sides b.soft.items
 
--- why the workers were refused: memory or a thread was, or a fire, or a handler of a soft level
-abbrev pub WhyRefused : {C R : Type 0} → Calls C
-    → Raise R → List Step → Progress R C → Refusal → Type 0
-WhyRefused handler firing steps a e =
-    (e ≡ Memory) ⊎ (HandlerRefuses handler.may_refuse e ⊎ ((n : ℕ) × IsHalted handler firing a steps (halt.Fired n e)))
+-- How the steps of a run ended and what its draining workers left: the lead took the steps, and each CPU has settled, or there is
+-- why they ended early; and each draining worker drained the soft side that it was given, with the handlers of its own level.
+pub record HaveEnded {C R D : Type 0} (handler : Calls C) (firing : Raise R) (draining : Drain D) (a : Work C R D)
+    (taken : Result (Progress R C) Halt) (drained : List (Levels (Drained D C))) : Type 0 where
+  pub ran : IfOk taken (λ lead. Runs handler firing a.lead a.steps lead)
+  pub halted : IfErr taken (λ h. WhyHalted handler firing a.lead a.steps h)
+  pub each : EachTwo (HaveDrained draining handler) a.sides drained
+
+-- the workers ended so that this is their refusal: the first, in the order of `refusal_of`
+pub record HaveRefused {C R D : Type 0} (handler : Calls C) (firing : Raise R) (draining : Drain D) (a : Work C R D)
+    (e : Refusal) : Type 0 where
+  pub taken : Result (Progress R C) Halt
+  pub drained : List (Levels (Drained D C))
+  pub ended : HaveEnded handler firing draining a taken drained
+  pub first : refusal_of taken drained ≡ Some e
+
+-- why the workers were refused: memory or a thread was; or one of them or several were, of which this counts first
+abbrev pub WhyRefused : {C R D : Type 0} → Calls C → Raise R → Drain D → Work C R D → Refusal → Type 0
+WhyRefused handler firing draining a e = (e ≡ Memory) ⊎ HaveRefused handler firing draining a e
 
 abbrev pub Works : {C R D : Type 0} → Calls C → Raise R → Drain D → Work C R D → Result (Worked R D C) Refusal → Type 0
 Works handler firing draining a (Ok b) = HasWorked handler firing draining a b
-Works handler firing draining a (Err e) = WhyRefused handler firing a.steps a.lead e
+Works handler firing draining a (Err e) = WhyRefused handler firing draining a e

@@ -179,9 +179,10 @@ fn run_script<W: Threads + Wait + Sync, C: Calls + Send + Drop>(
 /// `calls` has the handlers of CPU after CPU: firing, lock, low; each worker calls its own, and they come back in that order,
 /// with the rings of CPU after CPU: lock, low. All memory is taken before the first byte is put.
 ///
-/// `Refused` comes with Memory where memory or a thread was refused, and with HandlerRefused where a handler did:
-/// that of the smallest CPU, firing before lock before low. Nothing is put then, and the handlers are dropped. `Write` comes
-/// exactly where the sink has failed.
+/// `Refused` comes with Memory where memory or a thread was refused, also where a handler was beside it, and with HandlerRefused
+/// where a handler refused: of several that of the smallest CPU, firing before lock before low. It comes with nothing else: no
+/// cyclic of a script expires as often as it may. Nothing is put then, and the handlers are dropped. `Write` comes exactly where
+/// the sink has failed.
 pub fn run<W: Threads + Wait + Sync, C: Calls + Send + Drop, S: Sink>(
     rt: &W,
     alloc: Global,

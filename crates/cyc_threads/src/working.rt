@@ -141,8 +141,9 @@ fn work_in_scope<
 
 /// Takes the steps of a script while two threads for each CPU drain its soft levels, and waits until each CPU has settled.
 ///
-/// Refuses with Memory where memory or a thread was refused, with what a fire refuses, and with HandlerRefused where
-/// a handler of a soft level did. Whatever the answer, each draining worker was told to stop, woken and joined.
+/// Refuses with Memory where memory or a thread was refused, and else with the first refusal, in the order of `refusal_of`, of a
+/// fire that ended the steps and of the handlers of the soft levels. Whatever the answer, each draining worker was told to stop,
+/// woken and joined.
 pub(crate) fn work_all<
     W: Threads + Wait + Sync,
     R: Raise + Send + Drop,

@@ -1,10 +1,12 @@
 use Rattle.std.proofs.Common.{◌≡◌, ℕ, ap, ◌∙◌, map, length, arith}
 use Rattle.std.specs.Prelude.{replicate}
+use Rattle.cyc_ring.specs.Ends.{raise_end}
 use Rattle.cyc_workers.specs.declared.settling.Lead.{Lead}
 use Rattle.cyc_workers.proofs.Joining.{at_err}
 use Rattle.cyc_thread_rings.specs.Working.{sides_of}
 use Rattle.cyc_threads.specs.declared.named.Named.TheVariants.{Nothing}
 use Rattle.cyc_threads.specs.Refusing.{WhyNotPlayed}
+use Rattle.cyc_threads.proofs.Expiring.{none_expired}
 use Rattle.cyc_threads.proofs.Played.{many_ends, some_cpus, few_cpus, many_leads, fresh_ends, begins, not_played, kept, many_soft}
 use Rattle.cyc_threads.proofs.Played.{played_ok, seated_ok}
 use Rattle.cyc_threads.proofs.running.play.Goals as goal
@@ -35,8 +37,8 @@ pub returns-in_err-worked-clause-refused : goal.returns-in_err-worked-clause-ref
 returns-in_err-worked-clause-refused g c =
     at_err (λ e. WhyNotPlayed g.C.Calls c.args.script.now c.args.all.items e)
     c.from_residual-in_err-worked.result c.in_err-worked.field-0.0 c.from_residual-in_err-worked.ensures.1
-    (not_played g.C.Calls c.args.script.now c.args.all.items c.in_ok-first.first
-    c.in_err-worked.field-0.0
+    (not_played g.C.Calls c.args.script.now c.args.all.items c.in_ok-attached.attached.items c.in_ok-first.first
+    (map sides_of c.in_ok-ends.field-0.drainers.items) c.in_ok-ends.ensures.drainers c.in_ok-attached.ensures
     (begins (length c.args.script.now.names.items) c.args.all.items c.in_ok-attached.attached.items
     c.in_ok-ends.field-0.ends.items c.in_ok-first.first
     c.in_ok-attached.ensures c.in_ok-ends.ensures.ends
@@ -44,6 +46,9 @@ returns-in_err-worked-clause-refused g c =
     c.in_ok-first.ensures.cpus c.in_ok-first.ensures.records c.in_ok-first.ensures.last c.in_ok-first.ensures.clock
     (let long = c.len.ensures in let many : c.len.result ≡ length c.args.script.now.names.items = omega (arith, long) in
     c.in_ok-first.ensures.names ∙ ap (λ (n : ℕ). replicate n Nothing) many))
+    (none_expired raise_end c.in_ok-ends.field-0.ends.items c.in_ok-first.first.side c.in_ok-first.ensures.cpus
+    c.in_ok-first.ensures.records c.in_ok-first.ensures.ready c.in_ok-first.ensures.sound)
+    c.in_err-worked.field-0.0
     c.in_err-worked.ensures)
 
 pub leave_rings-requires-clause-ready : goal.leave_rings-requires-clause-ready

@@ -30,8 +30,10 @@ returns-in_err-progress-clause-halted g c = let test = c.loop-place-test.true in
     (omega (arith, test, long)) c.index.ensures c.loop-place.invariant c.in_err-progress.ensures.halted)
 
 pub returns-clause-halted : goal.returns-clause-halted
-returns-clause-halted g c = told_halts g.C.Calls g.R.Raise c.args.progress c.args.script.now.steps.items c.wait.result
-    c.wait.ensures.halted
+returns-clause-halted g c = let test = c.loop-place-test.false in let long = c.len-place-end.ensures in
+    told_halts g.C.Calls g.R.Raise c.args.script.now.steps.items
+    c.loop-place.place c.args.progress c.loop-place.progress c.wait.result
+    (omega (arith, test, long)) c.loop-place.invariant c.wait.ensures.halted
 
 pub returns-clause-ran : goal.returns-clause-ran
 returns-clause-ran g c = let test = c.loop-place-test.false in let long = c.len-place-end.ensures in

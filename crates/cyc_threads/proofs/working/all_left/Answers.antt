@@ -1,4 +1,4 @@
-use Rattle.std.proofs.Common.{◌≡◌, ◌⊎◌, ◌∙◌, List, sym, subst, inr}
+use Rattle.std.proofs.Common.{◌≡◌, ◌∙◌, List, sym, subst, inr}
 use Rattle.std.specs.Prelude.{None, Some, Result, Err}
 use Rattle.cyc_workers.specs.declared.draining.Drained.{Drained}
 use Rattle.cyc_thread_rings.specs.declared.levels.Levels.{Levels}
