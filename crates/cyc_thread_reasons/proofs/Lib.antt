@@ -1,0 +1,21 @@
+mod Worked
+pub mod Counting
+pub mod Standings
+pub mod Going
+pub mod Fitting
+pub mod Waiting
+pub mod Outcomes
+pub mod Reasoning
+pub mod Full
+pub mod Crowding
+pub mod Room
+pub mod Naming
+pub mod Resetting
+pub mod Ending
+pub mod Adding
+pub mod Moving
+pub mod Leaving
+pub mod Numbering
+pub mod Walking
+pub mod Beginning
+pub mod Whole

@@ -1,0 +1,147 @@
+-- The steps of a run, one after another: each was accepted, or there is why not.
+use Rattle.std.proofs.Common.{◌≡◌, ℕ, ◌+◌, ◌<◌, ◌≤◌, inl, inr, true, false, List, [], ◌∷◌, length, refl, ap, arith}
+use Rattle.std.specs.Prelude.{nat_lt, nat_le, not}
+use Rattle.std.proofs.lemmas.Bool.{or_left}
+use Rattle.std.proofs.lemmas.Bool.Decides.{nat_tests}
+use Rattle.cyc_types.specs.declared.Calls.{Ghosts as Calls}
+use Rattle.cyc_types.specs.declared.Raise.{Ghosts as Raise}
+use Rattle.cyc_types.specs.Series.{never}
+use Rattle.cyc_script.specs.declared.step.Step.{Step}
+use Rattle.cyc_script.specs.declared.step.Step.TheVariants as steps
+use Rattle.cyc_script.specs.WellFormed.{name_fits, names_after, names_fit, names_after_all, moment_fits, moment_after}
+use Rattle.cyc_script.specs.WellFormed.{moments_fit}
+use Rattle.cyc_thread_expected.proofs.Lists.{eq_true}
+use Rattle.cyc_thread_expected.specs.Progress.{Progress}
+use Rattle.cyc_thread_expected.specs.Names.{named_at}
+use Rattle.cyc_thread_expected.specs.Words.{Does, waits_first}
+use Rattle.cyc_thread_expected.specs.Steps.{TakesSteps, Runs}
+use Rattle.cyc_thread_expected.specs.Meeting.{accepted}
+use Rattle.cyc_calm.specs.Way.{is_moment}
+use Rattle.cyc_calm.proofs.Waiting.{HasWaited}
+use Rattle.cyc_calm.proofs.Stepping.{no_moment_of}
+use Rattle.cyc_calm.proofs.Agreeing.{both, more_names}
+use Rattle.cyc_thread_reasons.specs.Told.{Told, standing, before_step, told_after}
+use Rattle.cyc_thread_reasons.specs.Reasons.{may_reprogram}
+use Rattle.cyc_thread_reasons.specs.Explained.{AreExplained, AllExplained}
+use Rattle.cyc_thread_reasons.proofs.Fitting.{Fits}
+use Rattle.cyc_thread_reasons.proofs.Waiting.{Calm, begun}
+use Rattle.cyc_thread_reasons.proofs.Outcomes.{Next, fits_as, calm_as}
+use Rattle.cyc_thread_reasons.proofs.Adding.{add_next, omni_next}
+use Rattle.cyc_thread_reasons.proofs.Naming.{bind_of, unbind_of, idle}
+use Rattle.cyc_thread_reasons.proofs.Resetting.{reset_of}
+use Rattle.cyc_thread_reasons.proofs.Ending.{remove_of, advance_fits, advance_calm}
+use Rattle.cyc_thread_reasons.proofs.Numbering.{juggle_of, offline_of, online_of}
+
+lt_so : (a b : ℕ) → nat_lt a b ≡ true → a < b
+lt_so a b e = grind (arith, nat_tests, e)
+
+one_name : (k : ℕ) (x : Step) → names_after k x ≤ k + 1
+one_name k (steps.Add a) = omega arith
+one_name k (steps.Omni a) = omega arith
+one_name k (steps.Bind b) = omega arith
+one_name k (steps.Unbind name) = omega arith
+one_name k (steps.Reprogram r) = omega arith
+one_name k (steps.Remove name) = omega arith
+one_name k (steps.Advance now) = omega arith
+one_name k (steps.Softint i) = omega arith
+one_name k (steps.Juggle n) = omega arith
+one_name k (steps.Offline n) = omega arith
+one_name k (steps.Online n) = omega arith
+
+-- there are at most as many names as steps
+pub few_names : (k : ℕ) (xs : List Step) → names_after_all k xs ≤ k + length xs
+few_names k [] = omega arith
+few_names k (x ∷ xs) = let a = one_name k x in let b = few_names (names_after k x) xs in omega (arith, a, b)
+
+module _ {C R : Type 0} (handler : Calls C) (firing : Raise R) (names : ℕ) (few : names ≤ 65536) where
+  -- each word
+  next : (given m : ℕ) (told : Told) (x : Step) (s t : Progress R C) (d : Does handler firing x s t)
+      → Fits firing names given told s → Calm firing told s → (waits_first x ≡ true → HasWaited firing s)
+      → name_fits given x ≡ true → names_after given x ≤ names → moment_fits m x ≡ true
+      → Next handler firing names given told x s t d
+  next given m told (steps.Add a) s t d h q waited here space early =
+      let o = add_next handler firing names given told s t h (waited refl) space few a d (eq_true a.name given here) in
+      record { why = o.why; fits = o.fits; calm = o.calm }
+  next given m told (steps.Omni a) s t d h q waited here space early =
+      let o = omni_next handler firing names given told s t h (waited refl) space few a d (eq_true a.name given here) in
+      record { why = o.why; fits = o.fits; calm = o.calm }
+  next given m told (steps.Bind b) s t d h q waited here space early =
+      let o = bind_of firing names given told s t h (waited refl) b (named_at s.names b.name) refl
+      ((waited refl).none b.name) d in
+      record { why = o.why; fits = o.fits; calm = o.calm }
+  next given m told (steps.Unbind name) s t d h q waited here space early =
+      let o = unbind_of firing names given told s t h (waited refl) name (named_at s.names name) refl
+      ((waited refl).none name) d in
+      record { why = o.why; fits = o.fits; calm = o.calm }
+  next given m told (steps.Reprogram r) s t (inl (moment, is, d)) h q waited here space early =
+      let o = reset_of firing names given told s t h (waited refl) r moment (named_at s.names r.name) refl
+      ((waited refl).none r.name) d in
+      record { why = o.why; fits = o.fits; calm = o.calm }
+  next given m told (steps.Reprogram r) s t (inr (number, same)) h q waited here space early =
+      let o = idle firing names given told s t h (waited refl) (steps.Reprogram r) same
+      (or_left (not (is_moment r.moment)) (not (may_reprogram r.cpu (standing r.name told) told))
+      (ap not (no_moment_of r.moment number))) in
+      record { why = o.why; fits = o.fits; calm = o.calm }
+  next given m told (steps.Remove name) s t d h q waited here space early =
+      let o = remove_of firing names given told name s t h q (named_at s.names name) refl d in
+      record { why = o.why; fits = o.fits; calm = o.calm }
+  next given m told (steps.Advance now) s t d h q waited here space early = record {
+    why = λ e. absurd (let odd : true ≡ false = e in cc);
+    fits = advance_fits handler firing names given told now s t d
+        (lt_so now never (both (nat_le m now) (nat_lt now never) early).1) h;
+    calm = λ e. advance_calm handler firing names given told now s t d h (q e);
+  }
+  next given m told (steps.Softint i) s t d h q waited here space early = record {
+    why = λ e. absurd (let odd : true ≡ false = e in cc);
+    fits = fits_as firing names given told s t d h;
+    calm = calm_as firing names told s t d q;
+  }
+  next given m told (steps.Juggle n) s t (answer, d) h q waited here space early =
+      let o = juggle_of firing names given told s t h (waited refl) n answer d in
+      record { why = o.why; fits = o.fits; calm = o.calm }
+  next given m told (steps.Offline n) s t (answer, d) h q waited here space early =
+      let o = offline_of firing names given told s t h (waited refl) n answer d in
+      record { why = o.why; fits = o.fits; calm = o.calm }
+  next given m told (steps.Online n) s t (answer, d) h q waited here space early =
+      let o = online_of firing names given told s t h (waited refl) n answer d in
+      record { why = o.why; fits = o.fits; calm = o.calm }
+
+  -- what is known of the steps that are left
+  record Left (given m : ℕ) (told : Told) (xs : List Step) (s : Progress R C) : Type 0 where
+    pub fits : Fits firing names given told s
+    pub calm : Calm firing told s
+    pub in_order : names_fit given xs ≡ true
+    pub all : names_after_all given xs ≡ names
+    pub moments : moments_fit m xs ≡ true
+
+  explain : (given m : ℕ) (told : Told) (xs : List Step) (s t : Progress R C) (takes : TakesSteps handler firing s xs t)
+      → Left given m told xs s → AreExplained handler firing told s xs t takes
+  explain given m told [] s t takes l = tt
+  explain given m told (x ∷ xs) s t (v, (u, begins, does), rest) l =
+      let (here, later) = both (name_fits given x) (names_fit (names_after given x) xs) l.in_order in
+      let (early, after) = both (moment_fits m x) (moments_fit (moment_after m x) xs) l.moments in
+      let more = more_names (names_after given x) xs in let all = l.all in
+      let b = begun firing names given told x s u begins l.fits l.calm in
+      let n = next given m (before_step x told) x u v does b.fits b.calm b.waited here (omega (arith, more, all)) early in (
+        n.why,
+        explain (names_after given x) (moment_after m x)
+            (told_after (record { step = x; accepted = accepted handler firing x u v does }) told) xs v t rest (record {
+              fits = n.fits;
+              calm = n.calm;
+              in_order = later;
+              all = l.all;
+              moments = after;
+            }),
+      )
+
+  -- the whole run
+  pub run_explained : (told : Told) (xs : List Step) (s t : Progress R C) (runs : Runs handler firing s xs t)
+      → Fits firing names 0 told s → Calm firing told s → names_fit 0 xs ≡ true → names_after_all 0 xs ≡ names
+      → moments_fit 0 xs ≡ true → AllExplained handler firing told s xs t runs
+  run_explained told xs s t (u, takes, waits) fits calm order all moments = explain 0 0 told xs s u takes (record {
+    fits = fits;
+    calm = calm;
+    in_order = order;
+    all = all;
+    moments = moments;
+  })

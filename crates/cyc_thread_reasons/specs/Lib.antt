@@ -1,0 +1,3 @@
+pub mod Told
+pub mod Reasons
+pub mod Explained
