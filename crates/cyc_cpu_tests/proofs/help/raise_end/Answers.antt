@@ -3,7 +3,7 @@ use Rattle.ring_rule.specs.declared.RaiseStep.{RaiseStep}
 use Rattle.cyc_ring.specs.Ends.{raise_trail}
 use Rattle.cyc_ring.specs.Views.{firing_view}
 use Rattle.cyc_cpu.specs.Cpu.{IsFresh}
-use Rattle.cyc_ring_cpu_tests.proofs.help.raise_end.Goals as goal
+use Rattle.cyc_cpu_tests.proofs.help.raise_end.Goals as goal
 
 pub returns : goal.returns
 returns c =

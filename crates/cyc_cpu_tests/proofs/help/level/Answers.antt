@@ -1,5 +1,5 @@
 use Rattle.cyc_cpu.proofs.Fresh.{empty_is_fresh}
-use Rattle.cyc_ring_cpu_tests.proofs.help.level.Goals as goal
+use Rattle.cyc_cpu_tests.proofs.help.level.Goals as goal
 
 pub returns-in-Ok : goal.returns-in-Ok
 returns-in-Ok c = empty_is_fresh _ _ c.in-Ok.ensures.ok

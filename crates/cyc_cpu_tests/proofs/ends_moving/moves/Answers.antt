@@ -1,5 +1,5 @@
 use Rattle.std.proofs.Common.{arith, ap, length}
-use Rattle.cyc_ring_cpu_tests.proofs.moving.moves.Goals as goal
+use Rattle.cyc_cpu_tests.proofs.ends_moving.moves.Goals as goal
 
 pub place-requires-clause-free : goal.place-requires-clause-free
 place-requires-clause-free g c =

@@ -1,6 +1,6 @@
 use Rattle.std.proofs.Common.{◌∙◌}
-use Rattle.cyc_ring_cpu_tests.proofs.Keeps.{same_most}
-use Rattle.cyc_ring_cpu_tests.proofs.help.add.Goals as goal
+use Rattle.cyc_cpu_tests.proofs.Keeps.{same_most}
+use Rattle.cyc_cpu_tests.proofs.help.add.Goals as goal
 
 pub returns-in-Ok : goal.returns-in-Ok
 returns-in-Ok g c =

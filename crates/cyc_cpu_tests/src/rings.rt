@@ -2,10 +2,10 @@
 ghost use Rattle.std.specs.Prelude.{◌≡◌, ◌-◌, ◌^◌, []};
 ghost use Rattle.cyc_ring.specs.Ends.{IsRaiseSeatOf, IsDrainSeatOf, raise_trail};
 
+use crate::ends_moving::there_and_back;
 use crate::help::{cpu, id, open, raise_end};
-use crate::moving::there_and_back;
 use crate::over_a_ring::drains_the_old_bank;
-use crate::removing::{drains_both, keeps_its_calls};
+use crate::ring_removing::{drains_both, keeps_its_calls};
 use cyc_cpu::Hard;
 use cyc_ring::{DrainEnd, DrainSeat, RaiseSeat, Ring};
 use cyc_types::{Raise, Tally};
