@@ -36,10 +36,10 @@ use Rattle.cyc_calm.specs.Way.{is_series}
 use Rattle.cyc_calm.proofs.Keeping.{AllStill, keeps_call}
 use Rattle.cyc_calm.proofs.Fitting.{set_here, set_beside}
 use Rattle.cyc_calm.proofs.Waiting.{IsCalmNow, HasWaited, waited_calm}
-use Rattle.cyc_thread_reasons.specs.Told.{Standing, OnOne, OnAll, Told, with_standing}
-use Rattle.cyc_thread_reasons.specs.Reasons.{is_here, is_single, how_many, many_online, may_be_full, are_too_many, has_reason}
+use Rattle.cyc_thread_reasons.specs.Known.{Whereabouts, OnOne, OnAll, Known, with_whereabouts}
+use Rattle.cyc_thread_reasons.specs.Reasons.{is_there, is_single, how_many, many_online, may_be_full, are_too_many, has_reason}
 use Rattle.cyc_thread_reasons.proofs.Counting.{numbers_differ}
-use Rattle.cyc_thread_reasons.proofs.Standings.{stands, stands_kept, new_stands, ok_err}
+use Rattle.cyc_thread_reasons.proofs.Whereabouts.{stands, stands_kept, new_stands, ok_err}
 use Rattle.cyc_thread_reasons.proofs.Fitting.{Fits, base_call, fits_set, fits_more}
 use Rattle.cyc_thread_reasons.proofs.Outcomes.{Outcome, taken, refused, fits_quiet, calm_quiet, fits_as, calm_as}
 use Rattle.cyc_thread_reasons.proofs.Reasoning.{many}
@@ -65,7 +65,7 @@ any_after : (test : ℕ → Bool) (before rest : List ℕ) (n : ℕ) → test n 
 any_after test before rest n e = list_any-append test before (n ∷ rest)
     ∙ or_right (list_any test before) (list_any test (n ∷ rest)) (or_left (test n) (list_any test rest) e)
 
-module _ {C R : Type 0} (handler : Calls C) (firing : Raise R) (names given : ℕ) (told : Told) (s t : Progress R C)
+module _ {C R : Type 0} (handler : Calls C) (firing : Raise R) (names given : ℕ) (told : Known) (s t : Progress R C)
     (h : Fits firing names given told s) (w : HasWaited firing s) (space : given + 1 ≤ names) (few : names ≤ 65536) where
   calm_here : IsCalmNow firing s
   calm_here = waited_calm firing s w
@@ -75,14 +75,14 @@ module _ {C R : Type 0} (handler : Calls C) (firing : Raise R) (names given : �
 
   -- ---- a name gets a cyclic
 
-  gets : (name id : ℕ) (st : Standing) (call : SystemCall) (c : CallsFor firing name call s t) → name ≡ given
+  gets : (name id : ℕ) (st : Whereabouts) (call : SystemCall) (c : CallsFor firing name call s t) → name ≡ given
       → t.names ≡ slice_set s.names name (Cyclic id) → id ≡ s.side.system.last + 1 → t.side.system.last ≡ id
       → t.side.system.cpus.online ≡ s.side.system.cpus.online
-      → stands id t.side.system ≡ st → is_here st ≡ true
+      → stands id t.side.system ≡ st → is_there st ≡ true
       → ((own : ℕ) → own ≢ id → stands own t.side.system ≡ stands own s.side.system)
-      → Fits firing names (given + 1) (with_standing name st told) t
+      → Fits firing names (given + 1) (with_whereabouts name st told) t
   gets name id st call c here set next last online is there kept =
-      fits_set firing names given (given + 1) told (with_standing name st told) s t name (Cyclic id) st
+      fits_set firing names given (given + 1) told (with_whereabouts name st told) s t name (Cyclic id) st
       (base_call firing names given told name call s t c h) h (omega arith) (record {
         told_names = refl;
         online = online ∙ h.online;
@@ -92,8 +92,8 @@ module _ {C R : Type 0} (handler : Calls C) (firing : Raise R) (names given : �
         at_other = λ a ne. ap (λ ns. named_at ns a) set ∙ set_beside s.names name a (Cyclic id) ne;
         last = (let a = h.few in omega (arith, a, next, last));
         is = is;
-        there = λ own e. subst (λ (k : ℕ). is_here (stands k t.side.system) ≡ true) (same_some (ap id_of e))
-            (ap is_here is ∙ there);
+        there = λ own e. subst (λ (k : ℕ). is_there (stands k t.side.system) ≡ true) (same_some (ap id_of e))
+            (ap is_there is ∙ there);
         new = λ own e. (let same : id ≡ own = same_some e in (
           omega (arith, last, same),
           λ other ne at. (let old = h.ids other own at in omega (arith, old, next, same)),
@@ -101,7 +101,7 @@ module _ {C R : Type 0} (handler : Calls C) (firing : Raise R) (names given : �
         others = λ other own ne e. kept own (λ same. (let old = h.ids other own (ap id_of e) in omega (arith, old, next, same)));
         known = λ own e. dite (ℕ_discrete own id) (λ q. inl (ap Some (sym q)))
             (λ ne. inr (
-              sym (ap is_here (kept own ne)) ∙ e,
+              sym (ap is_there (kept own ne)) ∙ e,
               λ at. none_some (sym (ap id_of (h.fresh name (omega (arith, here)))) ∙ at),
             ));
         fresh = λ a high same. omega (arith, high, same, here);
@@ -186,7 +186,7 @@ module _ {C R : Type 0} (handler : Calls C) (firing : Raise R) (names given : �
   omni_last level when skew now e (inl (x, first, is, same)) = ap (λ (y : SystemView R). y.last) same
   omni_last level when skew now e (inr (clear, (works, records, last))) = last
 
-  abbrev one_is_full : Told → Bool
+  abbrev one_is_full : Known → Bool
   one_is_full told = list_any (λ n. may_be_full n told) (numbers_from 0 told.online)
 
   one_full : (before : List ℕ) (n : ℕ) → StandsAfter before n (online_cpus s.side.system.cpus) → IsFull n s.side.system.cpus

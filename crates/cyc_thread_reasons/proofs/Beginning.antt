@@ -14,9 +14,9 @@ use Rattle.cyc_thread_expected.specs.Progress.{Progress}
 use Rattle.cyc_thread_expected.specs.Names.{named_at, id_of}
 use Rattle.cyc_thread_expected.specs.Running.{IsAtFirst}
 use Rattle.cyc_calm.proofs.Beginning.{first_fits as calm_fits}
-use Rattle.cyc_thread_reasons.specs.Told.{Absent, untold}
-use Rattle.cyc_thread_reasons.specs.Reasons.{is_here}
-use Rattle.cyc_thread_reasons.proofs.Standings.{stands_in}
+use Rattle.cyc_thread_reasons.specs.Known.{Absent, known_first}
+use Rattle.cyc_thread_reasons.specs.Reasons.{is_there}
+use Rattle.cyc_thread_reasons.proofs.Whereabouts.{stands_in}
 use Rattle.cyc_thread_reasons.proofs.Fitting.{given_of, Fits}
 
 all_alike : {A : Type 0} (x : A) (names a : ℕ) → slice_index_or (replicate names x) a x ≡ x
@@ -29,7 +29,7 @@ module _ {C : Type 0} (names cpus : ℕ) (all : List (Seated C)) (p : Progress R
   nothing_at : (a : ℕ) → named_at p.names a ≡ Nothing
   nothing_at a = ap (λ ns. named_at ns a) first.names_are ∙ all_alike Nothing names a
 
-  pub first_fits : Fits raise_end names 0 (untold cpus names) p
+  pub first_fits : Fits raise_end names 0 (known_first cpus names) p
   first_fits = let f = calm_fits names cpus all p first many in record {
     rising = f.rising;
     few = f.few;
@@ -44,5 +44,5 @@ module _ {C : Type 0} (names cpus : ℕ) (all : List (Seated C)) (p : Progress R
     there = λ a id e. absurd (none_some (sym (ap id_of (nothing_at a)) ∙ ap id_of e));
     ids = f.ids;
     own = f.own;
-    known = λ id e. absurd (let odd : false ≡ true = sym (ap (λ rs. is_here (stands_in id rs)) first.records) ∙ e in cc);
+    known = λ id e. absurd (let odd : false ≡ true = sym (ap (λ rs. is_there (stands_in id rs)) first.records) ∙ e in cc);
   }

@@ -34,9 +34,9 @@ use Rattle.cyc_thread_expected.specs.Leading.{call_with}
 use Rattle.cyc_calm.proofs.Keeping.{AllStill, begun_given}
 use Rattle.cyc_calm.proofs.Waiting.{IsCalmNow}
 use Rattle.cyc_calm.proofs.Moving.{none_removed}
-use Rattle.cyc_thread_reasons.specs.Told.{Absent, Told, standing, after_step}
-use Rattle.cyc_thread_reasons.specs.Reasons.{is_here, has_reason}
-use Rattle.cyc_thread_reasons.proofs.Standings.{stands, stands_same, stands_as, stands_kept, unknown_stands, removed_stands}
+use Rattle.cyc_thread_reasons.specs.Known.{Absent, Known, name_has, after_accepted}
+use Rattle.cyc_thread_reasons.specs.Reasons.{is_there, has_reason}
+use Rattle.cyc_thread_reasons.proofs.Whereabouts.{stands, stands_same, stands_as, stands_kept, unknown_stands, removed_stands}
 use Rattle.cyc_thread_reasons.proofs.Fitting.{given_of, Fits, base_call, fits_same, fits_set, sets_own}
 use Rattle.cyc_thread_reasons.proofs.Waiting.{Calm, not_here}
 use Rattle.cyc_thread_reasons.proofs.Outcomes.{Outcome, taken, refused, fits_as, calm_as}
@@ -50,13 +50,13 @@ none_busy s (n ∷ ns) still = passes (busy (removal_on n s.cpus)) (map (λ (m :
 cyclic_stays : {named : Named} {id : ℕ} → is_leaving named ≡ true → named ≡ Cyclic id → ⊥
 cyclic_stays leaves e = (let odd : false ≡ true = sym (ap is_leaving e) ∙ leaves in cc)
 
-module _ {C R : Type 0} (firing : Raise R) (names given : ℕ) (told : Told) (name : ℕ) (s t : Progress R C)
+module _ {C R : Type 0} (firing : Raise R) (names given : ℕ) (told : Known) (name : ℕ) (s t : Progress R C)
     (h : Fits firing names given told s) (q : Calm firing told s) where
   abbrev OutHere : Option LeadCall → Type 0
   OutHere call = Outcome firing names given told (steps.Remove name) t call ⊥
 
-  nothing_reason : standing name told ≡ Absent → has_reason (steps.Remove name) told ≡ true
-  nothing_reason e = or_left (not (is_here (standing name told))) told.leaving (ap (λ z. not (is_here z)) e)
+  nothing_reason : name_has name told ≡ Absent → has_reason (steps.Remove name) told ≡ true
+  nothing_reason e = or_left (not (is_there (name_has name told))) told.leaving (ap (λ z. not (is_there z)) e)
 
   -- why the removal of a cyclic is refused: another may be open
   open_reason : (id : ℕ) (e : Refusal) → named_at s.names name ≡ Cyclic id
@@ -72,7 +72,7 @@ module _ {C R : Type 0} (firing : Raise R) (names given : ℕ) (told : Told) (na
       not_open still (inr (clear, wrong)) = wrong
 
       by : (b : Bool) → told.leaving ≡ b → has_reason (steps.Remove name) told ≡ true
-      by true e = or_right (not (is_here (standing name told))) told.leaving e
+      by true e = or_right (not (is_there (name_has name told))) told.leaving e
       by false e = absurd (not_open (q e).still d)
 
   same_system : (id : ℕ) (e : Refusal) → Changes firing s.side.system (BeginRemove id (Err e)) t.side.system
@@ -102,9 +102,9 @@ module _ {C R : Type 0} (firing : Raise R) (names given : ℕ) (told : Told) (na
   begins id (Ok (Done receipt)) has c reason =
       let g = begun_given firing id (Ok (Done receipt)) s.side.system t.side.system c.did in
       taken firing names given told (steps.Remove name) t (Some (Make (BeginRemove id (Ok (Done receipt))))) ⊥ refl
-      (fits_set firing names given given told (after_step (steps.Remove name) told) s t name (Removed receipt) Absent
+      (fits_set firing names given given told (after_accepted (steps.Remove name) told) s t name (Removed receipt) Absent
       (base_call firing names given told name (BeginRemove id (Ok (Done receipt))) s t c h) h (omega arith)
-      (sets_own firing names given told (after_step (steps.Remove name) told) s t name id (Removed receipt) Absent h refl
+      (sets_own firing names given told (after_accepted (steps.Remove name) told) s t name id (Removed receipt) Absent h refl
       (g.online ∙ h.online) has c.told g.last refl (λ own e. absurd (none_some (ap id_of e))) (λ own e. absurd (none_some e))
       (λ own ne. stands_kept firing s.side.system t.side.system (BeginRemove id (Ok (Done receipt))) own tt h.rising c.did ne)
       (λ e. absurd (not_here (stands id t.side.system)
@@ -113,9 +113,9 @@ module _ {C R : Type 0} (firing : Raise R) (names given : ℕ) (told : Told) (na
   begins id (Ok (Kept kept)) has c reason =
       let g = begun_given firing id (Ok (Kept kept)) s.side.system t.side.system c.did in
       taken firing names given told (steps.Remove name) t (Some (Make (BeginRemove id (Ok (Kept kept))))) ⊥ refl
-      (fits_set firing names given given told (after_step (steps.Remove name) told) s t name (Leaving id) Absent
+      (fits_set firing names given given told (after_accepted (steps.Remove name) told) s t name (Leaving id) Absent
       (base_call firing names given told name (BeginRemove id (Ok (Kept kept))) s t c h) h (omega arith)
-      (sets_own firing names given told (after_step (steps.Remove name) told) s t name id (Leaving id) Absent h refl
+      (sets_own firing names given told (after_accepted (steps.Remove name) told) s t name id (Leaving id) Absent h refl
       (g.online ∙ h.online) has c.told g.last refl (λ own e. absurd (cyclic_stays refl e)) (λ own e. same_some e)
       (λ own ne. stands_kept firing s.side.system t.side.system (BeginRemove id (Ok (Kept kept))) own tt h.rising c.did (λ z. z))
       (λ e. refl)))
@@ -138,7 +138,7 @@ module _ {C R : Type 0} (firing : Raise R) (names given : ℕ) (told : Told) (na
 
 -- ---- an advance
 
-module _ {C R : Type 0} (handler : Calls C) (firing : Raise R) (names given : ℕ) (told : Told) where
+module _ {C R : Type 0} (handler : Calls C) (firing : Raise R) (names given : ℕ) (told : Known) where
   fired_one : (up : Bool) (now : ℕ) (x y : CpuView R) (a b : C) (answer : Option (Result Fired FireRefused))
       → FiresIf handler firing (moment_asked up now) (running a x) answer (running b y) → x.removal ≡ None → y.removal ≡ None
   fired_one true now x y a b (Some (Ok r)) f none = f.1.removal ∙ none

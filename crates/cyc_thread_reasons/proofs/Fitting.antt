@@ -19,12 +19,12 @@ use Rattle.cyc_thread_expected.specs.Progress.{Progress}
 use Rattle.cyc_thread_expected.specs.StepCalls.{CallsFor, IsReady}
 use Rattle.cyc_thread_expected.specs.Names.{named_at, id_of, is_leaving}
 use Rattle.cyc_calm.proofs.Fitting.{set_here, set_beside}
-use Rattle.cyc_thread_reasons.specs.Told.{Standing, Absent, Told, standing}
-use Rattle.cyc_thread_reasons.specs.Reasons.{is_here}
-use Rattle.cyc_thread_reasons.proofs.Standings.{stands, SameStands}
+use Rattle.cyc_thread_reasons.specs.Known.{Whereabouts, Absent, Known, name_has}
+use Rattle.cyc_thread_reasons.specs.Reasons.{is_there}
+use Rattle.cyc_thread_reasons.proofs.Whereabouts.{stands, SameStands}
 
 -- what the system has of what a name has
-abbrev pub given_of : {R : Type 0} → Named → SystemView R → Standing
+abbrev pub given_of : {R : Type 0} → Named → SystemView R → Whereabouts
 given_of Nothing s = Absent
 given_of (Cyclic id) s = stands id s
 given_of (Leaving id) s = Absent
@@ -51,7 +51,7 @@ name_low names name id has = dite (ℕ_discrete (length names - name) 0)
 
 module _ {C R : Type 0} (firing : Raise R) (names : ℕ) where
   -- Of so many names so many were introduced, and what the accepted steps told of the CPUs and of the names is so.
-  pub record Fits (given : ℕ) (told : Told) (p : Progress R C) : Type 0 where
+  pub record Fits (given : ℕ) (told : Known) (p : Progress R C) : Type 0 where
     pub rising : HasRisingIds p.side.system.records
     pub few : p.side.system.last ≤ given
     pub early : p.clock < never
@@ -61,11 +61,11 @@ module _ {C R : Type 0} (firing : Raise R) (names : ℕ) where
     pub ups : length p.side.system.cpus.online ≡ length p.side.system.cpus.cpus
     pub ready : IsReady p
     pub fresh : (a : ℕ) → given ≤ a → named_at p.names a ≡ Nothing
-    pub each : (a : ℕ) → standing a told ≡ given_of (named_at p.names a) p.side.system
-    pub there : (a id : ℕ) → named_at p.names a ≡ Cyclic id → is_here (stands id p.side.system) ≡ true
+    pub each : (a : ℕ) → name_has a told ≡ given_of (named_at p.names a) p.side.system
+    pub there : (a id : ℕ) → named_at p.names a ≡ Cyclic id → is_there (stands id p.side.system) ≡ true
     pub ids : (a id : ℕ) → id_of (named_at p.names a) ≡ Some id → id ≤ p.side.system.last
     pub own : (a b id : ℕ) → id_of (named_at p.names a) ≡ Some id → id_of (named_at p.names b) ≡ Some id → a ≡ b
-    pub known : (id : ℕ) → is_here (stands id p.side.system) ≡ true → (a : ℕ) × (id_of (named_at p.names a) ≡ Some id)
+    pub known : (id : ℕ) → is_there (stands id p.side.system) ≡ true → (a : ℕ) × (id_of (named_at p.names a) ≡ Some id)
 
   -- what every call keeps of it
   pub record Base (s t : Progress R C) : Type 0 where
@@ -75,7 +75,7 @@ module _ {C R : Type 0} (firing : Raise R) (names : ℕ) where
     pub ready : IsReady t
     pub more : s.side.system.last ≤ t.side.system.last
 
-  pub base_call : (given : ℕ) (told : Told) (name : ℕ) (call : SystemCall) (s t : Progress R C) → CallsFor firing name call s t
+  pub base_call : (given : ℕ) (told : Known) (name : ℕ) (call : SystemCall) (s t : Progress R C) → CallsFor firing name call s t
       → Fits given told s → Base s t
   base_call given told name call s t c h = record {
     rising = c.sound.fit.rising;
@@ -86,7 +86,7 @@ module _ {C R : Type 0} (firing : Raise R) (names : ℕ) where
   }
 
   -- no name gets anything
-  pub fits_same : (given : ℕ) (told told' : Told) (s t : Progress R C) → Base s t → Fits given told s
+  pub fits_same : (given : ℕ) (told told' : Known) (s t : Progress R C) → Base s t → Fits given told s
       → told'.names ≡ told.names → t.side.system.cpus.online ≡ told'.online → t.names ≡ s.names → t.side.system.last ≤ given
       → SameStands s.side.system t.side.system → Fits given told' t
   fits_same given told told' s t b h told_same online same last alike = record {
@@ -102,17 +102,18 @@ module _ {C R : Type 0} (firing : Raise R) (names : ℕ) where
     each = λ a. ap (λ ns. slice_index_or ns a Absent) told_same ∙ h.each a
         ∙ sym (given_kept (named_at s.names a) s.side.system t.side.system (λ id e. alike id))
         ∙ ap (λ ns. given_of (named_at ns a) t.side.system) (sym same);
-    there = λ a id e. ap is_here (alike id) ∙ h.there a id (sym (ap (λ ns. named_at ns a) same) ∙ e);
+    there = λ a id e. ap is_there (alike id) ∙ h.there a id (sym (ap (λ ns. named_at ns a) same) ∙ e);
     ids = λ a id e. (let low = h.ids a id (sym (ap (λ ns. id_of (named_at ns a)) same) ∙ e) in
         let more = b.more in omega (arith, low, more));
     own = λ x y id e f. h.own x y id (sym (ap (λ ns. id_of (named_at ns x)) same) ∙ e)
         (sym (ap (λ ns. id_of (named_at ns y)) same) ∙ f);
-    known = λ id e. (let (a, has) = h.known id (sym (ap is_here (alike id)) ∙ e) in
+    known = λ id e. (let (a, has) = h.known id (sym (ap is_there (alike id)) ∙ e) in
         (a, ap (λ ns. id_of (named_at ns a)) same ∙ has));
   }
 
   -- one name has another thing now
-  pub record Sets (given' : ℕ) (told told' : Told) (s t : Progress R C) (name : ℕ) (now : Named) (st : Standing) : Type 0 where
+  pub record Sets (given' : ℕ) (told told' : Known) (s t : Progress R C) (name : ℕ) (now : Named) (st : Whereabouts)
+      : Type 0 where
     pub told_names : told'.names ≡ slice_set told.names name st
     pub online : t.side.system.cpus.online ≡ told'.online
     pub low : name < length s.names
@@ -121,16 +122,16 @@ module _ {C R : Type 0} (firing : Raise R) (names : ℕ) where
     pub at_other : (a : ℕ) → a ≢ name → named_at t.names a ≡ named_at s.names a
     pub last : t.side.system.last ≤ given'
     pub is : given_of now t.side.system ≡ st
-    pub there : (id : ℕ) → now ≡ Cyclic id → is_here (stands id t.side.system) ≡ true
+    pub there : (id : ℕ) → now ≡ Cyclic id → is_there (stands id t.side.system) ≡ true
     pub new : (id : ℕ) → id_of now ≡ Some id → (id ≤ t.side.system.last)
         × ((other : ℕ) → other ≢ name → id_of (named_at s.names other) ≡ Some id → ⊥)
     pub others : (other id : ℕ) → other ≢ name → named_at s.names other ≡ Cyclic id
         → stands id t.side.system ≡ stands id s.side.system
-    pub known : (id : ℕ) → is_here (stands id t.side.system) ≡ true
-        → (id_of now ≡ Some id) ⊎ ((is_here (stands id s.side.system) ≡ true) × (id_of (named_at s.names name) ≡ Some id → ⊥))
+    pub known : (id : ℕ) → is_there (stands id t.side.system) ≡ true
+        → (id_of now ≡ Some id) ⊎ ((is_there (stands id s.side.system) ≡ true) × (id_of (named_at s.names name) ≡ Some id → ⊥))
     pub fresh : (a : ℕ) → given' ≤ a → a ≢ name
 
-  pub fits_set : (given given' : ℕ) (told told' : Told) (s t : Progress R C) (name : ℕ) (now : Named) (st : Standing)
+  pub fits_set : (given given' : ℕ) (told told' : Known) (s t : Progress R C) (name : ℕ) (now : Named) (st : Whereabouts)
       → Base s t → Fits given told s → given ≤ given' → Sets given' told told' s t name now st → Fits given' told' t
   fits_set given given' told told' s t name now st b h more z = record {
     rising = b.rising;
@@ -143,7 +144,7 @@ module _ {C R : Type 0} (firing : Raise R) (names : ℕ) where
     ready = b.ready;
     fresh = λ a high. z.at_other a (z.fresh a high) ∙ h.fresh a (omega (arith, high, more));
     each = λ a. dite (ℕ_discrete a name)
-        (λ e. subst (λ (k : ℕ). standing k told' ≡ given_of (named_at t.names k) t.side.system) (sym e)
+        (λ e. subst (λ (k : ℕ). name_has k told' ≡ given_of (named_at t.names k) t.side.system) (sym e)
         (ap (λ ns. slice_index_or ns name Absent) z.told_names
         ∙ get_or-set_same told.names name st Absent told_low
         ∙ sym z.is ∙ ap (λ (n : Named). given_of n t.side.system) (sym z.at_name)))
@@ -152,7 +153,7 @@ module _ {C R : Type 0} (firing : Raise R) (names : ℕ) where
         ∙ ap (λ (n : Named). given_of n t.side.system) (sym (z.at_other a ne)));
     there = λ a id e. dite (ℕ_discrete a name)
         (λ q. z.there id (sym z.at_name ∙ subst (λ (k : ℕ). named_at t.names k ≡ Cyclic id) q e))
-        (λ ne. (let was = sym (z.at_other a ne) ∙ e in ap is_here (z.others a id ne was) ∙ h.there a id was));
+        (λ ne. (let was = sym (z.at_other a ne) ∙ e in ap is_there (z.others a id ne was) ∙ h.there a id was));
     ids = λ a id e. dite (ℕ_discrete a name)
         (λ q. (z.new id (sym (ap id_of z.at_name) ∙ subst (λ (k : ℕ). id_of (named_at t.names k) ≡ Some id) q e)).0)
         (λ ne. (let low = h.ids a id (sym (ap id_of (z.at_other a ne)) ∙ e) in let up = b.more in omega (arith, low, up)));
@@ -171,7 +172,7 @@ module _ {C R : Type 0} (firing : Raise R) (names : ℕ) where
       told_low = let a = z.low in let l = h.long in let k = h.told_long in omega (arith, a, l, k)
 
       by_known : (id : ℕ)
-          → (id_of now ≡ Some id) ⊎ ((is_here (stands id s.side.system) ≡ true) × (id_of (named_at s.names name) ≡ Some id → ⊥))
+          → (id_of now ≡ Some id) ⊎ ((is_there (stands id s.side.system) ≡ true) × (id_of (named_at s.names name) ≡ Some id → ⊥))
           → (a : ℕ) × (id_of (named_at t.names a) ≡ Some id)
       by_known id (inl is) = (name, ap id_of z.at_name ∙ is)
       by_known id (inr (here, other)) = let (a, has) = h.known id here in
@@ -179,14 +180,14 @@ module _ {C R : Type 0} (firing : Raise R) (names : ℕ) where
           (a, ap id_of (z.at_other a ne) ∙ has)
 
   -- a name that has an id has another thing now, and no other id is touched
-  pub sets_own : (given : ℕ) (told told' : Told) (s t : Progress R C) (name id : ℕ) (now : Named) (st : Standing)
+  pub sets_own : (given : ℕ) (told told' : Known) (s t : Progress R C) (name id : ℕ) (now : Named) (st : Whereabouts)
       → Fits given told s → told'.names ≡ slice_set told.names name st → t.side.system.cpus.online ≡ told'.online
       → id_of (named_at s.names name) ≡ Some id → t.names ≡ slice_set s.names name now
       → t.side.system.last ≡ s.side.system.last → given_of now t.side.system ≡ st
-      → ((own : ℕ) → now ≡ Cyclic own → is_here (stands own t.side.system) ≡ true)
+      → ((own : ℕ) → now ≡ Cyclic own → is_there (stands own t.side.system) ≡ true)
       → ((own : ℕ) → id_of now ≡ Some own → id ≡ own)
       → ((own : ℕ) → id ≢ own → stands own t.side.system ≡ stands own s.side.system)
-      → (is_here (stands id t.side.system) ≡ true → id_of now ≡ Some id)
+      → (is_there (stands id t.side.system) ≡ true → id_of now ≡ Some id)
       → Sets given told told' s t name now st
   sets_own given told told' s t name id now st h told_names online has names_are last is there mine kept left = record {
     told_names = told_names;
@@ -204,8 +205,8 @@ module _ {C R : Type 0} (firing : Raise R) (names : ℕ) where
     ));
     others = λ other own ne e. kept own (λ same. ne (h.own other name own (ap id_of e) (has ∙ ap Some same)));
     known = λ own e. dite (ℕ_discrete id own)
-        (λ q. inl (left (subst (λ (k : ℕ). is_here (stands k t.side.system) ≡ true) (sym q) e) ∙ ap Some q))
-        (λ ne. inr (sym (ap is_here (kept own ne)) ∙ e, λ at. ne (same_some (sym has ∙ at))));
+        (λ q. inl (left (subst (λ (k : ℕ). is_there (stands k t.side.system) ≡ true) (sym q) e) ∙ ap Some q))
+        (λ ne. inr (sym (ap is_there (kept own ne)) ∙ e, λ at. ne (same_some (sym has ∙ at))));
     fresh = λ a high same. none_some (sym (ap id_of (h.fresh a high)) ∙ ap (λ k. id_of (named_at s.names k)) same ∙ has);
   }
     where
@@ -213,7 +214,7 @@ module _ {C R : Type 0} (firing : Raise R) (names : ℕ) where
       low = name_low s.names name id has
 
   -- whether a removal may be open is no part of it
-  pub fits_told : (given : ℕ) (told : Told) (leaving : Bool) (p : Progress R C) → Fits given told p
+  pub fits_told : (given : ℕ) (told : Known) (leaving : Bool) (p : Progress R C) → Fits given told p
       → Fits given (record told { leaving = leaving }) p
   fits_told given told leaving p h = record {
     rising = h.rising;
@@ -233,7 +234,7 @@ module _ {C R : Type 0} (firing : Raise R) (names : ℕ) where
   }
 
   -- a name was introduced that has nothing
-  pub fits_more : (given : ℕ) (told : Told) (p : Progress R C) → Fits given told p → Fits (given + 1) told p
+  pub fits_more : (given : ℕ) (told : Known) (p : Progress R C) → Fits given told p → Fits (given + 1) told p
   fits_more given told p h = record {
     rising = h.rising;
     few = (let a = h.few in omega (arith, a));

@@ -24,7 +24,7 @@ use Rattle.cyc_thread_expected.proofs.Spots.{none_some}
 use Rattle.cyc_thread_expected.specs.System.{SystemView}
 use Rattle.cyc_thread_expected.specs.Refusals.{ids_spent}
 use Rattle.cyc_thread_expected.specs.Calls.{Changes, Add, AddOmni}
-use Rattle.cyc_thread_reasons.proofs.Standings.{err_ok}
+use Rattle.cyc_thread_reasons.proofs.Whereabouts.{err_ok}
 
 not_first : {R : Type 0} (now : ℕ) (s : SystemView R) (e : Refusal) → now < never → s.last + 1 ≤ last_id
     → first_refusal (bad_now now ∷ ids_spent s ∷ []) ≡ Some e → ⊥

@@ -36,11 +36,11 @@ use Rattle.cyc_thread_expected.specs.Named.{Named}
 use Rattle.cyc_thread_expected.specs.Named.TheVariants.{Cyclic}
 use Rattle.cyc_thread_expected.specs.Progress.{Progress}
 use Rattle.cyc_thread_expected.specs.Names.{named_at, id_of, NoneLeaves}
-use Rattle.cyc_thread_reasons.specs.Told.{Absent, Told}
+use Rattle.cyc_thread_reasons.specs.Known.{Absent, Known}
 use Rattle.cyc_thread_reasons.specs.Reasons.{is_single, is_bound_to, how_many, many_online, are_too_many}
-use Rattle.cyc_thread_reasons.specs.Explained.{IsPutOff, IsLeft}
+use Rattle.cyc_thread_reasons.specs.Explained.{IsTurnPutOff, IsLeft}
 use Rattle.cyc_thread_reasons.proofs.Counting.{numbers_differ, all_but_one}
-use Rattle.cyc_thread_reasons.proofs.Standings.{stands_at, standing_of}
+use Rattle.cyc_thread_reasons.proofs.Whereabouts.{stands_at, whereabouts_of}
 use Rattle.cyc_thread_reasons.proofs.Fitting.{given_of, Fits, name_low}
 use Rattle.cyc_thread_reasons.proofs.Reasoning.{read_up, many}
 use Rattle.cyc_thread_reasons.proofs.Full.{IsFull, reserve_why}
@@ -88,7 +88,7 @@ omni_is : {R : Type 0} (s : SystemView R) (k id : ℕ) (r : Record) → HasRisin
 omni_is s k id r rising is named =
     ap (λ o. option_map_or (λ (q : Record). is_placed_everywhere q.place) o false) (record_here id k r s.records rising is named)
 
-module _ {C R : Type 0} (firing : Raise R) (names given : ℕ) (told : Told) (s : SystemView R) (p : Progress R C)
+module _ {C R : Type 0} (firing : Raise R) (names given : ℕ) (told : Known) (s : SystemView R) (p : Progress R C)
     (rising : HasRisingIds s.records) (settled : AllSettled firing.view s.cpus.cpus)
     (before : IsSound firing.view s) (h : Fits firing names given told p) (none : NoneLeaves p.names)
     (sound : IsSound firing.view p.side.system) (n : ℕ) (report : JuggleReport) (moved : SystemView R)
@@ -152,7 +152,7 @@ module _ {C R : Type 0} (firing : Raise R) (names given : ℕ) (told : Told) (s 
   turn_why a own k r is at named home on place turn there later =
       by (all_at (IsRefusedTurn firing n) turns place turn (counted firing n report s moved moves).1 there)
     where
-      put_off : IsPutOff s turn → WhyLeft
+      put_off : IsTurnPutOff s turn → WhyLeft
       put_off off = inr (subst (λ x. IsLeft firing n s x) (sym same) (report, moves, place, turn, there, off))
 
       until : IsUnsettledOrGrown firing.view s turn → WhyLeft
@@ -206,7 +206,7 @@ module _ {C R : Type 0} (firing : Raise R) (names given : ℕ) (told : Told) (s 
   bound_why true a own k r is at named place on = inl (inl (any_at (is_bound_to n) told.names a Absent
       (let low = name_low p.names a own (ap id_of is) in let x = h.long in let y = h.told_long in omega (arith, low, x, y))
       (ap (is_bound_to n) (h.each a ∙ ap (λ (z : Named). given_of z t) is ∙ stands_at t.records k r own h.rising at named
-      ∙ ap standing_of place) ∙ true_eq n n refl)))
+      ∙ ap whereabouts_of place) ∙ true_eq n n refl)))
   bound_why false a own k r is at named place on =
       let home = subst (λ x. HasPlace own n false x) same (k, r, at, named, place) in
       stopped_why a own k r is at named place on

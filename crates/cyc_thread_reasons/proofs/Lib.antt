@@ -1,6 +1,6 @@
 mod Worked
 pub mod Counting
-pub mod Standings
+pub mod Whereabouts
 pub mod Going
 pub mod Fitting
 pub mod Waiting

@@ -28,7 +28,7 @@ use Rattle.cyc_thread_expected.specs.System.{SystemView}
 use Rattle.cyc_thread_expected.specs.Turn.{Turn}
 use Rattle.cyc_thread_expected.specs.Turn.TheVariants.{StaysBound, StaysPending, StaysRefused, Moves}
 use Rattle.cyc_thread_expected.specs.Juggling.{TakesTurn, Turns}
-use Rattle.cyc_thread_reasons.proofs.Standings.{turn_stands}
+use Rattle.cyc_thread_reasons.proofs.Whereabouts.{turn_stands}
 
 on_same : {n m : ℕ} {a b : Bool} → On n a ≡ On m b → n ≡ m
 on_same {n} {m} {a} {b} e = ap (λ (p : Placement). elim p [ On k bound ↦ k | Everywhere first skew ↦ n ]) e

@@ -18,11 +18,11 @@ use Rattle.cyc_thread_expected.specs.Names.{NoneLeaves}
 use Rattle.cyc_thread_expected.specs.SystemRingsLeading.{Make}
 use Rattle.cyc_calm.proofs.Keeping.{last_move}
 use Rattle.cyc_calm.proofs.Waiting.{IsCalmNow, HasWaited, waited_calm}
-use Rattle.cyc_thread_reasons.specs.Told.{Told, after_step}
+use Rattle.cyc_thread_reasons.specs.Known.{Known, after_accepted}
 use Rattle.cyc_thread_reasons.specs.Reasons.{is_single, is_bound_to, how_many, many_online, are_too_many, can_not_leave}
 use Rattle.cyc_thread_reasons.specs.Reasons.{has_reason}
 use Rattle.cyc_thread_reasons.specs.Explained.{IsLeft}
-use Rattle.cyc_thread_reasons.proofs.Standings.{stands_kept, err_ok}
+use Rattle.cyc_thread_reasons.proofs.Whereabouts.{stands_kept, err_ok}
 use Rattle.cyc_thread_reasons.proofs.Fitting.{Fits, base_call, fits_same}
 use Rattle.cyc_thread_reasons.proofs.Outcomes.{Outcome, taken, refused, fits_quiet, calm_quiet}
 use Rattle.cyc_thread_reasons.proofs.Reasoning.{juggle_told, online_told}
@@ -30,7 +30,7 @@ use Rattle.cyc_thread_reasons.proofs.Naming.{until_not}
 use Rattle.cyc_thread_reasons.proofs.Going.{Goes, offline_goes, offline_stays, online_goes, online_stays}
 use Rattle.cyc_thread_reasons.proofs.Leaving.{left_why}
 
-module _ {C R : Type 0} (firing : Raise R) (names given : ℕ) (told : Told) (s t : Progress R C)
+module _ {C R : Type 0} (firing : Raise R) (names given : ℕ) (told : Known) (s t : Progress R C)
     (h : Fits firing names given told s) (w : HasWaited firing s) where
   calm_here : IsCalmNow firing s
   calm_here = waited_calm firing s w
@@ -68,7 +68,7 @@ module _ {C R : Type 0} (firing : Raise R) (names given : ℕ) (told : Told) (s 
   online_of n (Ok done) c =
       let g = online_goes firing n s.clock done s.side.system t.side.system c.did in
       taken firing names given told (steps.Online n) t (Some (Make (Online n s.clock (Ok done)))) ⊥ refl
-      (fits_same firing names given told (after_step (steps.Online n) told) s t
+      (fits_same firing names given told (after_accepted (steps.Online n) told) s t
       (base_call firing names given told 0 (Online n s.clock (Ok done)) s t c h) h refl
       (g.online_is ∙ ap (λ os. slice_set os n true) h.online) c.told (subst (λ (k : ℕ). k ≤ given) (sym g.last) h.few)
       (λ own. stands_kept firing s.side.system t.side.system (Online n s.clock (Ok done)) own tt h.rising c.did (λ z. z)))
@@ -110,7 +110,7 @@ module _ {C R : Type 0} (firing : Raise R) (names given : ℕ) (told : Told) (s 
   offline_of n (Ok done) c =
       let g = offline_goes firing n done s.side.system t.side.system c.did in
       taken firing names given told (steps.Offline n) t (Some (Make (Offline n (Ok done)))) (IsLeftHere n) refl
-      (fits_same firing names given told (after_step (steps.Offline n) told) s t
+      (fits_same firing names given told (after_accepted (steps.Offline n) told) s t
       (base_call firing names given told 0 (Offline n (Ok done)) s t c h) h refl
       (g.online_is ∙ ap (λ os. slice_set os n false) h.online) c.told (subst (λ (k : ℕ). k ≤ given) (sym g.last) h.few)
       (λ own. stands_kept firing s.side.system t.side.system (Offline n (Ok done)) own tt h.rising c.did (λ z. z)))

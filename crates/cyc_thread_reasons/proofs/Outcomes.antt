@@ -14,10 +14,10 @@ use Rattle.cyc_thread_expected.specs.Words.{Does}
 use Rattle.cyc_thread_expected.specs.Meeting.{accepted, is_taken}
 use Rattle.cyc_calm.proofs.Keeping.{IsQuiet, keeps_call}
 use Rattle.cyc_calm.proofs.Waiting.{IsCalmNow}
-use Rattle.cyc_thread_reasons.specs.Told.{Told, after_step}
+use Rattle.cyc_thread_reasons.specs.Known.{Known, after_accepted}
 use Rattle.cyc_thread_reasons.specs.Reasons.{has_reason}
-use Rattle.cyc_thread_reasons.specs.Explained.{IsMemoryOf, WhyNot}
-use Rattle.cyc_thread_reasons.proofs.Standings.{Touches, IsOfScript, stands_kept}
+use Rattle.cyc_thread_reasons.specs.Explained.{MemoryRefusedTo, WhyNot}
+use Rattle.cyc_thread_reasons.proofs.Whereabouts.{Touches, IsOfScript, stands_kept}
 use Rattle.cyc_thread_reasons.proofs.Fitting.{Fits, base_call, fits_same}
 use Rattle.cyc_thread_reasons.proofs.Waiting.{Calm}
 
@@ -26,33 +26,33 @@ met call = option_map_or is_taken call false
 
 module _ {C R : Type 0} (firing : Raise R) (names : ℕ) where
   -- A step whose call was this one was accepted, or there is why not; and what is true stays.
-  pub record Outcome (given : ℕ) (told : Told) (x : Step) (t : Progress R C) (call : Option LeadCall) (Left : Type 0)
+  pub record Outcome (given : ℕ) (told : Known) (x : Step) (t : Progress R C) (call : Option LeadCall) (Left : Type 0)
       : Type 0 where
-    pub why : met call ≡ false → (has_reason x told ≡ true) ⊎ IsMemoryOf call ⊎ Left
-    pub fits : Fits firing names given (cond (met call) (after_step x told) told) t
-    pub calm : Calm firing (cond (met call) (after_step x told) told) t
+    pub why : met call ≡ false → (has_reason x told ≡ true) ⊎ MemoryRefusedTo call ⊎ Left
+    pub fits : Fits firing names given (cond (met call) (after_accepted x told) told) t
+    pub calm : Calm firing (cond (met call) (after_accepted x told) told) t
 
-  pub taken : (given : ℕ) (told : Told) (x : Step) (t : Progress R C) (call : Option LeadCall) (Left : Type 0)
-      → met call ≡ true → Fits firing names given (after_step x told) t → Calm firing (after_step x told) t
+  pub taken : (given : ℕ) (told : Known) (x : Step) (t : Progress R C) (call : Option LeadCall) (Left : Type 0)
+      → met call ≡ true → Fits firing names given (after_accepted x told) t → Calm firing (after_accepted x told) t
       → Outcome given told x t call Left
   taken given told x t call Left is fits calm = record {
     why = λ e. absurd (let odd : true ≡ false = sym is ∙ e in cc);
-    fits = subst (λ (b : Bool). Fits firing names given (cond b (after_step x told) told) t) (sym is) fits;
-    calm = subst (λ (b : Bool). Calm firing (cond b (after_step x told) told) t) (sym is) calm;
+    fits = subst (λ (b : Bool). Fits firing names given (cond b (after_accepted x told) told) t) (sym is) fits;
+    calm = subst (λ (b : Bool). Calm firing (cond b (after_accepted x told) told) t) (sym is) calm;
   }
 
-  pub refused : (given : ℕ) (told : Told) (x : Step) (t : Progress R C) (call : Option LeadCall) (Left : Type 0)
-      → met call ≡ false → (has_reason x told ≡ true) ⊎ IsMemoryOf call ⊎ Left → Fits firing names given told t
+  pub refused : (given : ℕ) (told : Known) (x : Step) (t : Progress R C) (call : Option LeadCall) (Left : Type 0)
+      → met call ≡ false → (has_reason x told ≡ true) ⊎ MemoryRefusedTo call ⊎ Left → Fits firing names given told t
       → Calm firing told t → Outcome given told x t call Left
   refused given told x t call Left is why fits calm = record {
     why = λ e. why;
-    fits = subst (λ (b : Bool). Fits firing names given (cond b (after_step x told) told) t) (sym is) fits;
-    calm = subst (λ (b : Bool). Calm firing (cond b (after_step x told) told) t) (sym is) calm;
+    fits = subst (λ (b : Bool). Fits firing names given (cond b (after_accepted x told) told) t) (sym is) fits;
+    calm = subst (λ (b : Bool). Calm firing (cond b (after_accepted x told) told) t) (sym is) calm;
   }
 
   -- ---- calls that change no name
 
-  pub fits_quiet : (given : ℕ) (told : Told) (name : ℕ) (call : SystemCall) (s t : Progress R C) → CallsFor firing name call s t
+  pub fits_quiet : (given : ℕ) (told : Known) (name : ℕ) (call : SystemCall) (s t : Progress R C) → CallsFor firing name call s t
       → IsQuiet firing call → IsOfScript firing call → t.names ≡ s.names → t.side.system.last ≡ s.side.system.last
       → ((id : ℕ) → Touches id call → ⊥) → Fits firing names given told s → Fits firing names given told t
   fits_quiet given told name call s t c quiet is same last other h =
@@ -69,16 +69,16 @@ module _ {C R : Type 0} (firing : Raise R) (names : ℕ) where
         still = k.still q.still;
       }
 
-  pub fits_as : (given : ℕ) (told : Told) (s t : Progress R C) → t ≡ s → Fits firing names given told s
+  pub fits_as : (given : ℕ) (told : Known) (s t : Progress R C) → t ≡ s → Fits firing names given told s
       → Fits firing names given told t
   fits_as given told s t e h = subst (λ (p : Progress R C). Fits firing names given told p) (sym e) h
 
-  pub calm_as : (told : Told) (s t : Progress R C) → t ≡ s → Calm firing told s → Calm firing told t
+  pub calm_as : (told : Known) (s t : Progress R C) → t ≡ s → Calm firing told s → Calm firing told t
   calm_as told s t e h = subst (λ (p : Progress R C). Calm firing told p) (sym e) h
 
 module _ {C R : Type 0} (handler : Calls C) (firing : Raise R) (names : ℕ) where
   -- what is shown of each step
-  pub record Next (given : ℕ) (told : Told) (x : Step) (s t : Progress R C) (does : Does handler firing x s t) : Type 0 where
+  pub record Next (given : ℕ) (told : Known) (x : Step) (s t : Progress R C) (does : Does handler firing x s t) : Type 0 where
     pub why : accepted handler firing x s t does ≡ false → WhyNot handler firing told x s t does
-    pub fits : Fits firing names (names_after given x) (cond (accepted handler firing x s t does) (after_step x told) told) t
-    pub calm : Calm firing (cond (accepted handler firing x s t does) (after_step x told) told) t
+    pub fits : Fits firing names (names_after given x) (cond (accepted handler firing x s t does) (after_accepted x told) told) t
+    pub calm : Calm firing (cond (accepted handler firing x s t does) (after_accepted x told) told) t

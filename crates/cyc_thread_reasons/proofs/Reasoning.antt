@@ -24,9 +24,9 @@ use Rattle.cyc_thread_expected.specs.Online.{online_cpu}
 use Rattle.cyc_thread_expected.specs.Progress.{Progress}
 use Rattle.cyc_calm.proofs.Keeping.{AllStill}
 use Rattle.cyc_calm.proofs.Moving.{none_leaving}
-use Rattle.cyc_thread_reasons.specs.Told.{Standing, Absent, OnOne, OnAll, Told, is_online}
-use Rattle.cyc_thread_reasons.specs.Reasons.{is_here, is_single, is_everywhere, many_online, can_not_leave}
-use Rattle.cyc_thread_reasons.proofs.Standings.{stands, unknown_stands, omni_stands}
+use Rattle.cyc_thread_reasons.specs.Known.{Whereabouts, Absent, OnOne, OnAll, Known, is_known_up}
+use Rattle.cyc_thread_reasons.specs.Reasons.{is_there, is_single, has_components, many_online, can_not_leave}
+use Rattle.cyc_thread_reasons.proofs.Whereabouts.{stands, unknown_stands, omni_stands}
 use Rattle.cyc_thread_reasons.proofs.Fitting.{Fits}
 
 pub when_so : (b : Bool) (x e : Refusal) → when b x ≡ Some e → b ≡ true
@@ -39,7 +39,7 @@ read_up [] (suc n) = refl
 read_up (x ∷ xs) zero = refl
 read_up (x ∷ xs) (suc n) = read_up xs n
 
-pub not_single : (st : Standing) → is_everywhere st ≡ true → not (is_single st) ≡ true
+pub not_single : (st : Whereabouts) → has_components st ≡ true → not (is_single st) ≡ true
 not_single Absent e = absurd (let odd : false ≡ true = e in cc)
 not_single (OnOne bound) e = absurd (let odd : false ≡ true = e in cc)
 not_single OnAll e = refl
@@ -50,30 +50,30 @@ few_online a b e h = grind (arith, nat_tests, e, h)
 le_so : (a b : ℕ) → nat_le a b ≡ true → a ≤ b
 le_so a b e = grind (arith, nat_tests, e)
 
-module _ {C R : Type 0} (firing : Raise R) (names given : ℕ) (told : Told) (p : Progress R C)
+module _ {C R : Type 0} (firing : Raise R) (names given : ℕ) (told : Known) (p : Progress R C)
     (h : Fits firing names given told p) where
   abbrev s : SystemView R
   s = p.side.system
 
   -- ---- CPUs
 
-  pub up : (n : ℕ) → is_up n p.side.system.cpus ≡ is_online n told
+  pub up : (n : ℕ) → is_up n p.side.system.cpus ≡ is_known_up n told
   up n = ap (λ os. option_map_or (λ (b : Bool). b) (slice_get os n) false) h.online ∙ read_up told.online n
 
   pub ups_long : length told.online ≡ length p.side.system.cpus.cpus
   ups_long = sym (ap length h.online) ∙ h.ups
 
-  pub past : (n : ℕ) → length p.side.system.cpus.cpus ≤ n → is_online n told ≡ false
+  pub past : (n : ℕ) → length p.side.system.cpus.cpus ≤ n → is_known_up n told ≡ false
   past n high = get_or_past told.online n false (let e = ups_long in omega (arith, high, e))
 
   pub many : length (online_cpus p.side.system.cpus) ≡ many_online told
   many = ap (λ os. length (numbers_from 0 os)) h.online
 
-  no_cpu_told : (n : ℕ) (e : Refusal) → no_cpu n p.side.system ≡ Some e → not (is_online n told) ≡ true
+  no_cpu_told : (n : ℕ) (e : Refusal) → no_cpu n p.side.system ≡ Some e → not (is_known_up n told) ≡ true
   no_cpu_told n e is = ap not (past n (le_so (length p.side.system.cpus.cpus) n
       (when_so (nat_le (length p.side.system.cpus.cpus) n) why.NoCpu e is)))
 
-  offline_told : (n : ℕ) (e : Refusal) → offline_cpu n p.side.system ≡ Some e → not (is_online n told) ≡ true
+  offline_told : (n : ℕ) (e : Refusal) → offline_cpu n p.side.system ≡ Some e → not (is_known_up n told) ≡ true
   offline_told n e is = ap not (sym (up n)) ∙ when_so (not (is_up n p.side.system.cpus)) why.Offline e is
 
   -- why cyclics can't leave a CPU
@@ -81,8 +81,8 @@ module _ {C R : Type 0} (firing : Raise R) (names given : ℕ) (told : Told) (p 
       → can_not_leave n told ≡ true
   juggle_told n e is not_until = one (first_of (no_cpu n s) (offline_cpu n s ∷ last_cpu s ∷ busy (removal_on n s.cpus) ∷ []) e is)
     where
-      leaves : not (is_online n told) ≡ true → can_not_leave n told ≡ true
-      leaves off = or_left (not (is_online n told)) (nat_lt (many_online told) 2) off
+      leaves : not (is_known_up n told) ≡ true → can_not_leave n told ≡ true
+      leaves off = or_left (not (is_known_up n told)) (nat_lt (many_online told) 2) off
 
       busy_until : (r : Option ℕ) → busy r ≡ Some e → ⊥
       busy_until None q = none_some q
@@ -93,7 +93,7 @@ module _ {C R : Type 0} (firing : Raise R) (names given : ℕ) (told : Told) (p 
       four (inr others) = absurd (none_some others)
 
       three : (last_cpu s ≡ Some e) ⊎ (first_refusal (busy (removal_on n s.cpus) ∷ []) ≡ Some e) → can_not_leave n told ≡ true
-      three (inl own) = or_right (not (is_online n told)) (nat_lt (many_online told) 2)
+      three (inl own) = or_right (not (is_known_up n told)) (nat_lt (many_online told) 2)
           (few_online (length (online_cpus s.cpus)) (many_online told) many
           (when_so (nat_le (length (online_cpus s.cpus)) 1) why.LastCpu e own))
       three (inr others) = four (first_of (busy (removal_on n s.cpus)) [] e others)
@@ -113,12 +113,12 @@ module _ {C R : Type 0} (firing : Raise R) (names given : ℕ) (told : Told) (p 
       (λ same. let low = h.early in omega (arith, low, same))) ∙ is)
 
   abbrev Comes : ℕ → Type 0
-  Comes n = (nat_le (length told.online) n || is_online n told) ≡ true
+  Comes n = (nat_le (length told.online) n || is_known_up n told) ≡ true
 
   -- why a CPU can't come back
   pub online_told : (n : ℕ) (e : Refusal)
       → first_refusal (no_cpu n p.side.system ∷ online_cpu n p.side.system ∷ bad_now p.clock ∷ []) ≡ Some e
-      → (nat_le (length told.online) n || is_online n told) ≡ true
+      → (nat_le (length told.online) n || is_known_up n told) ≡ true
   online_told n e is = one (first_of (no_cpu n s) (online_cpu n s ∷ bad_now p.clock ∷ []) e is)
     where
       three : (bad_now p.clock ≡ Some e) ⊎ (first_refusal [] ≡ Some e) → Comes n
@@ -126,19 +126,19 @@ module _ {C R : Type 0} (firing : Raise R) (names given : ℕ) (told : Told) (p 
       three (inr others) = absurd (none_some others)
 
       two : (online_cpu n s ≡ Some e) ⊎ (first_refusal (bad_now p.clock ∷ []) ≡ Some e) → Comes n
-      two (inl own) = or_right (nat_le (length told.online) n) (is_online n told)
+      two (inl own) = or_right (nat_le (length told.online) n) (is_known_up n told)
           (sym (up n) ∙ when_so (is_up n s.cpus) why.Online e own)
       two (inr others) = three (first_of (bad_now p.clock) [] e others)
 
       one : (no_cpu n s ≡ Some e) ⊎ (first_refusal (online_cpu n s ∷ bad_now p.clock ∷ []) ≡ Some e) → Comes n
-      one (inl own) = or_left (nat_le (length told.online) n) (is_online n told)
+      one (inl own) = or_left (nat_le (length told.online) n) (is_known_up n told)
           (ap (λ k. nat_le k n) ups_long ∙ when_so (nat_le (length s.cpus.cpus) n) why.NoCpu e own)
       one (inr others) = two (first_of (online_cpu n s) (bad_now p.clock ∷ []) e others)
 
   -- ---- cyclics
 
   -- a cyclic that is there, where no removal is open
-  no_cyclic_not : (id : ℕ) (e : Refusal) → is_here (stands id p.side.system) ≡ true → AllStill p.side.system.cpus
+  no_cyclic_not : (id : ℕ) (e : Refusal) → is_there (stands id p.side.system) ≡ true → AllStill p.side.system.cpus
       → no_cyclic id p.side.system ≡ Some e → ⊥
   no_cyclic_not id e here still is = none_some (sym (not_when (is_unknown id p.side.system || is_leaving_id id p.side.system)
       why.NoCyclic (λ i. (unknown_stands id p.side.system ∙ ap not here) i || none_leaving p.side.system.cpus id still i)) ∙ is)
@@ -148,7 +148,7 @@ module _ {C R : Type 0} (firing : Raise R) (names given : ℕ) (told : Told) (p 
       (sym (omni_stands id p.side.system) ∙ when_so (is_omnipresent id p.side.system) why.Omnipresent e is)
 
   -- why a cyclic is not unbound, and not reprogrammed without naming its CPU
-  pub single_told : (id : ℕ) (e : Refusal) → is_here (stands id p.side.system) ≡ true → AllStill p.side.system.cpus
+  pub single_told : (id : ℕ) (e : Refusal) → is_there (stands id p.side.system) ≡ true → AllStill p.side.system.cpus
       → first_refusal (no_cyclic id p.side.system ∷ omnipresent id p.side.system ∷ []) ≡ Some e
       → not (is_single (stands id p.side.system)) ≡ true
   single_told id e here still is = one (first_of (no_cyclic id s) (omnipresent id s ∷ []) e is)
@@ -163,17 +163,17 @@ module _ {C R : Type 0} (firing : Raise R) (names given : ℕ) (told : Told) (p 
       one (inr others) = two (first_of (omnipresent id s) [] e others)
 
   abbrev Stays : ℕ → ℕ → Type 0
-  Stays id n = (not (is_single (stands id s)) || not (is_online n told)) ≡ true
+  Stays id n = (not (is_single (stands id s)) || not (is_known_up n told)) ≡ true
 
   -- why it is not bound: it isn't on one CPU, or the CPU isn't online
-  pub bind_told : (id n : ℕ) (e : Refusal) → is_here (stands id p.side.system) ≡ true → AllStill p.side.system.cpus
+  pub bind_told : (id n : ℕ) (e : Refusal) → is_there (stands id p.side.system) ≡ true → AllStill p.side.system.cpus
       → first_refusal (no_cyclic id p.side.system ∷ omnipresent id p.side.system ∷ no_cpu n p.side.system
       ∷ offline_cpu n p.side.system ∷ []) ≡ Some e
-      → (not (is_single (stands id p.side.system)) || not (is_online n told)) ≡ true
+      → (not (is_single (stands id p.side.system)) || not (is_known_up n told)) ≡ true
   bind_told id n e here still is = one (first_of (no_cyclic id s) (omnipresent id s ∷ no_cpu n s ∷ offline_cpu n s ∷ []) e is)
     where
-      off : not (is_online n told) ≡ true → Stays id n
-      off is_off = or_right (not (is_single (stands id s))) (not (is_online n told)) is_off
+      off : not (is_known_up n told) ≡ true → Stays id n
+      off is_off = or_right (not (is_single (stands id s))) (not (is_known_up n told)) is_off
 
       four : (offline_cpu n s ≡ Some e) ⊎ (first_refusal [] ≡ Some e) → Stays id n
       four (inl own) = off (offline_told n e own)
@@ -184,7 +184,7 @@ module _ {C R : Type 0} (firing : Raise R) (names given : ℕ) (told : Told) (p 
       three (inr others) = four (first_of (offline_cpu n s) [] e others)
 
       two : (omnipresent id s ≡ Some e) ⊎ (first_refusal (no_cpu n s ∷ offline_cpu n s ∷ []) ≡ Some e) → Stays id n
-      two (inl own) = or_left (not (is_single (stands id s))) (not (is_online n told)) (omni_told id e own)
+      two (inl own) = or_left (not (is_single (stands id s))) (not (is_known_up n told)) (omni_told id e own)
       two (inr others) = three (first_of (no_cpu n s) (offline_cpu n s ∷ []) e others)
 
       one : (no_cyclic id s ≡ Some e) ⊎ (first_refusal (omnipresent id s ∷ no_cpu n s ∷ offline_cpu n s ∷ []) ≡ Some e)

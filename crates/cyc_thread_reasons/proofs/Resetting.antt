@@ -31,20 +31,20 @@ use Rattle.cyc_calm.specs.Way.{is_moment}
 use Rattle.cyc_calm.proofs.Keeping.{AllStill, last_move}
 use Rattle.cyc_calm.proofs.Waiting.{IsCalmNow, HasWaited, waited_calm}
 use Rattle.cyc_calm.proofs.Moving.{none_leaving, none_removed}
-use Rattle.cyc_thread_reasons.specs.Told.{Standing, Absent, OnOne, OnAll, Told, standing, is_online}
-use Rattle.cyc_thread_reasons.specs.Reasons.{is_here, is_single, is_everywhere, may_reprogram, has_reason}
-use Rattle.cyc_thread_reasons.proofs.Standings.{stands, stands_at, unknown_stands, omni_stands, record_there, everywhere_place}
-use Rattle.cyc_thread_reasons.proofs.Standings.{err_ok}
+use Rattle.cyc_thread_reasons.specs.Known.{Whereabouts, Absent, OnOne, OnAll, Known, name_has, is_known_up}
+use Rattle.cyc_thread_reasons.specs.Reasons.{is_there, is_single, has_components, can_be_reprogrammed, has_reason}
+use Rattle.cyc_thread_reasons.proofs.Whereabouts.{stands, stands_at, unknown_stands, omni_stands, record_there, everywhere_place}
+use Rattle.cyc_thread_reasons.proofs.Whereabouts.{err_ok}
 use Rattle.cyc_thread_reasons.proofs.Fitting.{given_of, Fits}
 use Rattle.cyc_thread_reasons.proofs.Outcomes.{met, taken, refused, fits_quiet, calm_quiet}
 use Rattle.cyc_thread_reasons.proofs.Reasoning.{up, past, single_told}
 use Rattle.cyc_thread_reasons.proofs.Naming.{Out, idle}
 
-absent_not : (cpu : Option ℕ) (st : Standing) (told : Told) → st ≡ Absent → not (may_reprogram cpu st told) ≡ true
+absent_not : (cpu : Option ℕ) (st : Whereabouts) (told : Known) → st ≡ Absent → not (can_be_reprogrammed cpu st told) ≡ true
 absent_not None st told e = ap (λ z. not (is_single z)) e
-absent_not (Some n) st told e = ap (λ z. not (is_everywhere z && is_online n told)) e
+absent_not (Some n) st told e = ap (λ z. not (has_components z && is_known_up n told)) e
 
-module _ {C R : Type 0} (firing : Raise R) (names given : ℕ) (told : Told) (s : Progress R C)
+module _ {C R : Type 0} (firing : Raise R) (names given : ℕ) (told : Known) (s : Progress R C)
     (h : Fits firing names given told s) (w : HasWaited firing s) where
   abbrev y : SystemView R
   y = s.side.system
@@ -53,11 +53,11 @@ module _ {C R : Type 0} (firing : Raise R) (names given : ℕ) (told : Told) (s 
   still = (waited_calm firing s w).still
 
   -- an omnipresent cyclic has a component on each CPU that is online
-  component_here : (id n : ℕ) → is_everywhere (stands id s.side.system) ≡ true → is_online n told ≡ true
+  component_here : (id n : ℕ) → has_components (stands id s.side.system) ≡ true → is_known_up n told ≡ true
       → has_on n id s.side.system.cpus ≡ true
   component_here id n all on = by (record_there s.side.system.records id (here (stands id s.side.system) all))
     where
-      here : (st : Standing) → is_everywhere st ≡ true → is_here st ≡ true
+      here : (st : Whereabouts) → has_components st ≡ true → is_there st ≡ true
       here Absent e = e
       here (OnOne bound) e = refl
       here OnAll e = refl
@@ -70,22 +70,22 @@ module _ {C R : Type 0} (firing : Raise R) (names given : ℕ) (told : Told) (s 
 
       by : (k : ℕ) × (r : Record) × IsRecord s.side.system.records k r × (r.id ≡ id) → has_on n id s.side.system.cpus ≡ true
       by (k, r, is, named) = either r named (w.sound.agrees.everywhere k n r is
-          (everywhere_place r.place ∙ ap is_everywhere (sym (stands_at s.side.system.records k r id h.rising is named)) ∙ all)
+          (everywhere_place r.place ∙ ap has_components (sym (stands_at s.side.system.records k r id h.rising is named)) ∙ all)
           (up firing names given told s h n ∙ on))
 
-  on_low : (n : ℕ) → is_online n told ≡ true → n < length s.side.system.cpus.cpus
+  on_low : (n : ℕ) → is_known_up n told ≡ true → n < length s.side.system.cpus.cpus
   on_low n on = dite (ℕ_discrete (length s.side.system.cpus.cpus - n) 0)
       (λ z. absurd (let odd : false ≡ true = sym (past firing names given told s h n (omega (arith, z))) ∙ on in cc))
       (λ m. omega (arith, m))
 
   -- why a component is not reprogrammed
-  component_told : (id n : ℕ) (e : Refusal) → is_here (stands id s.side.system) ≡ true
+  component_told : (id n : ℕ) (e : Refusal) → is_there (stands id s.side.system) ≡ true
       → first_refusal (no_cyclic id s.side.system ∷ no_cpu n s.side.system ∷ offline_cpu n s.side.system
       ∷ no_component id n s.side.system ∷ []) ≡ Some e
-      → not (is_everywhere (stands id s.side.system) && is_online n told) ≡ true
-  component_told id n e here is = by (is_everywhere (stands id s.side.system)) (is_online n told) refl refl
+      → not (has_components (stands id s.side.system) && is_known_up n told) ≡ true
+  component_told id n e here is = by (has_components (stands id s.side.system)) (is_known_up n told) refl refl
     where
-      by : (a b : Bool) → is_everywhere (stands id s.side.system) ≡ a → is_online n told ≡ b → not (a && b) ≡ true
+      by : (a b : Bool) → has_components (stands id s.side.system) ≡ a → is_known_up n told ≡ b → not (a && b) ≡ true
       by false b all on = refl
       by true false all on = refl
       by true true all on = absurd (none_some (sym
@@ -101,16 +101,16 @@ module _ {C R : Type 0} (firing : Raise R) (names given : ℕ) (told : Told) (s 
           (λ i. not ((omni_stands id y ∙ all) i && component_here id n all on i))) refl)))) ∙ is))
 
   -- why a reprogram is refused
-  reprogram_why : (cpu : Option ℕ) (id moment : ℕ) (e : Refusal) (t : SystemView R) → is_here (stands id s.side.system) ≡ true
+  reprogram_why : (cpu : Option ℕ) (id moment : ℕ) (e : Refusal) (t : SystemView R) → is_there (stands id s.side.system) ≡ true
       → Changes firing s.side.system (reprograms cpu id moment (Err e)) t
-      → not (may_reprogram cpu (stands id s.side.system) told) ≡ true
+      → not (can_be_reprogrammed cpu (stands id s.side.system) told) ≡ true
   reprogram_why None id moment e t here (inl (x, first, is, same)) =
       single_told firing names given told s h id x here still first
   reprogram_why None id moment e t here (inr (clear, (n, home, (is, only)))) = absurd (err_ok is)
   reprogram_why (Some n) id moment e t here (inl (x, first, is, same)) = component_told id n x here first
   reprogram_why (Some n) id moment e t here (inr (clear, (is, only))) = absurd (err_ok is)
 
-module _ {C R : Type 0} (firing : Raise R) (names given : ℕ) (told : Told) (s t : Progress R C)
+module _ {C R : Type 0} (firing : Raise R) (names given : ℕ) (told : Known) (s t : Progress R C)
     (h : Fits firing names given told s) (w : HasWaited firing s) where
   reset_fits : (name : ℕ) (cpu : Option ℕ) (id moment : ℕ) (answer : Result (Unit {0}) Refusal)
       → CallsFor firing name (reprograms cpu id moment answer) s t → Fits firing names given told t
@@ -144,15 +144,15 @@ module _ {C R : Type 0} (firing : Raise R) (names given : ℕ) (told : Told) (s 
       (reset_fits r.name r.cpu id moment (Ok done) c) (λ q. reset_calm r.name r.cpu id moment (Ok done) c)
   reset r id moment (Err e) at c = refused firing names given told (steps.Reprogram r) t
       (Some (Make (reprograms r.cpu id moment (Err e)))) ⊥ (err_met r.cpu id moment e)
-      (inl (or_right (not (is_moment r.moment)) (not (may_reprogram r.cpu (standing r.name told) told))
-      (ap (λ z. not (may_reprogram r.cpu z told)) (h.each r.name ∙ ap (λ (n : Named). given_of n s.side.system) at)
+      (inl (or_right (not (is_moment r.moment)) (not (can_be_reprogrammed r.cpu (name_has r.name told) told))
+      (ap (λ z. not (can_be_reprogrammed r.cpu z told)) (h.each r.name ∙ ap (λ (n : Named). given_of n s.side.system) at)
       ∙ reprogram_why firing names given told s h w r.cpu id moment e t.side.system (h.there r.name id at) c.did)))
       (reset_fits r.name r.cpu id moment (Err e) c) (λ q. reset_calm r.name r.cpu id moment (Err e) c)
 
   nothing_reset : (r : ReprogramStep) (named : Named) → named_at s.names r.name ≡ named
       → given_of named s.side.system ≡ Absent → has_reason (steps.Reprogram r) told ≡ true
-  nothing_reset r named at e = or_right (not (is_moment r.moment)) (not (may_reprogram r.cpu (standing r.name told) told))
-      (absent_not r.cpu (standing r.name told) told (h.each r.name ∙ ap (λ (n : Named). given_of n s.side.system) at ∙ e))
+  nothing_reset r named at e = or_right (not (is_moment r.moment)) (not (can_be_reprogrammed r.cpu (name_has r.name told) told))
+      (absent_not r.cpu (name_has r.name told) told (h.each r.name ∙ ap (λ (n : Named). given_of n s.side.system) at ∙ e))
 
   pub reset_of : (r : ReprogramStep) (moment : ℕ) (named : Named) → named_at s.names r.name ≡ named → is_leaving named ≡ false
       → (d : WithId (id_of named)

@@ -28,10 +28,10 @@ use Rattle.cyc_thread_expected.specs.Named.TheVariants.{Nothing, Cyclic, Leaving
 use Rattle.cyc_thread_expected.specs.Progress.{Progress}
 use Rattle.cyc_thread_expected.specs.Names.{named_at, id_of, NoneLeaves}
 use Rattle.cyc_thread_expected.specs.Sound.{IsSound}
-use Rattle.cyc_thread_reasons.specs.Told.{Absent, Told}
-use Rattle.cyc_thread_reasons.specs.Reasons.{is_single, is_everywhere, may_be_on, how_many, may_be_full, are_too_many}
+use Rattle.cyc_thread_reasons.specs.Known.{Absent, Known}
+use Rattle.cyc_thread_reasons.specs.Reasons.{is_single, has_components, may_be_on, how_many, may_be_full, are_too_many}
 use Rattle.cyc_thread_reasons.proofs.Counting.{HasNoDoubles, pigeons_of, sum_all, sum_on, sum_on_but_one}
-use Rattle.cyc_thread_reasons.proofs.Standings.{standing_of, stands_at, here_at}
+use Rattle.cyc_thread_reasons.proofs.Whereabouts.{whereabouts_of, stands_at, here_at}
 use Rattle.cyc_thread_reasons.proofs.Fitting.{given_of, Fits, name_low, cyclic_of}
 
 -- ---- tests that agree
@@ -86,21 +86,21 @@ no_place (Some (On k bound)) is all n = absurd (let odd : true ≡ false = is in
 no_place (Some (Everywhere first skew)) is all n = absurd (let odd : true ≡ false = all in cc)
 
 single_place : (o : Option Record) → is_one (option_map (λ (r : Record). r.place) o)
-    ≡ is_single (option_map_or (λ (r : Record). standing_of r.place) o Absent)
+    ≡ is_single (option_map_or (λ (r : Record). whereabouts_of r.place) o Absent)
 single_place None = refl
 single_place (Some r) = by r.place
   where
-    by : (p : Placement) → is_one (Some p) ≡ is_single (standing_of p)
+    by : (p : Placement) → is_one (Some p) ≡ is_single (whereabouts_of p)
     by (On n false) = refl
     by (On n true) = refl
     by (Everywhere first skew) = refl
 
 all_place : (o : Option Record) → is_all (option_map (λ (r : Record). r.place) o)
-    ≡ is_everywhere (option_map_or (λ (r : Record). standing_of r.place) o Absent)
+    ≡ has_components (option_map_or (λ (r : Record). whereabouts_of r.place) o Absent)
 all_place None = refl
 all_place (Some r) = by r.place
   where
-    by : (p : Placement) → is_all (Some p) ≡ is_everywhere (standing_of p)
+    by : (p : Placement) → is_all (Some p) ≡ has_components (whereabouts_of p)
     by (On n false) = refl
     by (On n true) = refl
     by (Everywhere first skew) = refl
@@ -111,7 +111,7 @@ single_named (Cyclic id) s = single_place (found id s.records)
 single_named (Leaving id) s = refl
 single_named (Removed receipt) s = refl
 
-all_named : {R : Type 0} (named : Named) (s : SystemView R) → is_all (place_of named s) ≡ is_everywhere (given_of named s)
+all_named : {R : Type 0} (named : Named) (s : SystemView R) → is_all (place_of named s) ≡ has_components (given_of named s)
 all_named Nothing s = refl
 all_named (Cyclic id) s = all_place (found id s.records)
 all_named (Leaving id) s = refl
@@ -122,7 +122,7 @@ on_stands : (n : ℕ) (p : Placement) → Stands n p → is_on n (Some p) ≡ tr
 on_stands n (On m bound) same = true_eq m n same
 on_stands n (Everywhere first skew) same = refl
 
-may_stand : (n : ℕ) (p : Placement) → Stands n p → may_be_on n (standing_of p) ≡ true
+may_stand : (n : ℕ) (p : Placement) → Stands n p → may_be_on n (whereabouts_of p) ≡ true
 may_stand n (On m false) same = refl
 may_stand n (On m true) same = true_eq m n same
 may_stand n (Everywhere first skew) same = refl
@@ -133,7 +133,7 @@ le_then a b c l m = omega (arith, l, m)
 lt_true : (a b : ℕ) → a < b → nat_lt a b ≡ true
 lt_true a b h = grind (arith, nat_tests, h)
 
-module _ {C R : Type 0} (firing : Raise R) (names given : ℕ) (told : Told) (p : Progress R C)
+module _ {C R : Type 0} (firing : Raise R) (names given : ℕ) (told : Known) (p : Progress R C)
     (h : Fits firing names given told p) (none : NoneLeaves p.names) (sound : IsSound firing.view p.side.system) where
   abbrev s : SystemView R
   s = p.side.system
@@ -206,11 +206,11 @@ module _ {C R : Type 0} (firing : Raise R) (names given : ℕ) (told : Told) (p 
       (let a = places_long in let b = h.long in omega (arith, low, a, b)))
       ∙ single_named (named_at p.names i) s ∙ ap is_single (sym (h.each i)))
 
-  all_of_them : length (filter is_all places) ≡ how_many is_everywhere told
-  all_of_them = count_same is_all is_everywhere None Absent places told.names (places_long ∙ sym h.told_long)
+  all_of_them : length (filter is_all places) ≡ how_many has_components told
+  all_of_them = count_same is_all has_components None Absent places told.names (places_long ∙ sym h.told_long)
       (λ i low. ap is_all (get_or-map (λ named. place_of named s) p.names i Nothing None
       (let a = places_long in let b = h.long in omega (arith, low, a, b)))
-      ∙ all_named (named_at p.names i) s ∙ ap is_everywhere (sym (h.each i)))
+      ∙ all_named (named_at p.names i) s ∙ ap has_components (sym (h.each i)))
 
   -- each of these CPUs has as many cyclics as it can
   abbrev pub AreFull : List ℕ → Type 0
@@ -231,7 +231,7 @@ module _ {C R : Type 0} (firing : Raise R) (names given : ℕ) (told : Told) (p 
   pub one_too_many : (ns : List ℕ) → HasNoDoubles ns → AreFull ns
       → are_too_many (how_many is_single told + 1) (length ns) told ≡ true
   one_too_many ns apart full = lt_true (length ns * most_cyclics)
-      (how_many is_single told + 1 + length ns * how_many is_everywhere told)
+      (how_many is_single told + 1 + length ns * how_many has_components told)
       (subst (λ k. length ns * most_cyclics < how_many is_single told + 1 + length ns * k) all_of_them
       (less_one (length ns * most_cyclics) (sum_by (λ n. length (filter (is_on n) places)) ns)
       (length (filter is_one places)) (length ns * length (filter is_all places)) (how_many is_single told) (sum_low ns full)
@@ -243,7 +243,7 @@ module _ {C R : Type 0} (firing : Raise R) (names given : ℕ) (told : Told) (p 
       → ((i : ℕ) → i < length ns → get_or ns i 0 ≢ n)
       → are_too_many (how_many is_single told) (length ns) told ≡ true
   all_too_many ns a id k n bound r apart full is at_record named place beside = lt_true (length ns * most_cyclics)
-      (how_many is_single told + length ns * how_many is_everywhere told)
+      (how_many is_single told + length ns * how_many has_components told)
       (subst (λ k. length ns * most_cyclics < how_many is_single told + length ns * k) all_of_them
       (less_but_one (length ns * most_cyclics) (sum_by (λ n. length (filter (is_on n) places)) ns)
       (length (filter is_one places)) (length ns * length (filter is_all places)) (how_many is_single told) (sum_low ns full)

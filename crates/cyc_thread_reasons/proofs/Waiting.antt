@@ -18,19 +18,19 @@ use Rattle.cyc_thread_expected.specs.Names.{named_at, id_of}
 use Rattle.cyc_thread_expected.specs.Words.{Begins, waits_first}
 use Rattle.cyc_calm.proofs.Keeping.{polled_given}
 use Rattle.cyc_calm.proofs.Waiting.{IsCalmNow, HasWaited, waited_calm}
-use Rattle.cyc_thread_reasons.specs.Told.{Standing, Absent, Told, standing, before_step}
-use Rattle.cyc_thread_reasons.specs.Reasons.{is_here}
-use Rattle.cyc_thread_reasons.proofs.Standings.{stands, stands_same, stands_kept, polled_stands}
+use Rattle.cyc_thread_reasons.specs.Known.{Whereabouts, Absent, Known, name_has, before_step}
+use Rattle.cyc_thread_reasons.specs.Reasons.{is_there}
+use Rattle.cyc_thread_reasons.proofs.Whereabouts.{stands, stands_same, stands_kept, polled_stands}
 use Rattle.cyc_thread_reasons.proofs.Fitting.{given_of, Fits, base_call, fits_same, fits_set, fits_told, sets_own}
 
 -- what a name has that has nothing stays told so
-pub absent_told : (told : Told) (name : ℕ) → standing name told ≡ Absent → told.names ≡ slice_set told.names name Absent
+pub absent_told : (told : Known) (name : ℕ) → name_has name told ≡ Absent → told.names ≡ slice_set told.names name Absent
 absent_told told name e = sym (ap (λ z. slice_set told.names name z) (sym e) ∙ set-get_or told.names name Absent)
 
-pub not_here : (st : Standing) → st ≡ Absent → is_here st ≡ true → ⊥
-not_here st e h = (let odd : false ≡ true = sym (ap is_here e) ∙ h in cc)
+pub not_here : (st : Whereabouts) → st ≡ Absent → is_there st ≡ true → ⊥
+not_here st e h = (let odd : false ≡ true = sym (ap is_there e) ∙ h in cc)
 
-module _ {C R : Type 0} (firing : Raise R) (names given : ℕ) (told : Told) where
+module _ {C R : Type 0} (firing : Raise R) (names given : ℕ) (told : Known) where
   poll_fits : (s : Progress R C) (name id : ℕ) (answer : Result (Option Receipt) Refusal) (t : Progress R C)
       → named_at s.names name ≡ Leaving id → CallsFor firing name (PollRemove id answer) s t
       → Fits firing names given told s → Fits firing names given told t
@@ -77,16 +77,16 @@ module _ {C R : Type 0} (firing : Raise R) (names given : ℕ) (told : Told) whe
 
 module _ {C R : Type 0} (firing : Raise R) where
   -- where no removal may be open none is
-  abbrev pub Calm : Told → Progress R C → Type 0
+  abbrev pub Calm : Known → Progress R C → Type 0
   Calm told p = told.leaving ≡ false → IsCalmNow firing p
 
   -- what is so after what comes before the call of a step
-  pub record Begun (names given : ℕ) (waits : Bool) (told : Told) (p : Progress R C) : Type 0 where
+  pub record Begun (names given : ℕ) (waits : Bool) (told : Known) (p : Progress R C) : Type 0 where
     pub fits : Fits firing names given told p
     pub calm : Calm told p
     pub waited : waits ≡ true → HasWaited firing p
 
-  pub begun : (names given : ℕ) (told : Told) (x : Step) (s t : Progress R C) → Begins firing (waits_first x) s t
+  pub begun : (names given : ℕ) (told : Known) (x : Step) (s t : Progress R C) → Begins firing (waits_first x) s t
       → Fits firing names given told s → Calm told s → Begun names given (waits_first x) (before_step x told) t
   begun names given told x s t begins fits calm = by (waits_first x) begins
     where

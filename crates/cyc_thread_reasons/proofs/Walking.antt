@@ -20,8 +20,8 @@ use Rattle.cyc_calm.specs.Way.{is_moment}
 use Rattle.cyc_calm.proofs.Waiting.{HasWaited}
 use Rattle.cyc_calm.proofs.Stepping.{no_moment_of}
 use Rattle.cyc_calm.proofs.Agreeing.{both, more_names}
-use Rattle.cyc_thread_reasons.specs.Told.{Told, standing, before_step, told_after}
-use Rattle.cyc_thread_reasons.specs.Reasons.{may_reprogram}
+use Rattle.cyc_thread_reasons.specs.Known.{Known, name_has, before_step, known_after}
+use Rattle.cyc_thread_reasons.specs.Reasons.{can_be_reprogrammed}
 use Rattle.cyc_thread_reasons.specs.Explained.{AreExplained, AllExplained}
 use Rattle.cyc_thread_reasons.proofs.Fitting.{Fits}
 use Rattle.cyc_thread_reasons.proofs.Waiting.{Calm, begun}
@@ -55,7 +55,7 @@ few_names k (x ∷ xs) = let a = one_name k x in let b = few_names (names_after 
 
 module _ {C R : Type 0} (handler : Calls C) (firing : Raise R) (names : ℕ) (few : names ≤ 65536) where
   -- each word
-  next : (given m : ℕ) (told : Told) (x : Step) (s t : Progress R C) (d : Does handler firing x s t)
+  next : (given m : ℕ) (told : Known) (x : Step) (s t : Progress R C) (d : Does handler firing x s t)
       → Fits firing names given told s → Calm firing told s → (waits_first x ≡ true → HasWaited firing s)
       → name_fits given x ≡ true → names_after given x ≤ names → moment_fits m x ≡ true
       → Next handler firing names given told x s t d
@@ -79,7 +79,7 @@ module _ {C R : Type 0} (handler : Calls C) (firing : Raise R) (names : ℕ) (fe
       record { why = o.why; fits = o.fits; calm = o.calm }
   next given m told (steps.Reprogram r) s t (inr (number, same)) h q waited here space early =
       let o = idle firing names given told s t h (waited refl) (steps.Reprogram r) same
-      (or_left (not (is_moment r.moment)) (not (may_reprogram r.cpu (standing r.name told) told))
+      (or_left (not (is_moment r.moment)) (not (can_be_reprogrammed r.cpu (name_has r.name told) told))
       (ap not (no_moment_of r.moment number))) in
       record { why = o.why; fits = o.fits; calm = o.calm }
   next given m told (steps.Remove name) s t d h q waited here space early =
@@ -107,14 +107,14 @@ module _ {C R : Type 0} (handler : Calls C) (firing : Raise R) (names : ℕ) (fe
       record { why = o.why; fits = o.fits; calm = o.calm }
 
   -- what is known of the steps that are left
-  record Left (given m : ℕ) (told : Told) (xs : List Step) (s : Progress R C) : Type 0 where
+  record Left (given m : ℕ) (told : Known) (xs : List Step) (s : Progress R C) : Type 0 where
     pub fits : Fits firing names given told s
     pub calm : Calm firing told s
     pub in_order : names_fit given xs ≡ true
     pub all : names_after_all given xs ≡ names
     pub moments : moments_fit m xs ≡ true
 
-  explain : (given m : ℕ) (told : Told) (xs : List Step) (s t : Progress R C) (takes : TakesSteps handler firing s xs t)
+  explain : (given m : ℕ) (told : Known) (xs : List Step) (s t : Progress R C) (takes : TakesSteps handler firing s xs t)
       → Left given m told xs s → AreExplained handler firing told s xs t takes
   explain given m told [] s t takes l = tt
   explain given m told (x ∷ xs) s t (v, (u, begins, does), rest) l =
@@ -125,7 +125,7 @@ module _ {C R : Type 0} (handler : Calls C) (firing : Raise R) (names : ℕ) (fe
       let n = next given m (before_step x told) x u v does b.fits b.calm b.waited here (omega (arith, more, all)) early in (
         n.why,
         explain (names_after given x) (moment_after m x)
-            (told_after (record { step = x; accepted = accepted handler firing x u v does }) told) xs v t rest (record {
+            (known_after (record { step = x; accepted = accepted handler firing x u v does }) told) xs v t rest (record {
               fits = n.fits;
               calm = n.calm;
               in_order = later;
@@ -135,7 +135,7 @@ module _ {C R : Type 0} (handler : Calls C) (firing : Raise R) (names : ℕ) (fe
       )
 
   -- the whole run
-  pub run_explained : (told : Told) (xs : List Step) (s t : Progress R C) (runs : Runs handler firing s xs t)
+  pub run_explained : (told : Known) (xs : List Step) (s t : Progress R C) (runs : Runs handler firing s xs t)
       → Fits firing names 0 told s → Calm firing told s → names_fit 0 xs ≡ true → names_after_all 0 xs ≡ names
       → moments_fit 0 xs ≡ true → AllExplained handler firing told s xs t runs
   run_explained told xs s t (u, takes, waits) fits calm order all moments = explain 0 0 told xs s u takes (record {

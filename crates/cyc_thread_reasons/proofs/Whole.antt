@@ -6,7 +6,7 @@ use Rattle.cyc_script.specs.declared.script.Script.{Script}
 use Rattle.cyc_thread_expected.specs.Ended.{Ended}
 use Rattle.cyc_thread_expected.specs.Running.{HasRun}
 use Rattle.cyc_calm.proofs.Beginning.{first_calm}
-use Rattle.cyc_thread_reasons.specs.Told.{untold}
+use Rattle.cyc_thread_reasons.specs.Known.{known_first}
 use Rattle.cyc_thread_reasons.specs.Explained.{AllExplained}
 use Rattle.cyc_thread_reasons.proofs.Beginning.{first_fits}
 use Rattle.cyc_thread_reasons.proofs.Walking.{few_names, run_explained}
@@ -17,10 +17,10 @@ module _ {C : Type 0} (handler : Calls C) (script : Script) (calls : List C) (e 
   names_few = let a = few_names 0 script.steps.items in let b = script.well_formed.names_introduced in
       let c = script.well_formed.few_steps in omega (arith, a, b, c)
 
-  pub explained : AllExplained handler raise_end (untold script.cpus (length script.names.items)) r.played.first
+  pub explained : AllExplained handler raise_end (known_first script.cpus (length script.names.items)) r.played.first
       script.steps.items r.played.last r.played.runs
   explained = run_explained handler raise_end (length script.names.items) names_few
-      (untold script.cpus (length script.names.items)) script.steps.items r.played.first r.played.last r.played.runs
+      (known_first script.cpus (length script.names.items)) script.steps.items r.played.first r.played.last r.played.runs
       (first_fits (length script.names.items) script.cpus r.before r.played.first r.played.begins r.many)
       (λ q. first_calm (length script.names.items) script.cpus r.before r.played.first r.played.begins r.many)
       script.well_formed.names_in_order script.well_formed.names_introduced script.well_formed.moments_in_order

@@ -7,7 +7,7 @@ use Rattle.cyc_script.specs.declared.step.Step.{Step}
 use Rattle.cyc_script.specs.declared.step.Step.TheVariants.{Add, Omni, Bind, Unbind, Reprogram, Remove, Advance, Softint, Juggle}
 use Rattle.cyc_script.specs.declared.step.Step.TheVariants.{Offline, Online}
 use Rattle.cyc_expected.specs.Expected.{Met}
-use Rattle.cyc_thread_reasons.specs.Told.{Absent, OnOne, Told, untold, standing, told_after}
+use Rattle.cyc_thread_reasons.specs.Known.{Absent, OnOne, Known, known_first, name_has, known_after}
 use Rattle.cyc_thread_reasons.specs.Reasons.{has_reason}
 
 abbrev taken : Step → Met
@@ -16,9 +16,9 @@ taken x = record { step = x; accepted = true }
 abbrev refused : Step → Met
 refused x = record { step = x; accepted = false }
 
-abbrev after : List Met → Told → Told
+abbrev after : List Met → Known → Known
 after [] t = t
-after (m ∷ ms) t = after ms (told_after m t)
+after (m ∷ ms) t = after ms (known_after m t)
 
 abbrev add : ℕ → Step
 add name = Add (record { name = name; level = level.Low; start = pos 10; interval = pos 10 })
@@ -34,10 +34,10 @@ soften = Softint (record { cpu = 0; level = soft.Low; budget = 1 })
 
 -- ---- names
 
-abbrev one : Told
-one = after (taken (add 0) ∷ []) (untold 2 3)
+abbrev one : Known
+one = after (taken (add 0) ∷ []) (known_first 2 3)
 
-what_was_refused_is_not_told : standing 0 (after (refused (add 0) ∷ []) (untold 2 3)) ≡ Absent
+what_was_refused_is_not_told : name_has 0 (after (refused (add 0) ∷ []) (known_first 2 3)) ≡ Absent
 what_was_refused_is_not_told = refl
 
 a_name_without_a_cyclic_is_not_removed : has_reason (Remove 1) one ≡ true
@@ -65,10 +65,10 @@ but_not_where_none_is_online = refl
 
 -- ---- removals
 
-abbrev two : Told
+abbrev two : Known
 two = after (taken (add 1) ∷ taken (Remove 0) ∷ []) one
 
-what_was_removed_is_gone : standing 0 two ≡ Absent
+what_was_removed_is_gone : name_has 0 two ≡ Absent
 what_was_removed_is_gone = refl
 
 a_removal_may_be_open : has_reason (Remove 1) two ≡ true
@@ -85,10 +85,10 @@ nor_where_that_was_refused = refl
 
 -- ---- CPUs
 
-the_last_cpu_stays : has_reason (Offline 0) (untold 1 1) ≡ true
+the_last_cpu_stays : has_reason (Offline 0) (known_first 1 1) ≡ true
 the_last_cpu_stays = refl
 
-its_cyclics_stay : has_reason (Juggle 0) (untold 1 1) ≡ true
+its_cyclics_stay : has_reason (Juggle 0) (known_first 1 1) ≡ true
 its_cyclics_stay = refl
 
 one_of_two_may_go : has_reason (Offline 0) one ≡ false
@@ -118,7 +118,7 @@ an_online_one_may_not = refl
 -- ---- room
 
 -- so many names with a cyclic that is bound to CPU 0, over two CPUs
-abbrev crowd : ℕ → Told
+abbrev crowd : ℕ → Known
 crowd many = record { online = true ∷ true ∷ []; names = replicate many (OnOne (Some 0)); leaving = false }
 
 no_more_is_bound_to_a_full_cpu : has_reason (bind 0 0) (crowd 256) ≡ true
@@ -140,7 +140,7 @@ the_last_of_them_has : has_reason (add 511) (crowd 511) ≡ false
 the_last_of_them_has = refl
 
 -- so many that are bound to none
-abbrev flock : ℕ → Told
+abbrev flock : ℕ → Known
 flock many = record { online = true ∷ true ∷ []; names = replicate many (OnOne None); leaving = false }
 
 the_other_has_room_for_256 : has_reason (Offline 0) (flock 256) ≡ false

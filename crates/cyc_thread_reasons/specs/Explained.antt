@@ -20,31 +20,31 @@ use Rattle.cyc_thread_expected.specs.Words.{Does}
 use Rattle.cyc_thread_expected.specs.Steps.{TakesSteps, Runs}
 use Rattle.cyc_thread_expected.specs.Leading.{call_of}
 use Rattle.cyc_thread_expected.specs.Meeting.{accepted}
-use Rattle.cyc_thread_reasons.specs.Told.{Told, before_step, told_after}
+use Rattle.cyc_thread_reasons.specs.Known.{Known, before_step, known_after}
 use Rattle.cyc_thread_reasons.specs.Reasons.{has_reason}
 
 -- memory was refused to the call
-abbrev pub IsMemory : SystemCall → Type 0
-IsMemory (Add level when now answer) = answer ≡ Err Memory
-IsMemory (AddOmni level when skew now answer) = answer ≡ Err Memory
-IsMemory (Bind id cpu answer) = answer ≡ Err Memory
-IsMemory (Online n now answer) = answer ≡ Err Memory
-IsMemory call = ⊥
+abbrev pub MemoryRefused : SystemCall → Type 0
+MemoryRefused (Add level when now answer) = answer ≡ Err Memory
+MemoryRefused (AddOmni level when skew now answer) = answer ≡ Err Memory
+MemoryRefused (Bind id cpu answer) = answer ≡ Err Memory
+MemoryRefused (Online n now answer) = answer ≡ Err Memory
+MemoryRefused call = ⊥
 
-abbrev pub IsMemoryOf : Option LeadCall → Type 0
-IsMemoryOf (Some (Make call)) = IsMemory call
-IsMemoryOf call = ⊥
+abbrev pub MemoryRefusedTo : Option LeadCall → Type 0
+MemoryRefusedTo (Some (Make call)) = MemoryRefused call
+MemoryRefusedTo call = ⊥
 
 -- The turn of a cyclic was refused: memory was; or its destination was still switching banks, since an earlier turn of the step,
 -- which began with this system, had made it grow.
-abbrev pub IsPutOff : {R : Type 0} → SystemView R → RefusedTurn R → Type 0
-IsPutOff {R} s turn = (turn.why ≡ Memory) ⊎ ((turn.why ≡ Expanding)
+abbrev pub IsTurnPutOff : {R : Type 0} → SystemView R → RefusedTurn R → Type 0
+IsTurnPutOff {R} s turn = (turn.why ≡ Memory) ⊎ ((turn.why ≡ Expanding)
     × (x : CpuView R) × (y : CpuView R) × IsCpu turn.target x s.cpus × IsCpu turn.target y turn.before.cpus × (x.size < y.size))
 
 -- the cyclics of this CPU had their turns, with which it came from one system to the other, and one of them was put off
 abbrev pub IsLeft : {R : Type 0} → Raise R → ℕ → SystemView R → SystemView R → Type 0
 IsLeft {R} firing n s t = (report : JuggleReport) × (moves : MovesAway firing n report s t) × (place : ℕ) × (turn : RefusedTurn R)
-    × (slice_get (refused_turns firing n (single_ids n s) report s t moves) place ≡ Some turn) × IsPutOff s turn
+    × (slice_get (refused_turns firing n (single_ids n s) report s t moves) place ≡ Some turn) × IsTurnPutOff s turn
 
 module _ {C R : Type 0} (handler : Calls C) (firing : Raise R) where
   -- a cyclic was left on the CPU that was to go offline
@@ -53,17 +53,17 @@ module _ {C R : Type 0} (handler : Calls C) (firing : Raise R) where
   IsLeftBy x s t = ⊥
 
   -- why a step was refused, of which the accepted steps before it told so much
-  abbrev pub WhyNot : Told → (x : Step) (s t : Progress R C) → Does handler firing x s t → Type 0
-  WhyNot told x s t does = (has_reason x told ≡ true) ⊎ IsMemoryOf (call_of handler firing x s t does) ⊎ IsLeftBy x s t
+  abbrev pub WhyNot : Known → (x : Step) (s t : Progress R C) → Does handler firing x s t → Type 0
+  WhyNot told x s t does = (has_reason x told ≡ true) ⊎ MemoryRefusedTo (call_of handler firing x s t does) ⊎ IsLeftBy x s t
 
   -- each of these steps was accepted, or there is why not
-  abbrev pub AreExplained : Told → (s : Progress R C) (xs : List Step) (t : Progress R C)
+  abbrev pub AreExplained : Known → (s : Progress R C) (xs : List Step) (t : Progress R C)
       → TakesSteps handler firing s xs t → Type 0
   AreExplained told s [] t takes = ⊤
   AreExplained told s (x ∷ xs) t ((u, (v, begins, does), rest)) =
       (accepted handler firing x v u does ≡ false → WhyNot (before_step x told) x v u does)
-      × AreExplained (told_after (record { step = x; accepted = accepted handler firing x v u does }) told) u xs t rest
+      × AreExplained (known_after (record { step = x; accepted = accepted handler firing x v u does }) told) u xs t rest
 
   -- so it is of all steps of a run
-  abbrev pub AllExplained : Told → (s : Progress R C) (xs : List Step) (t : Progress R C) → Runs handler firing s xs t → Type 0
+  abbrev pub AllExplained : Known → (s : Progress R C) (xs : List Step) (t : Progress R C) → Runs handler firing s xs t → Type 0
   AllExplained told s xs t (u, takes, waits) = AreExplained told s xs u takes

@@ -1,3 +1,3 @@
-pub mod Told
+pub mod Known
 pub mod Reasons
 pub mod Explained

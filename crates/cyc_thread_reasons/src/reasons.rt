@@ -5,7 +5,7 @@ ghost use Rattle.cyc_ring.specs.Ends.{raise_end};
 ghost use Rattle.cyc_script.specs.declared.script.Script.{Script as OneScript};
 ghost use Rattle.cyc_thread_expected.specs.Ended.{Ended as Ends};
 ghost use Rattle.cyc_thread_expected.specs.Running.{HasRun};
-ghost use Rattle.cyc_thread_reasons.specs.Told.{untold};
+ghost use Rattle.cyc_thread_reasons.specs.Known.{known_first};
 ghost use Rattle.cyc_thread_reasons.specs.Explained.{AllExplained};
 
 use cyc_types::Calls;
@@ -17,6 +17,6 @@ use cyc_types::Calls;
 /// It does nothing when it runs: its clause is the law.
 pub fn reasons_law<C: Calls>()
     ensures { (script : OneScript) (calls : List C) (e : Ends C) (text : List ℕ) (r : HasRun C.Calls script calls e text)
-        → AllExplained C.Calls raise_end (untold script.cpus (length script.names.items)) r.played.first script.steps.items
+        → AllExplained C.Calls raise_end (known_first script.cpus (length script.names.items)) r.played.first script.steps.items
         r.played.last r.played.runs }
 {}

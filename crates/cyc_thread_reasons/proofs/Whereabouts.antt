@@ -45,60 +45,60 @@ use Rattle.cyc_thread_expected.specs.Turn.TheVariants.{StaysBound, StaysPending,
 use Rattle.cyc_thread_expected.specs.Juggling.{TakesTurn, Turns, single_ids}
 use Rattle.cyc_thread_expected.specs.Calls.{SystemCall, Changes, Add, AddOmni, Bind, BeginRemove, PollRemove, Reprogram}
 use Rattle.cyc_thread_expected.specs.Calls.{ReprogramOn, Juggle, Offline, Online}
-use Rattle.cyc_thread_reasons.specs.Told.{Standing, Absent, OnOne, OnAll}
-use Rattle.cyc_thread_reasons.specs.Reasons.{is_here, is_everywhere}
+use Rattle.cyc_thread_reasons.specs.Known.{Whereabouts, Absent, OnOne, OnAll}
+use Rattle.cyc_thread_reasons.specs.Reasons.{is_there, has_components}
 
-abbrev pub standing_of : Placement → Standing
-standing_of (On n false) = OnOne None
-standing_of (On n true) = OnOne (Some n)
-standing_of (Everywhere first skew) = OnAll
+abbrev pub whereabouts_of : Placement → Whereabouts
+whereabouts_of (On n false) = OnOne None
+whereabouts_of (On n true) = OnOne (Some n)
+whereabouts_of (Everywhere first skew) = OnAll
 
-abbrev pub stands_in : ℕ → List Record → Standing
-stands_in id rs = option_map_or (λ (r : Record). standing_of r.place) (found id rs) Absent
+abbrev pub stands_in : ℕ → List Record → Whereabouts
+stands_in id rs = option_map_or (λ (r : Record). whereabouts_of r.place) (found id rs) Absent
 
 -- what the record of an id says
-abbrev pub stands : {R : Type 0} → ℕ → SystemView R → Standing
+abbrev pub stands : {R : Type 0} → ℕ → SystemView R → Whereabouts
 stands id s = stands_in id s.records
 
 -- the records say the same of each id
 abbrev pub SameStands : {R : Type 0} → SystemView R → SystemView R → Type 0
 SameStands s t = (id : ℕ) → stands id t ≡ stands id s
 
--- ---- what a standing says
+-- ---- what whereabouts say
 
-here_place : (p : Placement) → is_here (standing_of p) ≡ true
+here_place : (p : Placement) → is_there (whereabouts_of p) ≡ true
 here_place (On n false) = refl
 here_place (On n true) = refl
 here_place (Everywhere first skew) = refl
 
-pub everywhere_place : (p : Placement) → is_placed_everywhere p ≡ is_everywhere (standing_of p)
+pub everywhere_place : (p : Placement) → is_placed_everywhere p ≡ has_components (whereabouts_of p)
 everywhere_place (On n false) = refl
 everywhere_place (On n true) = refl
 everywhere_place (Everywhere first skew) = refl
 
-pub unknown_stands : {R : Type 0} (id : ℕ) (s : SystemView R) → is_unknown id s ≡ not (is_here (stands id s))
+pub unknown_stands : {R : Type 0} (id : ℕ) (s : SystemView R) → is_unknown id s ≡ not (is_there (stands id s))
 unknown_stands id s = by (record_of id s)
   where
-    by : (o : Option Record) → not (is_some o) ≡ not (is_here (option_map_or (λ (r : Record). standing_of r.place) o Absent))
+    by : (o : Option Record) → not (is_some o) ≡ not (is_there (option_map_or (λ (r : Record). whereabouts_of r.place) o Absent))
     by None = refl
     by (Some r) = sym (ap not (here_place r.place))
 
-pub omni_stands : {R : Type 0} (id : ℕ) (s : SystemView R) → is_omnipresent id s ≡ is_everywhere (stands id s)
+pub omni_stands : {R : Type 0} (id : ℕ) (s : SystemView R) → is_omnipresent id s ≡ has_components (stands id s)
 omni_stands id s = by (record_of id s)
   where
     by : (o : Option Record) → option_map_or (λ (r : Record). is_placed_everywhere r.place) o false
-        ≡ is_everywhere (option_map_or (λ (r : Record). standing_of r.place) o Absent)
+        ≡ has_components (option_map_or (λ (r : Record). whereabouts_of r.place) o Absent)
     by None = refl
     by (Some r) = everywhere_place r.place
 
 pub stands_at : (rs : List Record) (k : ℕ) (r : Record) (id : ℕ) → HasRisingIds rs → IsRecord rs k r → r.id ≡ id
-    → stands_in id rs ≡ standing_of r.place
+    → stands_in id rs ≡ whereabouts_of r.place
 stands_at rs k r id rising is named =
-    ap (λ o. option_map_or (λ (q : Record). standing_of q.place) o Absent) (record_here id k r rs rising is named)
+    ap (λ o. option_map_or (λ (q : Record). whereabouts_of q.place) o Absent) (record_here id k r rs rising is named)
 
 pub here_at : (rs : List Record) (k : ℕ) (r : Record) (id : ℕ) → HasRisingIds rs → IsRecord rs k r → r.id ≡ id
-    → is_here (stands_in id rs) ≡ true
-here_at rs k r id rising is named = ap is_here (stands_at rs k r id rising is named) ∙ here_place r.place
+    → is_there (stands_in id rs) ≡ true
+here_at rs k r id rising is named = ap is_there (stands_at rs k r id rising is named) ∙ here_place r.place
 
 -- an answer is no refusal
 pub ok_err : {A : Type 0} {a : A} {x : Refusal} → ◌≡◌ {A = Result A Refusal} (Ok a) (Err x) → ⊥
@@ -110,14 +110,14 @@ err_ok {A = A} {a = a} {x = x} e = cc
 -- ---- lists of records
 
 -- an id of which something is said has a record
-pub record_there : (rs : List Record) (id : ℕ) → is_here (stands_in id rs) ≡ true
+pub record_there : (rs : List Record) (id : ℕ) → is_there (stands_in id rs) ≡ true
     → (k : ℕ) × (r : Record) × IsRecord rs k r × (r.id ≡ id)
 record_there [] id here = absurd (let odd : false ≡ true = here in cc)
 record_there (x ∷ rs) id here = by (x.id == id) refl here (record_there rs id)
   where
     by : (b : Bool) → (x.id == id) ≡ b
-        → is_here (option_map_or (λ (r : Record). standing_of r.place) (cond b (Some x) (found id rs)) Absent) ≡ true
-        → (is_here (stands_in id rs) ≡ true → (k : ℕ) × (r : Record) × IsRecord rs k r × (r.id ≡ id))
+        → is_there (option_map_or (λ (r : Record). whereabouts_of r.place) (cond b (Some x) (found id rs)) Absent) ≡ true
+        → (is_there (stands_in id rs) ≡ true → (k : ℕ) × (r : Record) × IsRecord rs k r × (r.id ≡ id))
         → (k : ℕ) × (r : Record) × IsRecord (x ∷ rs) k r × (r.id ≡ id)
     by true is h rest = (0, x, refl, eq_true x.id id is)
     by false is h rest = let (k, r, at, named) = rest h in (suc k, r, at, named)
@@ -163,30 +163,30 @@ find_more p [] x fails = ap (λ t. cond t (Some x) None) fails
 find_more p (z ∷ xs) x fails = ap (λ o. cond (p z) (Some z) o) (find_more p xs x fails)
 
 module _ (id : ℕ) where
-  -- a record that has the same standing
+  -- a record that has the same whereabouts
   set_same : (rs : List Record) (k : ℕ) (r x : Record) → IsRecord rs k r → x.id ≡ r.id
-      → standing_of x.place ≡ standing_of r.place → stands_in id (slice_set rs k x) ≡ stands_in id rs
-  set_same rs k r x is same place = look_set (λ (q : Record). q.id == id) (λ (q : Record). standing_of q.place) Absent rs k r x is
-      (ap (λ (i : ℕ). i == id) same) place
+      → whereabouts_of x.place ≡ whereabouts_of r.place → stands_in id (slice_set rs k x) ≡ stands_in id rs
+  set_same rs k r x is same place = look_set (λ (q : Record). q.id == id) (λ (q : Record). whereabouts_of q.place) Absent rs k r x
+      is (ap (λ (i : ℕ). i == id) same) place
 
   -- a record of another id
   set_other : (rs : List Record) (k : ℕ) (r x : Record) → IsRecord rs k r → x.id ≡ r.id → r.id ≢ id
       → stands_in id (slice_set rs k x) ≡ stands_in id rs
-  set_other rs k r x is same ne = ap (λ o. option_map_or (λ (q : Record). standing_of q.place) o Absent)
+  set_other rs k r x is same ne = ap (λ o. option_map_or (λ (q : Record). whereabouts_of q.place) o Absent)
       (find_beside (λ (q : Record). q.id == id) rs k r x is (false_ne r.id id ne) (false_ne x.id id (λ e. ne (sym same ∙ e))))
 
   set_here : (rs : List Record) (k : ℕ) (r x : Record) → HasRisingIds rs → IsRecord rs k r → x.id ≡ r.id → r.id ≡ id
-      → stands_in id (slice_set rs k x) ≡ standing_of x.place
+      → stands_in id (slice_set rs k x) ≡ whereabouts_of x.place
   set_here rs k r x rising is same named = stands_at (slice_set rs k x) k x id (rising_set rs k r x rising is same)
       (get_set_same rs k x (slice_get_within rs k r is)) (same ∙ named)
 
   push_other : (rs : List Record) (own : ℕ) (level : Level) (place : Placement) → own ≢ id
       → stands_in id (rs ++ new_record own level place ∷ []) ≡ stands_in id rs
-  push_other rs own level place ne = ap (λ o. option_map_or (λ (q : Record). standing_of q.place) o Absent)
+  push_other rs own level place ne = ap (λ o. option_map_or (λ (q : Record). whereabouts_of q.place) o Absent)
       (find_more (λ (q : Record). q.id == id) rs (new_record own level place) (false_ne own id ne))
 
 pub new_stands : {R : Type 0} (id : ℕ) (level : Level) (place : Placement) (before : List Record) (t : SystemView R)
-    → HasRisingIds t.records → t.records ≡ before ++ new_record id level place ∷ [] → stands id t ≡ standing_of place
+    → HasRisingIds t.records → t.records ≡ before ++ new_record id level place ∷ [] → stands id t ≡ whereabouts_of place
 new_stands id level place before t rising records =
     stands_at t.records (length before) (new_record id level place) id rising
     (ap (λ rs. slice_get rs (length before)) records ∙ get_last before (new_record id level place)) refl
@@ -229,7 +229,7 @@ module _ {R : Type 0} (firing : Raise R) where
       (stands_same s t only.1, subst HasRisingIds (sym only.1) rising)
   turn_stands n own Moves s t rising (place, d, chosen, moves, (k, r, here, named, records, last)) = (
     λ id. ap (stands_in id) records ∙ set_same id s.records k r (with_place (On d false) r) here refl
-        (sym (ap standing_of (place_here s own n k false r rising place here named))),
+        (sym (ap whereabouts_of (place_here s own n k false r rising place here named))),
     subst HasRisingIds (sym records) (rising_set s.records k r (with_place (On d false) r) rising here refl),
   )
 
@@ -261,18 +261,18 @@ module _ {R : Type 0} (firing : Raise R) where
       ∙ (retires_stand n (ids_on n s.cpus) u empty each id ∙ stands_same s u only.1 id)
 
   return_stand : (n : ℕ) (v : CpusView R) (r : Record) → ((after_return n v r).id ≡ r.id)
-      × (standing_of (after_return n v r).place ≡ standing_of r.place)
+      × (whereabouts_of (after_return n v r).place ≡ whereabouts_of r.place)
   return_stand n v r = by (is_staying v r)
     where
       by : (b : Bool) → ((cond b (with_ended n no_counts r) r).id ≡ r.id)
-          × (standing_of (cond b (with_ended n no_counts r) r).place ≡ standing_of r.place)
+          × (whereabouts_of (cond b (with_ended n no_counts r) r).place ≡ whereabouts_of r.place)
       by true = (refl, refl)
       by false = (refl, refl)
 
   online_stand : (n now : ℕ) (answer : Result (Unit {0}) Refusal) (s t : SystemView R) → GoesOnline firing n now answer s t
       → SameStands s t
   online_stand n now (Ok done) s t (works, records, last) id = ap (stands_in id) records
-      ∙ look_map (λ (x : Record). x.id == id) (λ (x : Record). standing_of x.place) Absent (after_return n s.cpus)
+      ∙ look_map (λ (x : Record). x.id == id) (λ (x : Record). whereabouts_of x.place) Absent (after_return n s.cpus)
       (λ r. ap (λ (j : ℕ). j == id) (return_stand n s.cpus r).0) (λ r. (return_stand n s.cpus r).1) s.records
   online_stand n now (Err e) s t (why, (works, records, last)) id = stands_same s t records id
 
@@ -286,7 +286,7 @@ module _ {R : Type 0} (firing : Raise R) where
   polls_on_stand own n None s t (does, records, last) = stands_same s t records
 
   untouched_stands : (id : ℕ) (s t : SystemView R) → IsUntouched id s t → stands id t ≡ stands id s
-  untouched_stands id s t u = ap (λ o. option_map_or (λ (r : Record). standing_of r.place) o Absent) u.own
+  untouched_stands id s t u = ap (λ o. option_map_or (λ (r : Record). whereabouts_of r.place) o Absent) u.own
 
   begins_stand : (own : ℕ) (answer : Result SystemRemoval Refusal) (s t : SystemView R) (id : ℕ)
       → (Touches id (BeginRemove own answer) → ⊥) → BeginsRemoval firing own answer s t → stands id t ≡ stands id s
@@ -331,7 +331,7 @@ module _ {R : Type 0} (firing : Raise R) where
       ∙ set_other id s.records k r (with_place place r) here refl (λ e. ne (sym named ∙ e))
 
   records_here : (own : ℕ) (place : Placement) (s t : SystemView R) → HasRisingIds s.records → Records own place s t
-      → stands own t ≡ standing_of place
+      → stands own t ≡ whereabouts_of place
   records_here own place s t rising (k, r, here, named, records, last) = ap (stands_in own) records
       ∙ set_here own s.records k r (with_place place r) rising here refl named
 
@@ -407,10 +407,10 @@ module _ {R : Type 0} (firing : Raise R) where
 
   pub removed_stands : (s t : SystemView R) (own : ℕ) (receipt : Receipt) → HasRisingIds s.records
       → Changes firing s (BeginRemove own (Ok (over.Done receipt))) t → stands own t ≡ Absent
-  removed_stands s t own receipt rising d = ap (λ o. option_map_or (λ (r : Record). standing_of r.place) o Absent)
+  removed_stands s t own receipt rising d = ap (λ o. option_map_or (λ (r : Record). whereabouts_of r.place) o Absent)
       (begins_forgotten firing own receipt s t rising d).unknown
 
   pub polled_stands : (s t : SystemView R) (own : ℕ) (receipt : Receipt) → HasRisingIds s.records
       → Changes firing s (PollRemove own (Ok (Some receipt))) t → stands own t ≡ Absent
-  polled_stands s t own receipt rising d = ap (λ o. option_map_or (λ (r : Record). standing_of r.place) o Absent)
+  polled_stands s t own receipt rising d = ap (λ o. option_map_or (λ (r : Record). whereabouts_of r.place) o Absent)
       (polls_forgotten firing own receipt s t rising d).unknown
