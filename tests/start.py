@@ -13,6 +13,7 @@ import sys
 
 # this folder has a random.py that is not the library's
 sys.path = [it for it in sys.path if os.path.abspath(it or ".") != os.path.dirname(os.path.abspath(__file__))]
+import ctypes
 import shutil
 import re
 import signal
@@ -20,6 +21,8 @@ import subprocess
 import tempfile
 import time
 
+# of linux/prctl.h
+PR_SET_CHILD_SUBREAPER = 36
 TOP = os.path.join(os.path.dirname(os.path.abspath(__file__)), "..")
 RT = r"""#!/usr/bin/env bash
 crate=$(basename "$PWD")
@@ -128,8 +131,13 @@ class Start:
         self.want(f"{name}, left behind", os.listdir(f"{self.top}/scratch"), [])
 
     def is_left(self, group):
-        """Whether a process of this group is there, after two seconds at the most."""
-        for _ in range(40):
+        """Whether a process of this group is there, after twenty seconds at the most."""
+        for _ in range(400):
+            try:
+                while os.waitpid(-group, os.WNOHANG)[0]:
+                    pass
+            except ChildProcessError:
+                pass
             try:
                 os.killpg(group, 0)
             except ProcessLookupError:
@@ -203,6 +211,8 @@ def tries(start):
 
 
 def main():
+    # what a stop leaves without a parent comes to this process, which waits for it: not every machine's first process does so soon
+    ctypes.CDLL(None).prctl(PR_SET_CHILD_SUBREAPER, 1, 0, 0, 0)
     # a shell can't trap what was ignored when it began, as these are below nohup or in the background
     for number in (signal.SIGINT, signal.SIGTERM, signal.SIGHUP):
         signal.signal(number, signal.SIG_DFL)
