@@ -1,7 +1,8 @@
 //! The look-up by id, for all that keeps cyclics in the order of their ids.
 //!
-//! `search` finds the position of an id among things whose ids rise, and `search_near` looks at a hinted position first. `Finder`
-//! is the map from the ids of up to `CYCLICS` cyclics to their indexes, with a hint for each id.
+//! `search` finds the position of an id among things whose ids rise; `search_near` looks at a hinted position first, and `search_new`
+//! at the last. `guess` and `stands_at` are first looks by themselves, and `search_unguessed` is what follows a guess that was wrong.
+//! `Finder` is the map from the ids of up to `CYCLICS` cyclics to their indexes, with a hint for each id.
 #![tactic(auto)]
 
 pub mod finder;
@@ -9,4 +10,4 @@ mod halving;
 pub mod sorted;
 
 pub use finder::{Entry, Finder, hint_of};
-pub use sorted::{HasId, search, search_near};
+pub use sorted::{HasId, guess, search, search_near, search_new, search_unguessed, stands_at};

@@ -1,6 +1,8 @@
 //! The look-up by id among things by rising id.
 
-ghost use Rattle.std.specs.Prelude.{◌≡◌, ℕ, ◌<◌, ◌≤◌, length, IfOk, IfErr};
+ghost use Rattle.std.specs.Prelude.{◌≡◌, ℕ, ◌-◌, ◌<◌, ◌≤◌, length, Some, IfOk, IfErr, IfSome, IfNone};
+ghost use Rattle.std.specs.Bool.{OnTrue, OnFalse};
+ghost use Rattle.std.specs.List.{slice_get};
 ghost use Rattle.cyc_finder.specs.Sorted.{Rises, IsAt, IsGap};
 ghost use Rattle.cyc_finder.specs.Halving.{IsIn};
 
@@ -24,8 +26,35 @@ const FEW: usize = 32;
 #[inline(always)]
 fn distance<T: HasId>(things: &[T], id: CyclicId) -> u64
     requires { 0 < length things.now }
+    ensures { (first : T) → slice_get things.now 0 ≡ Some first → T.id_of first ≤ id → result ≡ id - T.id_of first }
 {
     id.number().wrapping_sub(things[0].id().number())
+}
+
+/// Whether the thing of this id stands at this position. O(1).
+#[inline(always)]
+pub fn stands_at<T: HasId>(things: &[T], id: CyclicId, position: usize) -> bool
+    ensures there { OnTrue result (IsAt T.id_of things.now id position) }
+    ensures elsewhere { OnFalse result (¬ IsAt T.id_of things.now id position) }
+{
+    position < things.len() && things[position].id().number() == id.number()
+}
+
+/// Where the thing of this id stands, by one look, as far from the first as the id is from its id: None unless it stands there. O(1).
+#[inline(always)]
+pub fn guess<T: HasId>(things: &[T], id: CyclicId) -> Option<usize>
+    ensures some { IfSome result (IsAt T.id_of things.now id) }
+    ensures none { IfNone result ((first : T) → slice_get things.now 0 ≡ Some first → T.id_of first ≤ id
+        → ¬ IsAt T.id_of things.now id (id - T.id_of first)) }
+{
+    if things.is_empty() {
+        return None;
+    }
+    let guessed = distance(things, id);
+    if guessed < things.len() as u64 && stands_at(things, id, guessed as usize) {
+        return Some(guessed as usize);
+    }
+    None
 }
 
 /// Where the thing of this id stands, or where it would stand, by halving. O(log n), and takes no memory (our own; the kernel
@@ -36,12 +65,34 @@ pub fn search<T: HasId>(things: &[T], id: CyclicId) -> Result<usize, usize>
     ensures found { IfOk result (IsAt T.id_of things.now id) }
     ensures absent { IfErr result (IsGap T.id_of things.now id) }
 {
+    if let Some(guessed) = guess(things, id) {
+        return Ok(guessed);
+    }
+    search_unguessed(things, id)
+}
+
+/// As `search`, with a look at the last thing first: O(1) where the id is above all others, as that of a new thing mostly is.
+#[inline(always)]
+pub fn search_new<T: HasId>(things: &[T], id: CyclicId) -> Result<usize, usize>
+    requires { Rises T.id_of things.now }
+    ensures found { IfOk result (IsAt T.id_of things.now id) }
+    ensures absent { IfErr result (IsGap T.id_of things.now id) }
+{
+    match things.last() {
+        Some(last) if last.id().number() < id.number() => Err(things.len()),
+        _ => search(things, id),
+    }
+}
+
+/// As `search`, where the thing is known not to stand where it is guessed: it isn't looked for there first.
+#[inline(always)]
+pub fn search_unguessed<T: HasId>(things: &[T], id: CyclicId) -> Result<usize, usize>
+    requires { Rises T.id_of things.now }
+    ensures found { IfOk result (IsAt T.id_of things.now id) }
+    ensures absent { IfErr result (IsGap T.id_of things.now id) }
+{
     if things.is_empty() {
         return Err(0);
-    }
-    let guessed = distance(things, id);
-    if guessed < things.len() as u64 && things[guessed as usize].id().number() == id.number() {
-        return Ok(guessed as usize);
     }
     if things.len() > FEW {
         return search_many(things, id);
@@ -102,7 +153,7 @@ pub fn search_near<T: HasId>(things: &[T], id: CyclicId, hint: usize) -> Result<
     ensures found { IfOk result (IsAt T.id_of things.now id) }
     ensures absent { IfErr result (IsGap T.id_of things.now id) }
 {
-    if hint < things.len() && things[hint].id().number() == id.number() {
+    if stands_at(things, id, hint) {
         return Ok(hint);
     }
     search_anew(things, id)
