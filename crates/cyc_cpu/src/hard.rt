@@ -176,7 +176,21 @@ impl<R: Raise> Hard<R> {
         if self.is_removed(id) {
             return Err(Refusal::NoCyclic);
         }
-        match self.table.find(id) {
+        if let Some(place) = self.table.soon(id) {
+            self.table.reprogram(place, moment);
+            return Ok(());
+        }
+        self.reprogram_anew(id, moment)
+    }
+
+    /// As `reprogram`, of a cyclic whose removal is not open and that two looks did not find: out of the way of one that they find.
+    #[cold]
+    #[inline(never)]
+    fn reprogram_anew(&mut self, id: CyclicId, moment: Moment) -> Result<(), Refusal>
+        requires { self.old.removal ≢ Some id }
+        ensures { Changes R.Raise self.old (Reprogram id moment result) self.new }
+    {
+        match self.table.seek(id) {
             Some(place) => {
                 self.table.reprogram(place, moment);
                 Ok(())

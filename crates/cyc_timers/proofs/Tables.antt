@@ -3,6 +3,8 @@ use Rattle.std.proofs.Common.{◌≡◌, ◌≢◌, ℕ, suc, ◌<◌, ◌≤◌
 use Rattle.std.proofs.Common.{◌∙◌, subst, arith, length, get_or, map, All, count_by, option_map}
 use Rattle.std.proofs.Math.ListN.{set}
 use Rattle.std.specs.Prelude.{is_some, IfSome}
+use Rattle.std.specs.List.{slice_get}
+use Rattle.std.proofs.lemmas.Option.{slice_get_read}
 use Rattle.cyc_heap.specs.Heap as heap
 use Rattle.cyc_heap.specs.Heap.{HeapView, IsLeast, with_moment}
 use Rattle.std.proofs.lemmas.Bool.{cases_lt, cases_eq}
@@ -399,6 +401,21 @@ pub row_here : (slots : List (Option Expiration)) (records : List Record) (entri
     (r : Row) × IsRow (rows_of slots records entries) q r × (r.timer.id ≡ id)
 row_here slots records entries id q at =
     (row_of slots records (get_or entries q no_place), is_row slots records entries q at.in_range, at.has_id no_place)
+
+-- where the row stands the entry of its id does
+pub entry_here : (slots : List (Option Expiration)) (records : List Record) (entries : List Entry) (id k : ℕ) (r : Row)
+    → IsTable slots records entries → IsRow (rows_of slots records entries) k r → r.timer.id ≡ id → IsAt id_in entries id k
+entry_here slots records entries id k r t is named =
+    let s = standing slots records entries k r t is in
+    record { in_range = s.low; has_id = λ d. ap id_in (s.is d) ∙ sym (ap (λ (x : Row). x.timer.id) s.row) ∙ named }
+
+-- the first entry, where the first row is known
+pub first_entry : (slots : List (Option Expiration)) (records : List Record) (entries : List Entry) (r : Row)
+    → IsTable slots records entries → IsRow (rows_of slots records entries) 0 r
+    → (p : Entry) × (slice_get entries 0 ≡ Some p) × (p.id ≡ r.timer.id)
+first_entry slots records entries r t is =
+    let s = standing slots records entries 0 r t is in
+    (s.p, slice_get_read entries (length entries) 0 s.p refl s.low (sym (s.is s.p)), sym (ap (λ (x : Row). x.timer.id) s.row))
 
 -- where the id would stand no row has it
 pub no_row : (slots : List (Option Expiration)) (records : List Record) (entries : List Entry) (id q : ℕ)

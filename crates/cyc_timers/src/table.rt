@@ -9,9 +9,9 @@ ghost use Rattle.cyc_types.specs.declared.refusal.Refusal.TheVariants.{Memory};
 ghost use Rattle.cyc_timers.specs.Rows.{Row, TableView, new_table, timers_of, IsRow, IsRising, HasNo, HasDistinctIndexes};
 ghost use Rattle.cyc_timers.specs.Rows.{vacant_row, with_record, with_counts, at_moment, IsRecordOf, IsFirstAt};
 
-use cyc_finder::{Entry, search};
+use cyc_finder::{Entry, guess, hint_of, search, search_new, search_unguessed, stands_at};
 use cyc_heap::ExpiryHeap;
-use cyc_types::{CyclicId, Index, Interval, Level, Moment, Refusal, Sent};
+use cyc_types::{CYCLICS, CyclicId, Index, Interval, Level, Moment, Refusal, Sent};
 use std::alloc::Global;
 use std::marker::Model;
 
@@ -39,6 +39,8 @@ pub struct Table {
     heap: ExpiryHeap,
     records: Vec<Record>,
     entries: Vec<Entry>,
+    // For the low bits of an id where the last such one was found that `soon` had not: right or not, it says where to look first.
+    hints: [u8; CYCLICS as usize],
 }
 
 impl Model for Table {
@@ -88,6 +90,7 @@ impl Table {
             heap,
             records,
             entries,
+            hints: [0; CYCLICS as usize],
         })
     }
 
@@ -131,7 +134,7 @@ impl Table {
         ensures size { self.new.size ≡ self.old.size }
         ensures room { self.new.room ≡ self.old.room }
     {
-        let Err(position) = search(&self.entries, id) else {
+        let Err(position) = search_new(&self.entries, id) else {
             unreachable!()
         };
         let index = self.heap.insert(moment, id);
@@ -146,6 +149,41 @@ impl Table {
         ensures some { IfSome result (λ k. (r : Row) × IsRow self.now.rows k r × (r.timer.id ≡ id)) }
     {
         search(&self.entries, id).ok()
+    }
+
+    /// As `find`, by two looks: as far from the first id as this is above it, and where it was found last. None unless it stands at one
+    /// of them. O(1), and takes no memory.
+    #[inline(always)]
+    pub fn soon(&self, id: CyclicId) -> Option<usize>
+        ensures none { IfNone result ((first r : Row) → IsRow self.now.rows 0 first → first.timer.id ≤ id
+            → IsRow self.now.rows (id - first.timer.id) r → r.timer.id ≢ id) }
+        ensures some { IfSome result (λ k. (r : Row) × IsRow self.now.rows k r × (r.timer.id ≡ id)) }
+    {
+        if let Some(position) = guess(&self.entries, id) {
+            return Some(position);
+        }
+        let hinted = usize::from(self.hints[hint_of(id)]);
+        if stands_at(&self.entries, id, hinted) {
+            return Some(hinted);
+        }
+        None
+    }
+
+    /// As `find`, and the next `soon` of this id finds it while no cyclic comes or goes and no other id has its hint.
+    #[cold]
+    #[inline(never)]
+    pub fn seek(&mut self, id: CyclicId) -> Option<usize>
+        ensures none { IfNone result (HasNo id self.new.rows) }
+        ensures some { IfSome result (λ k. (r : Row) × IsRow self.new.rows k r × (r.timer.id ≡ id)) }
+        ensures same { self.new ≡ self.old }
+    {
+        match search_unguessed(&self.entries, id) {
+            Ok(position) => {
+                self.hints[hint_of(id)] = position.min(usize::from(u8::MAX)) as u8;
+                Some(position)
+            }
+            Err(_) => None,
+        }
     }
 
     /// What is kept of the cyclic at this position of `find`. O(1).

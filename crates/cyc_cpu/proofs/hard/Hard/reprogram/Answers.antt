@@ -1,10 +1,10 @@
-use Rattle.std.proofs.Common.{◌≢◌, ap, sym, ◌∙◌, subst, refl, inl, Some}
+use Rattle.std.proofs.Common.{◌≢◌, ap, sym, ◌∙◌, subst, refl, Some}
 use Rattle.std.proofs.Math.ListN.{set}
 use Rattle.cyc_timers.specs.Rows.{cyclic_of, cyclics_of, at_moment}
-use Rattle.cyc_cpu.specs.Cpu.{CpuView, IsCyclic, HasNoCyclic, with_moment}
+use Rattle.cyc_cpu.specs.Cpu.{CpuView, IsCyclic, with_moment}
 use Rattle.cyc_timers.specs.Ends.{IsHard}
 use Rattle.cyc_timers.proofs.Readying.{hard_moved}
-use Rattle.cyc_cpu.proofs.Cyclics.{is_cyclic, no_cyclic, cyclics_set}
+use Rattle.cyc_cpu.proofs.Cyclics.{is_cyclic, cyclics_set}
 use Rattle.cyc_cpu.proofs.hard.Hard.reprogram.Goals as goal
 
 pub invariant_of-self : goal.invariant_of-self
@@ -43,11 +43,3 @@ returns-in-Some g c =
         low = ap (λ (x : CpuView _). x.low) v j;
       },
     )
-
-pub returns-in-None : goal.returns-in-None
-returns-in-None g c = (
-  refl,
-  inl (subst (λ (x : CpuView _). HasNoCyclic c.args.id x.cyclics) c.self.view_is
-      (no_cyclic c.args.id c.self.inside.table.rows c.in-None.ensures.none)),
-  refl,
-)
