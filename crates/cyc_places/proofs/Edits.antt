@@ -41,7 +41,7 @@ map_removed f kept place = map-append f (take place kept) (drop (suc place) kept
 
 -- an id that is read is that of the record at its place
 module _ (kept : List (Box Record Global)) where
-  read : (k : ℕ) (d : RecordId) → k < length (map id_in kept)
+  pub read : (k : ℕ) (d : RecordId) → k < length (map id_in kept)
       → (r : Record) × IsRecord (map value kept) k r × (r.id ≡ (get_or (map id_in kept) k d).id)
   read k d low = by (slice_get_cases kept k).1
     where

@@ -1,7 +1,8 @@
 //! The records by rising id.
 
-ghost use Rattle.std.specs.Prelude.{◌≡◌, ◌≢◌, ℕ, ◌+◌, ◌<◌, ◌≤◌, ◌^◌, ◌++◌, ◌∷◌, [], All, length, slice_set, remove};
+ghost use Rattle.std.specs.Prelude.{◌≡◌, ◌≢◌, ℕ, ◌+◌, ◌-◌, ◌<◌, ◌≤◌, ◌^◌, ◌++◌, ◌∷◌, [], All, length, slice_set, remove};
 ghost use Rattle.std.specs.Prelude.{Some, None, OnOk, OnErr, IfErr, IfNone, IfSome};
+ghost use Rattle.std.specs.Bool.{OnTrue, OnFalse};
 ghost use Rattle.std.specs.List.{slice_get};
 ghost use Rattle.cyc_finder.specs.Sorted.{Rises, IsAt};
 ghost use Rattle.cyc_types.specs.declared.refusal.Refusal.TheVariants.{Memory};
@@ -10,8 +11,8 @@ ghost use Rattle.cyc_places.specs.Places.{RecordsView, IsRecord, HasNoRecord, ne
 ghost use Rattle.cyc_places.specs.Places.{summed, HasRisingIds, HaveCounts, HaveAllCounts, IsReceiptOf};
 
 use crate::record::{CPUS, Placement, Record};
-use cyc_finder::{HasId, search};
-use cyc_types::{CyclicId, Level, Receipt, Refusal, Sent};
+use cyc_finder::{HasId, hint_of, search};
+use cyc_types::{CYCLICS, CyclicId, Level, Receipt, Refusal, Sent};
 use std::alloc::Global;
 use std::collections::VecDeque;
 use std::marker::Model;
@@ -44,6 +45,8 @@ pub struct Records {
     // Where there is one, both lists have room for it.
     spare: Option<Box<Record>>,
     alloc: Global,
+    // For the low bits of an id where `seek` found the last such one: right or not, it says where to look.
+    hints: [u16; CYCLICS as usize],
 }
 
 impl Model for Records {
@@ -91,6 +94,7 @@ impl Records {
             ids: VecDeque::new(alloc),
             spare: None,
             alloc,
+            hints: [0; CYCLICS as usize],
         }
     }
 
@@ -141,6 +145,50 @@ impl Records {
     {
         let (front, back) = self.ids.as_slices();
         find_in(front, back, id)
+    }
+
+    /// Whether the record of this id is at this place.
+    #[inline(always)]
+    fn is_at(&self, id: CyclicId, place: usize) -> bool
+        ensures there { OnTrue result ((r : Record) × IsRecord self.now.list place r × (r.id ≡ id)) }
+        ensures elsewhere { OnFalse result ((r : Record) → IsRecord self.now.list place r → r.id ≢ id) }
+    {
+        place < self.ids.len() && self.ids[place].id.number() == id.number()
+    }
+
+    /// As `find`, by two looks: as far from the first record as the id is above its id, and where `seek` found it last. None unless
+    /// it is at one of them. O(1).
+    #[inline(always)]
+    pub fn soon(&self, id: CyclicId) -> Option<usize>
+        ensures none { IfNone result ((first r : Record) → IsRecord self.now.list 0 first → first.id ≤ id
+            → IsRecord self.now.list (id - first.id) r → r.id ≢ id) }
+        ensures some { IfSome result (λ k. (r : Record) × IsRecord self.now.list k r × (r.id ≡ id)) }
+    {
+        let Some(first) = self.ids.front() else {
+            return None;
+        };
+        let guessed = id.number().wrapping_sub(first.id.number()) as usize;
+        if self.is_at(id, guessed) {
+            return Some(guessed);
+        }
+        let hinted = usize::from(self.hints[hint_of(id)]);
+        if self.is_at(id, hinted) {
+            return Some(hinted);
+        }
+        None
+    }
+
+    /// As `find`, and the next `soon` of this id finds it while no record before it goes and no other id has its hint.
+    #[cold]
+    #[inline(never)]
+    pub fn seek(&mut self, id: CyclicId) -> Option<usize>
+        ensures none { IfNone result (HasNoRecord id self.new.list) }
+        ensures some { IfSome result (λ k. (r : Record) × IsRecord self.new.list k r × (r.id ≡ id)) }
+        ensures same { self.new ≡ self.old }
+    {
+        let place = self.find(id)?;
+        self.hints[hint_of(id)] = place.min(usize::from(u16::MAX)) as u16;
+        Some(place)
     }
 
     /// The record at a place.

@@ -24,6 +24,7 @@ fn reprogram_at<R: Raise>(cpus: &mut Cpus<R>, number: u32, id: CyclicId, moment:
 
 impl<R: Raise> System<R> {
     ghost use Rattle.cyc_places.specs.declared.record.Record.{Record as TheRecord};
+    ghost use Rattle.cyc_places.specs.Places.{IsRecord};
     ghost use Rattle.cyc_agreement.specs.System.{has, is_omnipresent};
     ghost use Rattle.cyc_agreement.specs.Refusals.{IsPresent};
     ghost use Rattle.cyc_system.specs.Calls.{Changes, Reprogram, ReprogramOn};
@@ -35,9 +36,33 @@ impl<R: Raise> System<R> {
     pub fn reprogram(&mut self, id: CyclicId, moment: Moment) -> Result<(), Refusal>
         ensures { Changes R.Raise self.old (Reprogram id moment result) self.new }
     {
-        let Some(place) = self.present(id) else {
+        if let Some(place) = self.records.soon(id) {
+            return self.reprogram_found(id, place, moment);
+        }
+        self.reprogram_anew(id, moment)
+    }
+
+    /// As `reprogram`, of a cyclic that two looks at the records did not find: out of the way of one that they find.
+    #[cold]
+    #[inline(never)]
+    fn reprogram_anew(&mut self, id: CyclicId, moment: Moment) -> Result<(), Refusal>
+        ensures { Changes R.Raise self.old (Reprogram id moment result) self.new }
+    {
+        let Some(place) = self.seek(id) else {
             return Err(Refusal::NoCyclic);
         };
+        self.reprogram_found(id, place, moment)
+    }
+
+    /// As `reprogram`, of the cyclic of the record at this place.
+    #[inline(always)]
+    fn reprogram_found(&mut self, id: CyclicId, place: usize, moment: Moment) -> Result<(), Refusal>
+        requires { (r : TheRecord) × IsRecord self.old.records place r × (r.id ≡ id) }
+        ensures { Changes R.Raise self.old (Reprogram id moment result) self.new }
+    {
+        if !self.stays(id, place) {
+            return Err(Refusal::NoCyclic);
+        }
         match self.records.at(place).place {
             Placement::On { cpu, bound: _ } => {
                 reprogram_at(&mut self.cpus, cpu, id, moment);

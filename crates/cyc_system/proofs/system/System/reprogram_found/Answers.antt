@@ -9,30 +9,30 @@ use Rattle.cyc_agreement.proofs.Holding.{holds_same}
 use Rattle.cyc_agreement.proofs.Presence.{has_low, cyclic_here, not_leaving, present_clear, single_clear, omni_refused, at_home}
 use Rattle.cyc_agreement.proofs.Presence.{home_is}
 use Rattle.cyc_agreement.proofs.FirstReason.{passes, stops}
-use Rattle.cyc_system.proofs.system.System.reprogram.Goals as goal
+use Rattle.cyc_system.proofs.system.System.reprogram_found.Goals as goal
 
 pub reprogram_at-requires-clause-number : goal.reprogram_at-requires-clause-number
 reprogram_at-requires-clause-number g c =
-    let (r, p) = c.in-Some.ensures.some in
+    let (r, p) = c.if-not-stays.ensures.stays in
     let s = seen c.self.inside.cpus c.self.inside.records.list c.self.inside.last in
-    let q = subst (λ (x : SystemView _). IsPresent c.args.id c.in-Some.place r x) (sym c.self.view_is) p in
+    let q = subst (λ (x : SystemView _). IsPresent c.args.id c.args.place r x) (sym c.self.view_is) p in
     has_low c.self.inside.cpus c.in-On.cpu c.args.id
-    (at_home s c.self.invariant.0.agrees c.args.id c.in-Some.place r c.at.result.now q c.at.ensures c.in-On.cpu c.in-On.bound
+    (at_home s c.self.invariant.0.agrees c.args.id c.args.place r c.at.result.now q c.at.ensures c.in-On.cpu c.in-On.bound
     c.in-On.is)
 
 pub reprogram_at-requires-clause-here : goal.reprogram_at-requires-clause-here
 reprogram_at-requires-clause-here g c cpu at =
-    let (r, p) = c.in-Some.ensures.some in
+    let (r, p) = c.if-not-stays.ensures.stays in
     let s = seen c.self.inside.cpus c.self.inside.records.list c.self.inside.last in
-    let q = subst (λ (x : SystemView _). IsPresent c.args.id c.in-Some.place r x) (sym c.self.view_is) p in
+    let q = subst (λ (x : SystemView _). IsPresent c.args.id c.args.place r x) (sym c.self.view_is) p in
     cyclic_here c.self.inside.cpus c.in-On.cpu c.args.id cpu
-    (at_home s c.self.invariant.0.agrees c.args.id c.in-Some.place r c.at.result.now q c.at.ensures c.in-On.cpu c.in-On.bound
+    (at_home s c.self.invariant.0.agrees c.args.id c.args.place r c.at.result.now q c.at.ensures c.in-On.cpu c.in-On.bound
     c.in-On.is) at
 
 pub reprogram_at-requires-clause-still : goal.reprogram_at-requires-clause-still
 reprogram_at-requires-clause-still g c cpu at =
-    let (r, p) = c.in-Some.ensures.some in
-    let q = subst (λ (x : SystemView _). IsPresent c.args.id c.in-Some.place r x) (sym c.self.view_is) p in
+    let (r, p) = c.if-not-stays.ensures.stays in
+    let q = subst (λ (x : SystemView _). IsPresent c.args.id c.args.place r x) (sym c.self.view_is) p in
     not_leaving c.self.inside.cpus c.args.id q.still c.in-On.cpu cpu at
 
 pub invariant_of-self : goal.invariant_of-self
@@ -46,11 +46,11 @@ invariant_of-self g c = (
 
 pub returns-in-On : goal.returns-in-On
 returns-in-On g c =
-    let (r, p) = c.in-Some.ensures.some in
+    let (r, p) = c.if-not-stays.ensures.stays in
     let s = seen c.self.inside.cpus c.self.inside.records.list c.self.inside.last in
     let t = seen c.reprogram_at.new.cpus c.self.inside.records.list c.self.inside.last in
-    let q = subst (λ (x : SystemView _). IsPresent c.args.id c.in-Some.place r x) (sym c.self.view_is) p in
-    let a = c.self.invariant.0.agrees in let k = c.in-Some.place in let now = c.at.result.now in
+    let q = subst (λ (x : SystemView _). IsPresent c.args.id c.args.place r x) (sym c.self.view_is) p in
+    let a = c.self.invariant.0.agrees in let k = c.args.place in let now = c.at.result.now in
     subst (λ (x : SystemView _). Changes g.R.Raise x (Reprogram c.args.id c.args.moment (Ok tt)) t)
     c.self.view_is
     (inr (
@@ -65,10 +65,10 @@ returns-in-On g c =
 
 pub returns-in-Everywhere : goal.returns-in-Everywhere
 returns-in-Everywhere g c =
-    let (r, p) = c.in-Some.ensures.some in
+    let (r, p) = c.if-not-stays.ensures.stays in
     let s = seen c.self.inside.cpus c.self.inside.records.list c.self.inside.last in
-    let q = subst (λ (x : SystemView _). IsPresent c.args.id c.in-Some.place r x) (sym c.self.view_is) p in
-    let a = c.self.invariant.0.agrees in let k = c.in-Some.place in let now = c.at.result.now in
+    let q = subst (λ (x : SystemView _). IsPresent c.args.id c.args.place r x) (sym c.self.view_is) p in
+    let a = c.self.invariant.0.agrees in let k = c.args.place in let now = c.at.result.now in
     subst (λ (x : SystemView _). Changes g.R.Raise x (Reprogram c.args.id c.args.moment (Err Omnipresent)) x)
     c.self.view_is
     (inl (
