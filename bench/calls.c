@@ -1,6 +1,7 @@
 /* What a caller in C pays for a call: a timer that is armed again, cyclics that come and go, and expirations at high level.
  *
  *     calls again N same|turn|random [ROUNDS]     the same one, each in turn, any of N
+ *     calls apart N same|turn|random [ROUNDS]     the same of ids that are 7 apart, as on a CPU of several
  *     calls swing LOW HIGH PEAK [ROUNDS]          from LOW to HIGH cyclics and back, on a CPU that once had PEAK
  *     calls fire N PEAK [ROUNDS]                  N that are left of PEAK, of one interval
  *
@@ -15,6 +16,8 @@
 #define CALLS 20000
 
 static cyclic_cpu cpu = CYCLIC_CLOSED;
+/* from one id to the next */
+static uint64_t gap = 1;
 static uint64_t state = 88172645463325252ull;
 
 static uint64_t any(void)
@@ -57,23 +60,28 @@ static void remove_now(uint64_t id)
     check(cyclic_begin_remove(&cpu, id, &kept, &receipt, &busy));
 }
 
-/* The ids 1 to COUNT are there, on a CPU that had PEAK. */
+static uint64_t id_at(uint64_t place)
+{
+    return 1 + place * gap;
+}
+
+/* COUNT ids are there, on a CPU that had PEAK. */
 static void fill(uint64_t count, uint64_t peak)
 {
     uint64_t top = peak > count ? peak : count;
-    for (uint64_t id = 1; id <= top; id++)
-        add(id, START);
-    for (uint64_t id = top; id > count; id--)
-        remove_now(id);
+    for (uint64_t place = 0; place < top; place++)
+        add(id_at(place), START);
+    for (uint64_t place = top; place > count; place--)
+        remove_now(id_at(place - 1));
 }
 
 static long again(uint64_t count, char pattern)
 {
     static int64_t moment = START;
     for (long call = 0; call < CALLS; call++) {
-        uint64_t id = pattern == 's' ? count / 2 + 1 : pattern == 't' ? call % count + 1 : any() % count + 1;
+        uint64_t place = pattern == 's' ? count / 2 : pattern == 't' ? call % count : any() % count;
         moment += any() & 1023;
-        check(cyclic_reprogram(&cpu, id, moment));
+        check(cyclic_reprogram(&cpu, id_at(place), moment));
     }
     return CALLS;
 }
@@ -121,6 +129,7 @@ int main(int count, char **words)
     uint64_t first = strtoull(words[2], NULL, 10), peak = strtoull(words[is_swing ? 4 : 3], NULL, 10);
     int rounds = count > 4 + is_swing ? atoi(words[4 + is_swing]) : 15;
     double least = 1e18;
+    gap = strcmp(job, "apart") == 0 ? 7 : 1;
     check(cyclic_cpu_open(UINT32_MAX, UINT64_MAX, &cpu));
     fill(first, is_swing || is_fire ? peak : 0);
     for (int round = 0; round < rounds; round++) {
