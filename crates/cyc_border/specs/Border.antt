@@ -1,5 +1,5 @@
 -- What each call over the border does to the CPU behind the handle.
-use Rattle.std.specs.Prelude.{◌≡◌, ℕ, ◌<◌, ◌≤◌, ◌⊎◌, pos, ◌<ℤ◌, ◌≤ℤ◌, ℤ, Option, Some, None, Result, Ok, Err}
+use Rattle.std.specs.Prelude.{◌≡◌, ℕ, ◌<◌, ◌⊎◌, pos, ◌<ℤ◌, ◌≤ℤ◌, ℤ, Option, Some, None, Result, Ok, Err}
 use Rattle.cyc_types.specs.declared.Raise.{Ghosts as Raise}
 use Rattle.cyc_level.specs.Lawful.{IsId}
 use Rattle.cyc_types.specs.declared.level.Soft.{Soft}
@@ -15,6 +15,7 @@ use Rattle.cyc_cpu.specs.declared.removing.Removal.{Removal}
 use Rattle.cyc_cpu.specs.Cpu.{CpuView, running}
 use Rattle.cyc_cpu.specs.Calls.{Changes, Does, Add, Reprogram, AskPending, AskTotals, BeginRemove, Fire, SoftInterrupt}
 use Rattle.cyc_cpu.specs.Calls.{no_interrupts}
+use Rattle.cyc_cpu.specs.Removal.{HasCyclic}
 use Rattle.cyc_cpu.specs.Soft.{raise_tables, Interrupts}
 use Rattle.cyc_border.specs.Granted.{granted_calls}
 use Rattle.cyc_border.specs.Numbers.{number_of, level_named}
@@ -103,9 +104,9 @@ module _ {R : Type 0} (firing : Raise R) where
   BeginsRemoval id answer v w = ((IsId id → ⊥) × Denies (Refused why.NoCyclic) answer v w)
       ⊎ ((given : Result Removal Refusal) × (answer ≡ denied_of given) × Changes firing v (BeginRemove id given) w)
 
-  -- an add: a cyclic here has the id, or it is an add of the CPU
+  -- an add: a cyclic here has the id and nothing is done, or it is an add of the CPU
   abbrev pub AddsAsked : Asked → Result (Unit {0}) Denied → CpuView R → CpuView R → Type 0
-  AddsAsked a answer v w = ((n : ℕ) × (answer ≡ Err Taken) × Changes firing v (AskPending a.id (Some n)) w)
+  AddsAsked a answer v w = (HasCyclic a.id v.cyclics × (answer ≡ Err Taken) × (w ≡ v))
       ⊎ ((given : Result (Unit {0}) Refusal) × (answer ≡ denied_of given)
       × Changes firing v (Add a.id a.level a.when a.now given) w)
 

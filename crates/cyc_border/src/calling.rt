@@ -79,7 +79,7 @@ fn read_asked(id: u64, level: u32, start: i64, interval: i64, now: i64) -> Resul
 fn add_asked<R: Raise>(cpu: &mut Hard<R>, asked: Asked) -> Result<(), Denied>
     ensures { AddsAsked R.Raise asked result cpu.old cpu.new }
 {
-    if cpu.pending(asked.id).is_some() {
+    if cpu.has(asked.id) {
         return Err(Denied::Taken);
     }
     cpu.add(asked.id, asked.level, asked.when, asked.now)?;

@@ -1,5 +1,5 @@
 -- The soft interrupt of one level of a CPU whose levels no other thread uses.
-use Rattle.std.specs.Prelude.{◌≡◌, ℕ, List, [], Option, Result}
+use Rattle.std.specs.Prelude.{◌≡◌, ℕ, [], Option, Result}
 use Rattle.cyc_types.specs.declared.Calls.{Ghosts as Calls}
 use Rattle.cyc_types.specs.declared.Drain.{Ghosts as Drain}
 use Rattle.cyc_types.specs.declared.Raise.{Ghosts as Raise}

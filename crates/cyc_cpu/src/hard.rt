@@ -1,7 +1,7 @@
 //! The firing side of one CPU: opening it, taking memory, growing, adding and firing.
 
 ghost use Rattle.std.specs.Prelude.{◌≡◌, ◌≢◌, ℕ, ◌+◌, ◌<◌, ◌≤◌, ◌++◌, ◌∷◌, [], List, All, length, slice_set, None, Some, IfOk};
-ghost use Rattle.std.specs.Prelude.{IfErr, OnOk, OnErr, IfNone, IfSome, ◌⊎◌};
+ghost use Rattle.std.specs.Prelude.{IfErr, Ok, OnOk, OnErr, IfNone, IfSome, ◌⊎◌};
 ghost use Rattle.std.specs.Bool.{OnTrue, OnFalse};
 ghost use Rattle.cyc_types.specs.Limits.{cyclics};
 ghost use Rattle.cyc_types.specs.declared.level.Level.TheVariants.{Low, Lock};
@@ -12,7 +12,7 @@ ghost use Rattle.cyc_types.specs.Expirations.{Expiration, expirations};
 ghost use Rattle.cyc_timers.specs.Rows.{Cyclic, timers};
 ghost use Rattle.cyc_cpu.specs.Laws.{IsLawful};
 ghost use Rattle.cyc_cpu.specs.Losses.{IsSparedAt};
-ghost use Rattle.cyc_cpu.specs.Cpu.{running, seen_at, IsFresh, HasNoCyclic, Asks, MayWiden, Places, new_cyclic};
+ghost use Rattle.cyc_cpu.specs.Cpu.{running, seen_at, IsCyclic, IsFresh, HasNoCyclic, Asks, MayWiden, Places, new_cyclic};
 ghost use Rattle.cyc_cpu.specs.Calls.{Changes, Does, no_interrupts, Fire, Add, Reprogram, AskPending, AskTotals, AskRoom};
 ghost use Rattle.cyc_cpu.specs.Calls.{Reserve, Widen};
 
@@ -177,7 +177,7 @@ impl<R: Raise> Hard<R> {
             return Err(Refusal::NoCyclic);
         }
         if let Some(place) = self.table.soon(id) {
-            self.table.reprogram(place, moment);
+            self.reprogram_found(id, place, moment);
             return Ok(());
         }
         self.reprogram_anew(id, moment)
@@ -192,11 +192,21 @@ impl<R: Raise> Hard<R> {
     {
         match self.table.seek(id) {
             Some(place) => {
-                self.table.reprogram(place, moment);
+                self.reprogram_found(id, place, moment);
                 Ok(())
             }
             None => Err(Refusal::NoCyclic),
         }
+    }
+
+    /// As `reprogram`, of the cyclic at this place, whose removal is not open.
+    #[inline(always)]
+    fn reprogram_found(&mut self, id: CyclicId, place: usize, moment: Moment)
+        requires here { (c : Cyclic) × IsCyclic self.old.cyclics place c × (c.timer.id ≡ id) }
+        requires still { self.old.removal ≢ Some id }
+        ensures { Changes R.Raise self.old (Reprogram id moment (Ok tt)) self.new }
+    {
+        self.table.reprogram(place, moment);
     }
 
     /// The calls of the cyclic that are outstanding, 0 at high level. None where the id is not here. Takes no memory.

@@ -2,6 +2,7 @@
 
 ghost use Rattle.std.specs.Prelude.{◌≡◌, ◌≢◌, ℕ, ◌+◌, ◌-◌, ◌<◌, ◌≤◌, max, length, slice_index_or, slice_set, Some, None, IfOk};
 ghost use Rattle.std.specs.Prelude.{IfErr, OnOk, OnErr, IfNone, IfSome, All, [], insert, remove};
+ghost use Rattle.std.specs.Bool.{OnTrue, OnFalse};
 ghost use Rattle.cyc_types.specs.Limits.{cyclics};
 ghost use Rattle.cyc_types.specs.Series.{never};
 ghost use Rattle.cyc_types.specs.Timers.{IsSound};
@@ -149,6 +150,18 @@ impl Table {
         ensures some { IfSome result (λ k. (r : Row) × IsRow self.now.rows k r × (r.timer.id ≡ id)) }
     {
         search(&self.entries, id).ok()
+    }
+
+    /// Whether a cyclic of this id is here. O(1) where the id is above all others, as that of a new cyclic mostly is, else O(log n). Takes
+    /// no memory.
+    pub fn has(&self, id: CyclicId) -> bool
+        ensures here { OnTrue result ((k : ℕ) × (r : Row) × IsRow self.now.rows k r × (r.timer.id ≡ id)) }
+        ensures none { OnFalse result (HasNo id self.now.rows) }
+    {
+        match search_new(&self.entries, id) {
+            Ok(_position) => true,
+            Err(_position) => false,
+        }
     }
 
     /// As `find`, by two looks: as far from the first id as this is above it, and where it was found last. None unless it stands at one
