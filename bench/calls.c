@@ -1,9 +1,9 @@
 /* What a caller in C pays for a call: a timer that is armed again, cyclics that come and go, and expirations at high level.
  *
- *     calls again N same|turn|random [ROUNDS]     the same one, each in turn, any of N
- *     calls apart N same|turn|random [ROUNDS]     the same of ids that are 7 apart, as on a CPU of several
- *     calls swing LOW HIGH PEAK [ROUNDS]          from LOW to HIGH cyclics and back, on a CPU that once had PEAK
- *     calls fire N PEAK [ROUNDS]                  N that are left of PEAK, of one interval
+ *     calls again N same|last|turn|random [ROUNDS]     the one in the middle, the last one, each in turn, any of N
+ *     calls apart N same|last|turn|random [ROUNDS]     the same of ids that are 7 apart, as on a CPU of several
+ *     calls swing LOW HIGH PEAK [ROUNDS]               from LOW to HIGH cyclics and back, on a CPU that once had PEAK
+ *     calls fire N PEAK [ROUNDS]                       N that are left of PEAK, of one interval
  *
  * It prints the nanoseconds of a call, the least of the rounds: 15 where no number is given. */
 #include "cyclic.h"
@@ -75,11 +75,21 @@ static void fill(uint64_t count, uint64_t peak)
         remove_now(id_at(place - 1));
 }
 
+static uint64_t place_of(char pattern, long call, uint64_t count)
+{
+    switch (pattern) {
+    case 's': return count / 2;
+    case 'l': return count - 1;
+    case 't': return call % count;
+    default: return any() % count;
+    }
+}
+
 static long again(uint64_t count, char pattern)
 {
     static int64_t moment = START;
     for (long call = 0; call < CALLS; call++) {
-        uint64_t place = pattern == 's' ? count / 2 : pattern == 't' ? call % count : any() % count;
+        uint64_t place = place_of(pattern, call, count);
         moment += any() & 1023;
         check(cyclic_reprogram(&cpu, id_at(place), moment));
     }
