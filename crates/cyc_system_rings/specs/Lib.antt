@@ -2,6 +2,8 @@ pub mod Beginning
 pub mod ByLevel
 pub mod Leading
 pub mod Rings
+pub mod Events
+pub mod Empty
 pub use Rattle.cyc_system_laws.specs.System
 pub use Rattle.cyc_system_laws.specs.Counts
 pub use Rattle.cyc_system_laws.specs.SystemCalls as Calls
@@ -22,3 +24,7 @@ pub use Rattle.cyc_system_workers.specs.Adding
 pub use Rattle.cyc_system_laws.specs.Removing
 pub use Rattle.cyc_system_workers.specs.Binding
 pub use Rattle.cyc_system_laws.specs.Counting
+pub use Rattle.cyc_agreement.specs.declared.turning.Turn
+pub use Rattle.cyc_agreement.specs.Juggling
+pub use Rattle.cyc_agreement.specs.Omni
+pub use Rattle.cyc_agreement.specs.Online

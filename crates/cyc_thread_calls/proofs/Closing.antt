@@ -23,11 +23,11 @@ use Rattle.cyc_threads.specs.Serving.{HasServed}
 use Rattle.cyc_threads.specs.Seats.{Seats}
 use Rattle.cyc_threads.specs.SystemSide.{SystemSide}
 use Rattle.cyc_threads.specs.Sound.{IsSound}
-use Rattle.cyc_system_expected.specs.Leading.{LeadCall, Make, FireAll, AskAll, LeadSteps}
-use Rattle.cyc_system_expected.specs.Rings.{AreClosed, IsClosedOver, counted_by}
-use Rattle.cyc_system_expected.specs.ByLevel.{counts_at, made_at, rings_of, AreServed, LeadsFromNew, HasNewEnds}
-use Rattle.cyc_system_expected.proofs.AtRings.{at_level as each_level, high_keeps, made_of, served_of}
-use Rattle.cyc_system_expected.specs.Events.{AcceptedSteps}
+use Rattle.cyc_system_rings.specs.Leading.{LeadCall, Make, FireAll, AskAll, LeadSteps}
+use Rattle.cyc_system_rings.specs.Rings.{AreClosed, IsClosedOver, counted_by}
+use Rattle.cyc_system_rings.specs.ByLevel.{counts_at, made_at, rings_of, AreServed, LeadsFromNew, HasNewEnds}
+use Rattle.cyc_system_rings.proofs.AtRings.{at_level as each_level, high_keeps, made_of, served_of}
+use Rattle.cyc_system_rings.specs.Events.{AcceptedSteps}
 use Rattle.cyc_threads.specs.Levels.{Levels}
 use Rattle.cyc_threads.specs.Seated.{Seated}
 use Rattle.cyc_threads.specs.Laid.{two}

@@ -15,10 +15,10 @@ use Rattle.cyc_ring.specs.Ends.{raise_end}
 use Rattle.cyc_threads.proofs.Spots.{same_some}
 use Rattle.cyc_script.specs.declared.script.Script.{Script}
 use Rattle.cyc_threads.specs.System.{SystemView}
-use Rattle.cyc_system_expected.specs.Leading.{LeadCall}
-use Rattle.cyc_system_expected.specs.Rings.{counts_in}
-use Rattle.cyc_system_expected.specs.ByLevel.{level_in, counts_at, is_own}
-use Rattle.cyc_system_expected.proofs.AtRings.{high_keeps, none_given}
+use Rattle.cyc_system_rings.specs.Leading.{LeadCall}
+use Rattle.cyc_system_rings.specs.Rings.{counts_in}
+use Rattle.cyc_system_rings.specs.ByLevel.{level_in, counts_at, is_own}
+use Rattle.cyc_system_rings.proofs.AtRings.{high_keeps, none_given}
 use Rattle.cyc_threads.specs.declared.counting.Line.{Line}
 use Rattle.cyc_threads.specs.declared.running.Ended.{Ended}
 use Rattle.cyc_threads.specs.Reporting.{counts_of}

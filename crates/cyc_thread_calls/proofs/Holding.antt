@@ -7,8 +7,8 @@ use mathlib.Core.Logic.{dite}
 use native.Mathlib.Decide.{ℕ_discrete}
 use Rattle.cyc_types.specs.declared.receipt.Receipt.{Receipt}
 use Rattle.cyc_threads.proofs.Spots.{same_some, none_some}
-use Rattle.cyc_system_expected.specs.Leading.{LeadCall}
-use Rattle.cyc_system_expected.specs.Rings.{receipt_of, receipt_in, first_of}
+use Rattle.cyc_system_rings.specs.Leading.{LeadCall}
+use Rattle.cyc_system_rings.specs.Rings.{receipt_of, receipt_in, first_of}
 use Rattle.cyc_threads.specs.declared.named.Named.{Named}
 use Rattle.cyc_threads.specs.declared.named.Named.TheVariants.{Nothing, Cyclic, Leaving, Removed}
 use Rattle.cyc_threads.specs.Names.{named_at, id_of}

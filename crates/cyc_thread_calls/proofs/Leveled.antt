@@ -14,10 +14,10 @@ use Rattle.cyc_script.specs.WellFormed.{name_fits, names_after, names_fit}
 use Rattle.cyc_threads.specs.Calls.{Changes, Add, AddOmni}
 use Rattle.cyc_threads.proofs.Pieces.{made_of}
 use Rattle.cyc_threads.specs.SystemSide.{SystemSide}
-use Rattle.cyc_system_expected.specs.Leading.{LeadCall, Make, FireAll, AskAll}
-use Rattle.cyc_system_expected.specs.Rings.{first_of}
-use Rattle.cyc_system_expected.specs.ByLevel.{level_given, level_in}
-use Rattle.cyc_system_expected.specs.Events.{AcceptedSteps}
+use Rattle.cyc_system_rings.specs.Leading.{LeadCall, Make, FireAll, AskAll}
+use Rattle.cyc_system_rings.specs.Rings.{first_of}
+use Rattle.cyc_system_rings.specs.ByLevel.{level_given, level_in}
+use Rattle.cyc_system_rings.specs.Events.{AcceptedSteps}
 use Rattle.cyc_threads.specs.declared.progress.Progress.{Progress}
 use Rattle.cyc_threads.specs.StepCalls.{Poll}
 use Rattle.cyc_threads.specs.Words.{Does, Begins, waits_first}

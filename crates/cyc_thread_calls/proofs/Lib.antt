@@ -15,14 +15,14 @@ pub mod Worded
 pub mod Owning
 pub mod Polled
 pub mod Stood
-pub use Rattle.cyc_system_expected.proofs.WholeRun
+pub use Rattle.cyc_system_rings.proofs.WholeRun
 pub use Rattle.cyc_threads.proofs.Lists
 pub use Rattle.cyc_threads.proofs.Spots
 pub use Rattle.cyc_threads.proofs.Pieces
-pub use Rattle.cyc_system_expected.proofs.Singles
+pub use Rattle.cyc_system_rings.proofs.Singles
 pub use Rattle.cyc_threads.proofs.Recording
 pub use Rattle.cyc_threads.proofs.Looked
-pub use Rattle.cyc_system_expected.proofs.Raising
+pub use Rattle.cyc_system_rings.proofs.Raising
 pub use Rattle.cyc_threads.proofs.Folds
 pub use Rattle.cyc_threads.proofs.Staying
 pub use Rattle.cyc_threads.proofs.Presence

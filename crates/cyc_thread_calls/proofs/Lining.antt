@@ -12,8 +12,8 @@ use Rattle.cyc_ring.specs.declared.ends.RaiseEnd.{RaiseEnd}
 use Rattle.cyc_script.specs.declared.step.Step.{Step}
 use Rattle.cyc_threads.specs.System.{SystemView}
 use Rattle.cyc_threads.specs.Counts.{all_expired, all_lost}
-use Rattle.cyc_system_expected.specs.Leading.{LeadCall}
-use Rattle.cyc_system_expected.specs.Rings.{receipt_in}
+use Rattle.cyc_system_rings.specs.Leading.{LeadCall}
+use Rattle.cyc_system_rings.specs.Rings.{receipt_in}
 use Rattle.cyc_threads.specs.Sound.{IsSound}
 use Rattle.cyc_threads.specs.declared.named.Named.{Named}
 use Rattle.cyc_threads.specs.declared.named.Named.TheVariants.{Nothing, Cyclic, Leaving, Removed}

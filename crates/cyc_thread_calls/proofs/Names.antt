@@ -19,8 +19,8 @@ use Rattle.cyc_threads.specs.SystemRemoval.{SystemRemoval}
 use Rattle.cyc_threads.specs.SystemRemoval.TheVariants.{Done, Kept}
 use Rattle.cyc_threads.specs.Calls.{SystemCall, Changes, Add, AddOmni, Bind, BeginRemove, PollRemove, reprograms}
 use Rattle.cyc_threads.proofs.Pieces.{made_of}
-use Rattle.cyc_system_expected.specs.Leading.{LeadCall, Make, FireAll, AskAll}
-use Rattle.cyc_system_expected.specs.Rings.{receipt_of, first_of}
+use Rattle.cyc_system_rings.specs.Leading.{LeadCall, Make, FireAll, AskAll}
+use Rattle.cyc_system_rings.specs.Rings.{receipt_of, first_of}
 use Rattle.cyc_threads.specs.declared.named.Named.{Named}
 use Rattle.cyc_threads.specs.declared.named.Named.TheVariants.{Nothing, Cyclic, Leaving, Removed}
 use Rattle.cyc_threads.specs.declared.progress.Progress.{Progress}

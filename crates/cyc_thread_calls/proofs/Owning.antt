@@ -15,9 +15,9 @@ use Rattle.cyc_script.specs.declared.step.Step.TheVariants as steps
 use Rattle.cyc_script.specs.WellFormed.{name_fits, names_after, names_fit, names_after_all}
 use Rattle.cyc_threads.specs.SystemRemoval.{SystemRemoval}
 use Rattle.cyc_threads.specs.Calls.{SystemCall, Bind, BeginRemove, reprograms}
-use Rattle.cyc_system_expected.specs.Leading.{LeadCall, Make}
-use Rattle.cyc_system_expected.specs.Rings.{first_of}
-use Rattle.cyc_system_expected.specs.ByLevel.{level_given, level_in}
+use Rattle.cyc_system_rings.specs.Leading.{LeadCall, Make}
+use Rattle.cyc_system_rings.specs.Rings.{first_of}
+use Rattle.cyc_system_rings.specs.ByLevel.{level_given, level_in}
 use Rattle.cyc_threads.specs.declared.progress.Progress.{Progress}
 use Rattle.cyc_threads.specs.StepCalls.{CallsFor}
 use Rattle.cyc_threads.specs.Names.{named_at, id_of}

@@ -40,12 +40,12 @@ use Rattle.cyc_threads.specs.Words.{WithId, Does, Begins, waits_first}
 use Rattle.cyc_threads.specs.Steps.{TakesSteps, Runs}
 use Rattle.cyc_threads.specs.declared.running.Ended.{Ended}
 use Rattle.cyc_threads.specs.Running.{HasRun}
-use Rattle.cyc_system_expected.specs.Leading.{LeadCall, Make, AskAll}
-use Rattle.cyc_system_expected.specs.Events.{AcceptedSteps}
-use Rattle.cyc_system_expected.proofs.Singles.{ok_err}
-use Rattle.cyc_system_expected.proofs.Runs.{sound_after, step_ready, refused_begin}
-use Rattle.cyc_system_expected.proofs.Quiet.{IsQuiet, is_open, quiet_untouched, quiet_begun, quiet_polled}
-use Rattle.cyc_system_expected.proofs.Firing.{quiet_fired, fired_removal}
+use Rattle.cyc_system_rings.specs.Leading.{LeadCall, Make, AskAll}
+use Rattle.cyc_system_rings.specs.Events.{AcceptedSteps}
+use Rattle.cyc_system_rings.proofs.Singles.{ok_err}
+use Rattle.cyc_system_rings.proofs.Runs.{sound_after, step_ready, refused_begin}
+use Rattle.cyc_system_rings.proofs.Quiet.{IsQuiet, is_open, quiet_untouched, quiet_begun, quiet_polled}
+use Rattle.cyc_system_rings.proofs.Firing.{quiet_fired, fired_removal}
 use Rattle.cyc_thread_calls.specs.Answering.{IsAnswered}
 use Rattle.cyc_thread_calls.specs.Calling.{lead_calls}
 use Rattle.cyc_thread_calls.specs.Giving.{given_in, later_id}

@@ -13,10 +13,10 @@ use Rattle.cyc_cpu.specs.Cpu.{CpuView}
 use Rattle.cyc_threads.proofs.Sums.{sum_none, one_of_sum}
 use Rattle.cyc_script.specs.declared.script.Script.{Script}
 use Rattle.cyc_threads.specs.System.{SystemView}
-use Rattle.cyc_system_expected.specs.Leading.{LeadCall}
-use Rattle.cyc_system_expected.specs.Rings.{counts_in}
-use Rattle.cyc_system_expected.specs.ByLevel.{level_in, counts_at}
-use Rattle.cyc_system_expected.proofs.AtRings.{at_level, high_keeps, none_given}
+use Rattle.cyc_system_rings.specs.Leading.{LeadCall}
+use Rattle.cyc_system_rings.specs.Rings.{counts_in}
+use Rattle.cyc_system_rings.specs.ByLevel.{level_in, counts_at}
+use Rattle.cyc_system_rings.proofs.AtRings.{at_level, high_keeps, none_given}
 use Rattle.cyc_threads.specs.declared.counting.Line.{Line}
 use Rattle.cyc_threads.specs.declared.running.Ended.{Ended}
 use Rattle.cyc_threads.specs.Running.{HasRun}

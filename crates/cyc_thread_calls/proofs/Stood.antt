@@ -27,7 +27,7 @@ use Rattle.cyc_ring.specs.declared.seats.RaiseSeat.{RaiseSeat}
 use Rattle.cyc_ring.specs.declared.seats.DrainSeat.{DrainSeat}
 use Rattle.cyc_ring.specs.Ends.{IsOrderOf}
 use Rattle.cyc_script.specs.declared.script.Script.{Script}
-use Rattle.cyc_system_expected.specs.ByLevel.{rings_of}
+use Rattle.cyc_system_rings.specs.ByLevel.{rings_of}
 use Rattle.cyc_threads.specs.Seats.{Seats}
 use Rattle.cyc_threads.specs.Levels.{Levels}
 use Rattle.cyc_threads.specs.Seated.{Seated}

@@ -4,7 +4,7 @@ use Rattle.std.specs.Prelude.{true}
 use Rattle.std.specs.List.{slice_get, FoldsTo}
 use Rattle.cyc_types.specs.declared.Calls.{Ghosts as Calls}
 use Rattle.cyc_types.specs.declared.Raise.{Ghosts as Raise}
-use Rattle.cyc_system_expected.specs.Rings.{first_of}
+use Rattle.cyc_system_rings.specs.Rings.{first_of}
 use Rattle.cyc_threads.specs.declared.named.Named.{Named}
 use Rattle.cyc_threads.specs.declared.named.Named.TheVariants.{Nothing, Cyclic, Leaving, Removed}
 use Rattle.cyc_threads.specs.declared.progress.Progress.{Progress}
@@ -13,8 +13,8 @@ use Rattle.cyc_thread_calls.proofs.Owning.{steps_named}
 use Rattle.cyc_types.specs.declared.level.Level.{Level}
 use Rattle.cyc_ring.specs.Ends.{raise_end}
 use Rattle.cyc_script.specs.declared.script.Script.{Script}
-use Rattle.cyc_system_expected.specs.Leading.{LeadCall}
-use Rattle.cyc_system_expected.specs.ByLevel.{level_in}
+use Rattle.cyc_system_rings.specs.Leading.{LeadCall}
+use Rattle.cyc_system_rings.specs.ByLevel.{level_in}
 use Rattle.cyc_threads.specs.declared.counting.Line.{Line}
 use Rattle.cyc_threads.specs.Steps.{Runs}
 use Rattle.cyc_threads.specs.declared.running.Ended.{Ended}

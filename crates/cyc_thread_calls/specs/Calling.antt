@@ -7,7 +7,7 @@ use Rattle.cyc_ring.specs.declared.ends.RaiseEnd.{RaiseEnd}
 use Rattle.cyc_ring.specs.Ends.{raise_end}
 use Rattle.cyc_script.specs.declared.script.Script.{Script}
 use Rattle.cyc_threads.specs.System.{SystemView}
-use Rattle.cyc_system_expected.specs.Leading.{LeadCall}
+use Rattle.cyc_system_rings.specs.Leading.{LeadCall}
 use Rattle.cyc_threads.specs.Handlers.{Handlers}
 use Rattle.cyc_threads.specs.Seated.{Seated}
 use Rattle.cyc_threads.specs.declared.running.Ended.{Ended}

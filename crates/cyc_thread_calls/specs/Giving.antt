@@ -6,7 +6,7 @@ use Rattle.cyc_types.specs.declared.Raise.{Ghosts as Raise}
 use Rattle.cyc_script.specs.declared.step.Step.{Step}
 use Rattle.cyc_script.specs.declared.step.Step.TheVariants as steps
 use Rattle.cyc_threads.specs.Calls.{Add, AddOmni}
-use Rattle.cyc_system_expected.specs.Leading.{LeadCall, Make}
+use Rattle.cyc_system_rings.specs.Leading.{LeadCall, Make}
 use Rattle.cyc_threads.specs.declared.progress.Progress.{Progress}
 use Rattle.cyc_threads.specs.Words.{TakesStep}
 use Rattle.cyc_threads.specs.Steps.{TakesSteps, Runs}

@@ -3,7 +3,7 @@ use Rattle.std.specs.Prelude.{ℕ, ◌==◌, cond, List, [], ◌∷◌, Option, 
 use Rattle.cyc_types.specs.declared.level.Level.{Level}
 use Rattle.cyc_script.specs.declared.step.Step.{Step}
 use Rattle.cyc_script.specs.declared.step.Step.TheVariants.{Add, Omni}
-use Rattle.cyc_system_expected.specs.Rings.{first_of}
+use Rattle.cyc_system_rings.specs.Rings.{first_of}
 
 -- the level with which a word introduces a name
 abbrev pub level_by : ℕ → Step → Option Level

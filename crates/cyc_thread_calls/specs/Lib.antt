@@ -10,14 +10,14 @@ pub use Rattle.cyc_threads.specs.declared.counting.Line
 pub use Rattle.cyc_threads.specs.declared.running.Ended
 pub use Rattle.cyc_threads.specs.Reporting
 pub use Rattle.cyc_threads.specs.Running
-pub use Rattle.cyc_system_expected.specs.Events
+pub use Rattle.cyc_system_rings.specs.Events
 pub use Rattle.cyc_threads.specs.declared.named.Named
 pub use Rattle.cyc_threads.specs.declared.progress.Progress
 pub use Rattle.cyc_threads.specs.Steps
 pub use Rattle.cyc_threads.specs.Counting
 pub use Rattle.cyc_threads.specs.SystemRemoval
 pub use Rattle.cyc_threads.specs.Calls
-pub use Rattle.cyc_system_expected.specs.Leading as SystemRingsLeading
+pub use Rattle.cyc_system_rings.specs.Leading as SystemRingsLeading
 pub use Rattle.cyc_threads.specs.Names
 pub use Rattle.cyc_threads.specs.StepCalls
 pub use Rattle.cyc_threads.specs.Words
@@ -25,21 +25,21 @@ pub use Rattle.cyc_threads.specs.Sound
 pub use Rattle.cyc_threads.specs.Seated
 pub use Rattle.cyc_threads.specs.Rings
 pub use Rattle.cyc_threads.specs.System
-pub use Rattle.cyc_system_expected.specs.Beginning
+pub use Rattle.cyc_system_rings.specs.Empty
 pub use Rattle.cyc_threads.specs.Keeping
 pub use Rattle.cyc_threads.specs.Adding
 pub use Rattle.cyc_threads.specs.Binding
 pub use Rattle.cyc_threads.specs.Removing
 pub use Rattle.cyc_threads.specs.Polling
-pub use Rattle.cyc_system_expected.specs.Turn
-pub use Rattle.cyc_system_expected.specs.Juggling
-pub use Rattle.cyc_system_expected.specs.Omni
+pub use Rattle.cyc_system_rings.specs.Turn
+pub use Rattle.cyc_system_rings.specs.Juggling
+pub use Rattle.cyc_system_rings.specs.Omni
 pub use Rattle.cyc_threads.specs.Settled
 pub use Rattle.cyc_timers.specs.Rows
 pub use Rattle.cyc_threads.specs.CpuLawsSettled
 pub use Rattle.cyc_threads.specs.Refusals
 pub use Rattle.cyc_threads.specs.Lead
-pub use Rattle.cyc_system_expected.specs.Online
+pub use Rattle.cyc_system_rings.specs.Online
 pub use Rattle.cyc_threads.specs.SystemSide
 pub use Rattle.cyc_threads.specs.Advanced
 pub use Rattle.cyc_threads.specs.Advancing

@@ -9,7 +9,7 @@ use Rattle.cyc_script.specs.declared.step.Step.TheVariants.{Softint}
 use Rattle.cyc_expected.specs.Expected.{Met}
 use Rattle.cyc_threads.specs.Calls.{SystemCall, Add, AddOmni, Bind, BeginRemove, PollRemove, AskTotals, Reprogram, ReprogramOn}
 use Rattle.cyc_threads.specs.Calls.{Juggle, Offline, Online, FireOne, SoftInterrupt}
-use Rattle.cyc_system_expected.specs.Leading.{LeadCall, Make, FireAll, AskAll}
+use Rattle.cyc_system_rings.specs.Leading.{LeadCall, Make, FireAll, AskAll}
 use Rattle.cyc_threads.specs.declared.progress.Progress.{Progress}
 use Rattle.cyc_threads.specs.Words.{Does}
 use Rattle.cyc_threads.specs.Steps.{TakesSteps, Runs}

@@ -10,7 +10,7 @@ use Rattle.ring_rule.specs.Trail.{open_stay, raises_of, losses_of, made_calls}
 use Rattle.ring_rule.specs.Log.{RingStep, raise_side, drain_side, replay}
 use Rattle.cyc_ring.specs.declared.closed.Closed.{Closed}
 use Rattle.cyc_ring.specs.Ends.{IsOrderOf}
-use Rattle.cyc_system_expected.specs.ByLevel.{rings_of}
+use Rattle.cyc_system_rings.specs.ByLevel.{rings_of}
 use Rattle.cyc_threads.specs.Seats.{Seats}
 use Rattle.cyc_threads.specs.Seated.{Seated}
 

@@ -5,7 +5,7 @@ ghost use Rattle.cyc_types.specs.Levels.{as_level};
 ghost use Rattle.cyc_types.specs.declared.level.Level.{Level as OneLevel};
 ghost use Rattle.cyc_types.specs.declared.level.Soft.{Soft as SoftLevel};
 ghost use Rattle.cyc_script.specs.declared.script.Script.{Script as OneScript};
-ghost use Rattle.cyc_system_expected.specs.ByLevel.{counts_at, made_at};
+ghost use Rattle.cyc_system_rings.specs.ByLevel.{counts_at, made_at};
 ghost use Rattle.cyc_threads.specs.declared.running.Ended.{Ended as Ends};
 ghost use Rattle.cyc_threads.specs.Running.{HasRun};
 ghost use Rattle.cyc_thread_calls.specs.Calling.{calls_at, lead_calls, last_system};

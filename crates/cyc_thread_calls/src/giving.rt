@@ -8,7 +8,7 @@ ghost use Rattle.cyc_threads.specs.Steps.{Runs};
 ghost use Rattle.cyc_thread_calls.specs.Giving.{id_given};
 ghost use Rattle.cyc_types.specs.declared.level.Level.{Level as OneLevel};
 ghost use Rattle.cyc_script.specs.declared.script.Script.{Script as OneScript};
-ghost use Rattle.cyc_system_expected.specs.ByLevel.{level_in};
+ghost use Rattle.cyc_system_rings.specs.ByLevel.{level_in};
 ghost use Rattle.cyc_threads.specs.declared.running.Ended.{Ended as Ends};
 ghost use Rattle.cyc_threads.specs.Running.{HasRun};
 ghost use Rattle.cyc_thread_calls.specs.Calling.{lead_calls, id_of_name};

@@ -18,7 +18,7 @@ use Rattle.cyc_thread_calls.specs.Meeting.{way_of}
 use Rattle.cyc_thread_calls.specs.Giving.{id_given}
 use Rattle.cyc_thread_calls.specs.Lines.{line_in}
 use Rattle.cyc_thread_calls.proofs.Going.{all_go}
-use Rattle.cyc_thread_calls.specs.Beginning.{IsEmpty}
+use Rattle.cyc_thread_calls.specs.Empty.{IsEmpty}
 use Rattle.cyc_thread_calls.proofs.WholeRun.{whole_run}
 use Rattle.cyc_thread_expected.proofs.Early.{all_early}
 use Rattle.cyc_thread_expected.proofs.Said.{calls_tell, unnamed_tells}

@@ -1,3 +1,0 @@
-pub mod Way
-pub mod Told
-pub mod Expired

@@ -1,9 +1,0 @@
-pub mod Events
-pub mod Beginning
-pub use Rattle.cyc_system_rings.specs.ByLevel
-pub use Rattle.cyc_system_rings.specs.Rings
-pub use Rattle.cyc_system_rings.specs.Leading
-pub use Rattle.cyc_agreement.specs.declared.turning.Turn
-pub use Rattle.cyc_agreement.specs.Juggling
-pub use Rattle.cyc_agreement.specs.Omni
-pub use Rattle.cyc_agreement.specs.Online
