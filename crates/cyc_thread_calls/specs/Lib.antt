@@ -6,6 +6,12 @@ pub mod Calling
 pub mod Levels
 pub mod Answering
 pub mod Standing
+pub mod Reported
+pub mod Calm
+pub mod Way
+pub mod Memory
+pub mod Runs
+pub mod Text
 pub use Rattle.cyc_threads.specs.declared.counting.Line
 pub use Rattle.cyc_threads.specs.declared.running.Ended
 pub use Rattle.cyc_threads.specs.Reporting

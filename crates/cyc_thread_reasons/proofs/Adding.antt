@@ -22,20 +22,20 @@ use Rattle.cyc_script.specs.declared.step.Step.TheVariants as steps
 use Rattle.cyc_agreement.specs.Cpus.{numbers_from, online_cpus}
 use Rattle.cyc_agreement.specs.Destination.{destination}
 use Rattle.cyc_agreement.specs.Reserving.{StandsAfter}
-use Rattle.cyc_thread_expected.proofs.Spots.{none_some, same_some}
-use Rattle.cyc_thread_expected.specs.System.{SystemView}
-use Rattle.cyc_thread_expected.specs.Calls.{SystemCall, Changes, Add, AddOmni}
-use Rattle.cyc_thread_expected.specs.Named.TheVariants.{Cyclic}
-use Rattle.cyc_thread_expected.specs.Progress.{Progress}
-use Rattle.cyc_thread_expected.specs.StepCalls.{CallsFor}
-use Rattle.cyc_thread_expected.specs.Names.{named_at, id_of, is_leaving}
-use Rattle.cyc_thread_expected.specs.Words.{Does}
-use Rattle.cyc_thread_expected.specs.SystemRingsLeading.{Make}
-use Rattle.cyc_thread_expected.specs.Leading.{call_of}
-use Rattle.cyc_calm.specs.Way.{is_series}
-use Rattle.cyc_calm.proofs.Keeping.{AllStill, keeps_call}
-use Rattle.cyc_calm.proofs.Fitting.{set_here, set_beside}
-use Rattle.cyc_calm.proofs.Waiting.{IsCalmNow, HasWaited, waited_calm}
+use Rattle.cyc_thread_calls.proofs.Spots.{none_some, same_some}
+use Rattle.cyc_thread_calls.specs.System.{SystemView}
+use Rattle.cyc_thread_calls.specs.Calls.{SystemCall, Changes, Add, AddOmni}
+use Rattle.cyc_thread_calls.specs.Named.TheVariants.{Cyclic}
+use Rattle.cyc_thread_calls.specs.Progress.{Progress}
+use Rattle.cyc_thread_calls.specs.StepCalls.{CallsFor}
+use Rattle.cyc_thread_calls.specs.Names.{named_at, id_of, is_leaving}
+use Rattle.cyc_thread_calls.specs.Words.{Does}
+use Rattle.cyc_thread_calls.specs.SystemRingsLeading.{Make}
+use Rattle.cyc_thread_calls.specs.Leading.{call_of}
+use Rattle.cyc_thread_calls.specs.Way.{is_series}
+use Rattle.cyc_thread_calls.proofs.Keeping.{AllStill, keeps_call}
+use Rattle.cyc_thread_calls.proofs.Fitting.{set_here, set_beside}
+use Rattle.cyc_thread_calls.proofs.Waiting.{IsCalmNow, HasWaited, waited_calm}
 use Rattle.cyc_thread_reasons.specs.Known.{Whereabouts, OnOne, OnAll, Known, with_whereabouts}
 use Rattle.cyc_thread_reasons.specs.Reasons.{is_there, is_single, how_many, many_online, may_be_full, are_too_many, has_reason}
 use Rattle.cyc_thread_reasons.proofs.Counting.{numbers_differ}

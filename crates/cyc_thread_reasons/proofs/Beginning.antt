@@ -6,14 +6,14 @@ use mathlib.Core.Logic.{dite}
 use native.Mathlib.Decide.{ℕ_discrete}
 use Rattle.cyc_ring.specs.declared.ends.RaiseEnd.{RaiseEnd}
 use Rattle.cyc_ring.specs.Ends.{raise_end}
-use Rattle.cyc_thread_expected.proofs.Spots.{none_some}
-use Rattle.cyc_thread_expected.specs.Seated.{Seated}
-use Rattle.cyc_thread_expected.specs.Named.{Named}
-use Rattle.cyc_thread_expected.specs.Named.TheVariants.{Nothing}
-use Rattle.cyc_thread_expected.specs.Progress.{Progress}
-use Rattle.cyc_thread_expected.specs.Names.{named_at, id_of}
-use Rattle.cyc_thread_expected.specs.Running.{IsAtFirst}
-use Rattle.cyc_calm.proofs.Beginning.{first_fits as calm_fits}
+use Rattle.cyc_thread_calls.proofs.Spots.{none_some}
+use Rattle.cyc_thread_calls.specs.Seated.{Seated}
+use Rattle.cyc_thread_calls.specs.Named.{Named}
+use Rattle.cyc_thread_calls.specs.Named.TheVariants.{Nothing}
+use Rattle.cyc_thread_calls.specs.Progress.{Progress}
+use Rattle.cyc_thread_calls.specs.Names.{named_at, id_of}
+use Rattle.cyc_thread_calls.specs.Running.{IsAtFirst}
+use Rattle.cyc_thread_calls.proofs.Beginning.{first_fits as calm_fits}
 use Rattle.cyc_thread_reasons.specs.Known.{Absent, known_first}
 use Rattle.cyc_thread_reasons.specs.Reasons.{is_there}
 use Rattle.cyc_thread_reasons.proofs.Whereabouts.{stands_in}

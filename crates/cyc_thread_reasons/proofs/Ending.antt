@@ -13,27 +13,27 @@ use Rattle.cyc_timers.specs.declared.fire.Fired.{Fired}
 use Rattle.cyc_timers.specs.declared.fire.FireRefused.{FireRefused}
 use Rattle.cyc_cpu.specs.Cpu.{CpuView, running}
 use Rattle.cyc_script.specs.declared.step.Step.TheVariants as steps
-use Rattle.cyc_thread_expected.proofs.FirstReason.{not_when, passes}
-use Rattle.cyc_thread_expected.proofs.Spots.{none_some, same_some, get_some}
-use Rattle.cyc_thread_expected.specs.System.{SystemView, removal_on, is_unknown}
-use Rattle.cyc_thread_expected.specs.SystemRemoval.{SystemRemoval}
-use Rattle.cyc_thread_expected.specs.SystemRemoval.TheVariants.{Done, Kept}
-use Rattle.cyc_thread_expected.specs.Removing.{unknown_cyclic, busy_on_each, cpus_with}
-use Rattle.cyc_thread_expected.specs.Calls.{Changes, BeginRemove}
-use Rattle.cyc_thread_expected.specs.SystemSide.{SystemSide}
-use Rattle.cyc_thread_expected.specs.Advanced.{Advanced}
-use Rattle.cyc_thread_expected.specs.Advancing.{AllFire, moment_asked, FiresIf}
-use Rattle.cyc_thread_expected.specs.Named.{Named}
-use Rattle.cyc_thread_expected.specs.Named.TheVariants.{Nothing, Cyclic, Leaving, Removed}
-use Rattle.cyc_thread_expected.specs.Progress.{Progress}
-use Rattle.cyc_thread_expected.specs.StepCalls.{CallsFor, Fires}
-use Rattle.cyc_thread_expected.specs.Names.{named_at, id_of, is_leaving, NoneLeaves}
-use Rattle.cyc_thread_expected.specs.Words.{WithId}
-use Rattle.cyc_thread_expected.specs.SystemRingsLeading.{LeadCall, Make}
-use Rattle.cyc_thread_expected.specs.Leading.{call_with}
-use Rattle.cyc_calm.proofs.Keeping.{AllStill, begun_given}
-use Rattle.cyc_calm.proofs.Waiting.{IsCalmNow}
-use Rattle.cyc_calm.proofs.Moving.{none_removed}
+use Rattle.cyc_thread_calls.proofs.FirstReason.{not_when, passes}
+use Rattle.cyc_thread_calls.proofs.Spots.{none_some, same_some, get_some}
+use Rattle.cyc_thread_calls.specs.System.{SystemView, removal_on, is_unknown}
+use Rattle.cyc_thread_calls.specs.SystemRemoval.{SystemRemoval}
+use Rattle.cyc_thread_calls.specs.SystemRemoval.TheVariants.{Done, Kept}
+use Rattle.cyc_thread_calls.specs.Removing.{unknown_cyclic, busy_on_each, cpus_with}
+use Rattle.cyc_thread_calls.specs.Calls.{Changes, BeginRemove}
+use Rattle.cyc_thread_calls.specs.SystemSide.{SystemSide}
+use Rattle.cyc_thread_calls.specs.Advanced.{Advanced}
+use Rattle.cyc_thread_calls.specs.Advancing.{AllFire, moment_asked, FiresIf}
+use Rattle.cyc_thread_calls.specs.Named.{Named}
+use Rattle.cyc_thread_calls.specs.Named.TheVariants.{Nothing, Cyclic, Leaving, Removed}
+use Rattle.cyc_thread_calls.specs.Progress.{Progress}
+use Rattle.cyc_thread_calls.specs.StepCalls.{CallsFor, Fires}
+use Rattle.cyc_thread_calls.specs.Names.{named_at, id_of, is_leaving, NoneLeaves}
+use Rattle.cyc_thread_calls.specs.Words.{WithId}
+use Rattle.cyc_thread_calls.specs.SystemRingsLeading.{LeadCall, Make}
+use Rattle.cyc_thread_calls.specs.Leading.{call_with}
+use Rattle.cyc_thread_calls.proofs.Keeping.{AllStill, begun_given}
+use Rattle.cyc_thread_calls.proofs.Waiting.{IsCalmNow}
+use Rattle.cyc_thread_calls.proofs.Moving.{none_removed}
 use Rattle.cyc_thread_reasons.specs.Known.{Absent, Known, name_has, after_accepted}
 use Rattle.cyc_thread_reasons.specs.Reasons.{is_there, has_reason}
 use Rattle.cyc_thread_reasons.proofs.Whereabouts.{stands, stands_same, stands_as, stands_kept, unknown_stands, removed_stands}

@@ -8,17 +8,17 @@ use native.Mathlib.Decide.{ℕ_discrete}
 use Rattle.cyc_types.specs.declared.Raise.{Ghosts as Raise}
 use Rattle.cyc_types.specs.Series.{never}
 use Rattle.cyc_places.specs.Places.{HasRisingIds}
-use Rattle.cyc_thread_expected.proofs.Spots.{none_some, same_some}
-use Rattle.cyc_thread_expected.proofs.Pieces.{made_of}
-use Rattle.cyc_thread_expected.proofs.Raising.{changes_long}
-use Rattle.cyc_thread_expected.specs.System.{SystemView}
-use Rattle.cyc_thread_expected.specs.Calls.{SystemCall}
-use Rattle.cyc_thread_expected.specs.Named.{Named}
-use Rattle.cyc_thread_expected.specs.Named.TheVariants.{Nothing, Cyclic, Leaving, Removed}
-use Rattle.cyc_thread_expected.specs.Progress.{Progress}
-use Rattle.cyc_thread_expected.specs.StepCalls.{CallsFor, IsReady}
-use Rattle.cyc_thread_expected.specs.Names.{named_at, id_of, is_leaving}
-use Rattle.cyc_calm.proofs.Fitting.{set_here, set_beside}
+use Rattle.cyc_thread_calls.proofs.Spots.{none_some, same_some}
+use Rattle.cyc_thread_calls.proofs.Pieces.{made_of}
+use Rattle.cyc_thread_calls.proofs.Raising.{changes_long}
+use Rattle.cyc_thread_calls.specs.System.{SystemView}
+use Rattle.cyc_thread_calls.specs.Calls.{SystemCall}
+use Rattle.cyc_thread_calls.specs.Named.{Named}
+use Rattle.cyc_thread_calls.specs.Named.TheVariants.{Nothing, Cyclic, Leaving, Removed}
+use Rattle.cyc_thread_calls.specs.Progress.{Progress}
+use Rattle.cyc_thread_calls.specs.StepCalls.{CallsFor, IsReady}
+use Rattle.cyc_thread_calls.specs.Names.{named_at, id_of, is_leaving}
+use Rattle.cyc_thread_calls.proofs.Fitting.{set_here, set_beside}
 use Rattle.cyc_thread_reasons.specs.Known.{Whereabouts, Absent, Known, name_has}
 use Rattle.cyc_thread_reasons.specs.Reasons.{is_there}
 use Rattle.cyc_thread_reasons.proofs.Whereabouts.{stands, SameStands}

@@ -18,12 +18,12 @@ use Rattle.cyc_agreement.specs.Destination.{destination}
 use Rattle.cyc_agreement.specs.Reserving.{rooms, StandsAfter}
 use Rattle.cyc_agreement.specs.Binding.{Binds}
 use Rattle.cyc_agreement.proofs.CpuSpots.{one_cpu, cpu_there, cpu_beside}
-use Rattle.cyc_thread_expected.specs.CpuLawsSettled.{IsUntil}
-use Rattle.cyc_thread_expected.proofs.FirstReason.{passes, not_never, not_spent}
-use Rattle.cyc_thread_expected.proofs.Spots.{none_some}
-use Rattle.cyc_thread_expected.specs.System.{SystemView}
-use Rattle.cyc_thread_expected.specs.Refusals.{ids_spent}
-use Rattle.cyc_thread_expected.specs.Calls.{Changes, Add, AddOmni}
+use Rattle.cyc_thread_calls.specs.CpuLawsSettled.{IsUntil}
+use Rattle.cyc_thread_calls.proofs.FirstReason.{passes, not_never, not_spent}
+use Rattle.cyc_thread_calls.proofs.Spots.{none_some}
+use Rattle.cyc_thread_calls.specs.System.{SystemView}
+use Rattle.cyc_thread_calls.specs.Refusals.{ids_spent}
+use Rattle.cyc_thread_calls.specs.Calls.{Changes, Add, AddOmni}
 use Rattle.cyc_thread_reasons.proofs.Whereabouts.{err_ok}
 
 not_first : {R : Type 0} (now : ℕ) (s : SystemView R) (e : Refusal) → now < never → s.last + 1 ≤ last_id

@@ -14,10 +14,10 @@ use Rattle.cyc_agreement.specs.System.{ids_on}
 use Rattle.cyc_agreement.specs.GoingOffline.{quiet, Retires}
 use Rattle.cyc_agreement.specs.Online.{staying, returns, return_at}
 use Rattle.cyc_agreement.specs.Omni.{component_first}
-use Rattle.cyc_thread_expected.specs.System.{SystemView}
-use Rattle.cyc_thread_expected.specs.Calls.{Changes, Juggle, Offline, Online}
+use Rattle.cyc_thread_calls.specs.System.{SystemView}
+use Rattle.cyc_thread_calls.specs.Calls.{Changes, Juggle, Offline, Online}
 use Rattle.cyc_thread_reasons.proofs.Whereabouts.{ok_err, err_ok}
-use Rattle.cyc_calm.proofs.Keeping.{AllStill, Keeps, keeps_same, keeps_then, keeps_works, keeps_call, last_move}
+use Rattle.cyc_thread_calls.proofs.Keeping.{AllStill, Keeps, keeps_same, keeps_then, keeps_works, keeps_call, last_move}
 
 module _ {R : Type 0} (firing : Raise R) where
   quiet_keeps : (n : ℕ) (ids : List ℕ) (v w : CpusView R) → Works firing (quiet n ids) v w → Keeps firing v w

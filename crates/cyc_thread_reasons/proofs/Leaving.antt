@@ -26,16 +26,16 @@ use Rattle.cyc_agreement.proofs.Lists.{among, any_at, true_eq, eq_true}
 use Rattle.cyc_agreement.proofs.Recording.{record_here}
 use Rattle.cyc_system_laws.specs.Settling.{RefusedTurn, refused_turns, IsRefusedTurn, IsUnsettledOrGrown}
 use Rattle.cyc_system_laws.proofs.Turning.{left_none, counted, stopped}
-use Rattle.cyc_thread_expected.specs.CpuLawsSettled.{IsUntil}
-use Rattle.cyc_thread_expected.proofs.Spots.{same_some}
-use Rattle.cyc_thread_expected.specs.System.{SystemView, is_omnipresent, is_online as is_up}
-use Rattle.cyc_thread_expected.specs.Juggling.{MovesAway, single_ids}
-use Rattle.cyc_thread_expected.specs.Sound.{IsSound}
-use Rattle.cyc_thread_expected.specs.Settled.{AllSettled}
-use Rattle.cyc_thread_expected.specs.Named.{Named}
-use Rattle.cyc_thread_expected.specs.Named.TheVariants.{Cyclic}
-use Rattle.cyc_thread_expected.specs.Progress.{Progress}
-use Rattle.cyc_thread_expected.specs.Names.{named_at, id_of, NoneLeaves}
+use Rattle.cyc_thread_calls.specs.CpuLawsSettled.{IsUntil}
+use Rattle.cyc_thread_calls.proofs.Spots.{same_some}
+use Rattle.cyc_thread_calls.specs.System.{SystemView, is_omnipresent, is_online as is_up}
+use Rattle.cyc_thread_calls.specs.Juggling.{MovesAway, single_ids}
+use Rattle.cyc_thread_calls.specs.Sound.{IsSound}
+use Rattle.cyc_thread_calls.specs.Settled.{AllSettled}
+use Rattle.cyc_thread_calls.specs.Named.{Named}
+use Rattle.cyc_thread_calls.specs.Named.TheVariants.{Cyclic}
+use Rattle.cyc_thread_calls.specs.Progress.{Progress}
+use Rattle.cyc_thread_calls.specs.Names.{named_at, id_of, NoneLeaves}
 use Rattle.cyc_thread_reasons.specs.Known.{Absent, Known}
 use Rattle.cyc_thread_reasons.specs.Reasons.{is_single, is_bound_to, how_many, many_online, are_too_many}
 use Rattle.cyc_thread_reasons.specs.Explained.{IsTurnPutOff, IsLeft}

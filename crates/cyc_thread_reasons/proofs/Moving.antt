@@ -23,11 +23,11 @@ use Rattle.cyc_agreement.proofs.Destinations.{destination_fits}
 use Rattle.cyc_agreement.proofs.Lists.{among, false_ne}
 use Rattle.cyc_agreement.proofs.Recording.{one_record}
 use Rattle.cyc_system_laws.specs.Settling.{RefusedTurn, refused_turns}
-use Rattle.cyc_thread_expected.proofs.Spots.{same_some}
-use Rattle.cyc_thread_expected.specs.System.{SystemView}
-use Rattle.cyc_thread_expected.specs.Turn.{Turn}
-use Rattle.cyc_thread_expected.specs.Turn.TheVariants.{StaysBound, StaysPending, StaysRefused, Moves}
-use Rattle.cyc_thread_expected.specs.Juggling.{TakesTurn, Turns}
+use Rattle.cyc_thread_calls.proofs.Spots.{same_some}
+use Rattle.cyc_thread_calls.specs.System.{SystemView}
+use Rattle.cyc_thread_calls.specs.Turn.{Turn}
+use Rattle.cyc_thread_calls.specs.Turn.TheVariants.{StaysBound, StaysPending, StaysRefused, Moves}
+use Rattle.cyc_thread_calls.specs.Juggling.{TakesTurn, Turns}
 use Rattle.cyc_thread_reasons.proofs.Whereabouts.{turn_stands}
 
 on_same : {n m : ℕ} {a b : Bool} → On n a ≡ On m b → n ≡ m

@@ -12,19 +12,19 @@ use Rattle.cyc_script.specs.declared.step.Bind.{Bind as BindStep}
 use Rattle.cyc_script.specs.declared.step.Step.TheVariants as steps
 use Rattle.cyc_system_laws.specs.Settling.{IsRefusedUntil}
 use Rattle.cyc_system_laws.proofs.Settles.{refused_until}
-use Rattle.cyc_thread_expected.proofs.Spots.{same_some}
-use Rattle.cyc_thread_expected.specs.System.{SystemView}
-use Rattle.cyc_thread_expected.specs.Calls.{SystemCall, Changes, Bind}
-use Rattle.cyc_thread_expected.specs.Named.{Named}
-use Rattle.cyc_thread_expected.specs.Named.TheVariants.{Nothing, Cyclic, Leaving, Removed}
-use Rattle.cyc_thread_expected.specs.Progress.{Progress}
-use Rattle.cyc_thread_expected.specs.StepCalls.{CallsFor}
-use Rattle.cyc_thread_expected.specs.Names.{named_at, id_of, is_leaving}
-use Rattle.cyc_thread_expected.specs.Words.{WithId}
-use Rattle.cyc_thread_expected.specs.SystemRingsLeading.{LeadCall, Make}
-use Rattle.cyc_thread_expected.specs.Leading.{call_with}
-use Rattle.cyc_calm.proofs.Keeping.{keeps_call, last_move}
-use Rattle.cyc_calm.proofs.Waiting.{IsCalmNow, HasWaited, waited_calm}
+use Rattle.cyc_thread_calls.proofs.Spots.{same_some}
+use Rattle.cyc_thread_calls.specs.System.{SystemView}
+use Rattle.cyc_thread_calls.specs.Calls.{SystemCall, Changes, Bind}
+use Rattle.cyc_thread_calls.specs.Named.{Named}
+use Rattle.cyc_thread_calls.specs.Named.TheVariants.{Nothing, Cyclic, Leaving, Removed}
+use Rattle.cyc_thread_calls.specs.Progress.{Progress}
+use Rattle.cyc_thread_calls.specs.StepCalls.{CallsFor}
+use Rattle.cyc_thread_calls.specs.Names.{named_at, id_of, is_leaving}
+use Rattle.cyc_thread_calls.specs.Words.{WithId}
+use Rattle.cyc_thread_calls.specs.SystemRingsLeading.{LeadCall, Make}
+use Rattle.cyc_thread_calls.specs.Leading.{call_with}
+use Rattle.cyc_thread_calls.proofs.Keeping.{keeps_call, last_move}
+use Rattle.cyc_thread_calls.proofs.Waiting.{IsCalmNow, HasWaited, waited_calm}
 use Rattle.cyc_thread_reasons.specs.Known.{Whereabouts, Absent, OnOne, Known, name_has, is_known_up, after_accepted}
 use Rattle.cyc_thread_reasons.specs.Reasons.{is_there, is_single, may_be_full, has_reason}
 use Rattle.cyc_thread_reasons.proofs.Whereabouts.{stands, stands_kept, bound_stands, unbound_stands, err_ok}

@@ -10,14 +10,14 @@ use Rattle.cyc_types.specs.declared.refusal.Refusal.{Refusal}
 use Rattle.cyc_types.specs.declared.refusal.Refusal.TheVariants as why
 use Rattle.cyc_script.specs.declared.step.Step.TheVariants as steps
 use Rattle.cyc_system_laws.proofs.Settles.{err_same}
-use Rattle.cyc_thread_expected.specs.CpuLawsSettled.{IsUntil}
-use Rattle.cyc_thread_expected.specs.Calls.{Changes, Juggle, Offline, Online}
-use Rattle.cyc_thread_expected.specs.Progress.{Progress}
-use Rattle.cyc_thread_expected.specs.StepCalls.{CallsFor}
-use Rattle.cyc_thread_expected.specs.Names.{NoneLeaves}
-use Rattle.cyc_thread_expected.specs.SystemRingsLeading.{Make}
-use Rattle.cyc_calm.proofs.Keeping.{last_move}
-use Rattle.cyc_calm.proofs.Waiting.{IsCalmNow, HasWaited, waited_calm}
+use Rattle.cyc_thread_calls.specs.CpuLawsSettled.{IsUntil}
+use Rattle.cyc_thread_calls.specs.Calls.{Changes, Juggle, Offline, Online}
+use Rattle.cyc_thread_calls.specs.Progress.{Progress}
+use Rattle.cyc_thread_calls.specs.StepCalls.{CallsFor}
+use Rattle.cyc_thread_calls.specs.Names.{NoneLeaves}
+use Rattle.cyc_thread_calls.specs.SystemRingsLeading.{Make}
+use Rattle.cyc_thread_calls.proofs.Keeping.{last_move}
+use Rattle.cyc_thread_calls.proofs.Waiting.{IsCalmNow, HasWaited, waited_calm}
 use Rattle.cyc_thread_reasons.specs.Known.{Known, after_accepted}
 use Rattle.cyc_thread_reasons.specs.Reasons.{is_single, is_bound_to, how_many, many_online, are_too_many, can_not_leave}
 use Rattle.cyc_thread_reasons.specs.Reasons.{has_reason}

@@ -5,15 +5,15 @@ use Rattle.cyc_types.specs.declared.Calls.{Ghosts as Calls}
 use Rattle.cyc_types.specs.declared.Raise.{Ghosts as Raise}
 use Rattle.cyc_script.specs.declared.step.Step.{Step}
 use Rattle.cyc_script.specs.WellFormed.{names_after}
-use Rattle.cyc_thread_expected.specs.Calls.{SystemCall}
-use Rattle.cyc_thread_expected.specs.SystemRingsLeading.{LeadCall}
-use Rattle.cyc_thread_expected.specs.Progress.{Progress}
-use Rattle.cyc_thread_expected.specs.StepCalls.{CallsFor}
-use Rattle.cyc_thread_expected.specs.Names.{NoneLeaves}
-use Rattle.cyc_thread_expected.specs.Words.{Does}
-use Rattle.cyc_thread_expected.specs.Meeting.{accepted, is_taken}
-use Rattle.cyc_calm.proofs.Keeping.{IsQuiet, keeps_call}
-use Rattle.cyc_calm.proofs.Waiting.{IsCalmNow}
+use Rattle.cyc_thread_calls.specs.Calls.{SystemCall}
+use Rattle.cyc_thread_calls.specs.SystemRingsLeading.{LeadCall}
+use Rattle.cyc_thread_calls.specs.Progress.{Progress}
+use Rattle.cyc_thread_calls.specs.StepCalls.{CallsFor}
+use Rattle.cyc_thread_calls.specs.Names.{NoneLeaves}
+use Rattle.cyc_thread_calls.specs.Words.{Does}
+use Rattle.cyc_thread_calls.specs.Meeting.{accepted, is_taken}
+use Rattle.cyc_thread_calls.proofs.Keeping.{IsQuiet, keeps_call}
+use Rattle.cyc_thread_calls.proofs.Waiting.{IsCalmNow}
 use Rattle.cyc_thread_reasons.specs.Known.{Known, after_accepted}
 use Rattle.cyc_thread_reasons.specs.Reasons.{has_reason}
 use Rattle.cyc_thread_reasons.specs.Explained.{MemoryRefusedTo, WhyNot}

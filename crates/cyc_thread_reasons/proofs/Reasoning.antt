@@ -14,16 +14,16 @@ use Rattle.cyc_types.specs.Reasons.{first_refusal, when, busy, bad_now}
 use Rattle.cyc_agreement.specs.Cpus.{numbers_from, online_cpus}
 use Rattle.cyc_agreement.specs.Juggling.{last_cpu, juggle_refusals}
 use Rattle.cyc_system_laws.proofs.Settles.{first_of}
-use Rattle.cyc_thread_expected.specs.CpuLawsSettled.{IsUntil}
-use Rattle.cyc_thread_expected.proofs.FirstReason.{not_when, not_never}
-use Rattle.cyc_thread_expected.proofs.Spots.{none_some, same_some}
-use Rattle.cyc_thread_expected.specs.System.{SystemView, is_unknown, is_omnipresent, removal_on, is_online as is_up}
-use Rattle.cyc_thread_expected.specs.System.{is_leaving as is_leaving_id}
-use Rattle.cyc_thread_expected.specs.Refusals.{no_cyclic, omnipresent, no_cpu, offline_cpu}
-use Rattle.cyc_thread_expected.specs.Online.{online_cpu}
-use Rattle.cyc_thread_expected.specs.Progress.{Progress}
-use Rattle.cyc_calm.proofs.Keeping.{AllStill}
-use Rattle.cyc_calm.proofs.Moving.{none_leaving}
+use Rattle.cyc_thread_calls.specs.CpuLawsSettled.{IsUntil}
+use Rattle.cyc_thread_calls.proofs.FirstReason.{not_when, not_never}
+use Rattle.cyc_thread_calls.proofs.Spots.{none_some, same_some}
+use Rattle.cyc_thread_calls.specs.System.{SystemView, is_unknown, is_omnipresent, removal_on, is_online as is_up}
+use Rattle.cyc_thread_calls.specs.System.{is_leaving as is_leaving_id}
+use Rattle.cyc_thread_calls.specs.Refusals.{no_cyclic, omnipresent, no_cpu, offline_cpu}
+use Rattle.cyc_thread_calls.specs.Online.{online_cpu}
+use Rattle.cyc_thread_calls.specs.Progress.{Progress}
+use Rattle.cyc_thread_calls.proofs.Keeping.{AllStill}
+use Rattle.cyc_thread_calls.proofs.Moving.{none_leaving}
 use Rattle.cyc_thread_reasons.specs.Known.{Whereabouts, Absent, OnOne, OnAll, Known, is_known_up}
 use Rattle.cyc_thread_reasons.specs.Reasons.{is_there, is_single, has_components, many_online, can_not_leave}
 use Rattle.cyc_thread_reasons.proofs.Whereabouts.{stands, unknown_stands, omni_stands}

@@ -13,24 +13,24 @@ use Rattle.cyc_places.specs.declared.record.Record.{Record}
 use Rattle.cyc_places.specs.Places.{IsRecord}
 use Rattle.cyc_script.specs.declared.step.Reprogram.{Reprogram as ReprogramStep}
 use Rattle.cyc_script.specs.declared.step.Step.TheVariants as steps
-use Rattle.cyc_thread_expected.proofs.FirstReason.{not_when, passes, not_le}
-use Rattle.cyc_thread_expected.proofs.Spots.{none_some}
-use Rattle.cyc_thread_expected.specs.System.{SystemView, is_unknown, is_omnipresent, removal_on, has as has_on}
-use Rattle.cyc_thread_expected.specs.System.{is_online as is_up, is_leaving as is_leaving_id}
-use Rattle.cyc_thread_expected.specs.Refusals.{no_cyclic, no_cpu, offline_cpu, no_component}
-use Rattle.cyc_thread_expected.specs.Calls.{Changes, Reprogram, ReprogramOn, reprograms}
-use Rattle.cyc_thread_expected.specs.Named.{Named}
-use Rattle.cyc_thread_expected.specs.Named.TheVariants.{Nothing, Cyclic, Leaving, Removed}
-use Rattle.cyc_thread_expected.specs.Progress.{Progress}
-use Rattle.cyc_thread_expected.specs.StepCalls.{CallsFor}
-use Rattle.cyc_thread_expected.specs.Names.{named_at, id_of, is_leaving}
-use Rattle.cyc_thread_expected.specs.Words.{WithId}
-use Rattle.cyc_thread_expected.specs.SystemRingsLeading.{Make}
-use Rattle.cyc_thread_expected.specs.Leading.{call_with}
-use Rattle.cyc_calm.specs.Way.{is_moment}
-use Rattle.cyc_calm.proofs.Keeping.{AllStill, last_move}
-use Rattle.cyc_calm.proofs.Waiting.{IsCalmNow, HasWaited, waited_calm}
-use Rattle.cyc_calm.proofs.Moving.{none_leaving, none_removed}
+use Rattle.cyc_thread_calls.proofs.FirstReason.{not_when, passes, not_le}
+use Rattle.cyc_thread_calls.proofs.Spots.{none_some}
+use Rattle.cyc_thread_calls.specs.System.{SystemView, is_unknown, is_omnipresent, removal_on, has as has_on}
+use Rattle.cyc_thread_calls.specs.System.{is_online as is_up, is_leaving as is_leaving_id}
+use Rattle.cyc_thread_calls.specs.Refusals.{no_cyclic, no_cpu, offline_cpu, no_component}
+use Rattle.cyc_thread_calls.specs.Calls.{Changes, Reprogram, ReprogramOn, reprograms}
+use Rattle.cyc_thread_calls.specs.Named.{Named}
+use Rattle.cyc_thread_calls.specs.Named.TheVariants.{Nothing, Cyclic, Leaving, Removed}
+use Rattle.cyc_thread_calls.specs.Progress.{Progress}
+use Rattle.cyc_thread_calls.specs.StepCalls.{CallsFor}
+use Rattle.cyc_thread_calls.specs.Names.{named_at, id_of, is_leaving}
+use Rattle.cyc_thread_calls.specs.Words.{WithId}
+use Rattle.cyc_thread_calls.specs.SystemRingsLeading.{Make}
+use Rattle.cyc_thread_calls.specs.Leading.{call_with}
+use Rattle.cyc_thread_calls.specs.Way.{is_moment}
+use Rattle.cyc_thread_calls.proofs.Keeping.{AllStill, last_move}
+use Rattle.cyc_thread_calls.proofs.Waiting.{IsCalmNow, HasWaited, waited_calm}
+use Rattle.cyc_thread_calls.proofs.Moving.{none_leaving, none_removed}
 use Rattle.cyc_thread_reasons.specs.Known.{Whereabouts, Absent, OnOne, OnAll, Known, name_has, is_known_up}
 use Rattle.cyc_thread_reasons.specs.Reasons.{is_there, is_single, has_components, can_be_reprogrammed, has_reason}
 use Rattle.cyc_thread_reasons.proofs.Whereabouts.{stands, stands_at, unknown_stands, omni_stands, record_there, everywhere_place}

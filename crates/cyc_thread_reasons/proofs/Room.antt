@@ -21,13 +21,13 @@ use Rattle.cyc_agreement.proofs.Lists.{among, any_at, true_eq, false_ne, eq_true
 use Rattle.cyc_agreement.proofs.Recording.{found, record_here}
 use Rattle.cyc_agreement.proofs.Shifted.{ids_rise}
 use Rattle.cyc_agreement.proofs.Who.{ids_there}
-use Rattle.cyc_thread_expected.proofs.FirstReason.{le_true}
-use Rattle.cyc_thread_expected.specs.System.{SystemView}
-use Rattle.cyc_thread_expected.specs.Named.{Named}
-use Rattle.cyc_thread_expected.specs.Named.TheVariants.{Nothing, Cyclic, Leaving, Removed}
-use Rattle.cyc_thread_expected.specs.Progress.{Progress}
-use Rattle.cyc_thread_expected.specs.Names.{named_at, id_of, NoneLeaves}
-use Rattle.cyc_thread_expected.specs.Sound.{IsSound}
+use Rattle.cyc_thread_calls.proofs.FirstReason.{le_true}
+use Rattle.cyc_thread_calls.specs.System.{SystemView}
+use Rattle.cyc_thread_calls.specs.Named.{Named}
+use Rattle.cyc_thread_calls.specs.Named.TheVariants.{Nothing, Cyclic, Leaving, Removed}
+use Rattle.cyc_thread_calls.specs.Progress.{Progress}
+use Rattle.cyc_thread_calls.specs.Names.{named_at, id_of, NoneLeaves}
+use Rattle.cyc_thread_calls.specs.Sound.{IsSound}
 use Rattle.cyc_thread_reasons.specs.Known.{Absent, Known}
 use Rattle.cyc_thread_reasons.specs.Reasons.{is_single, has_components, may_be_on, how_many, may_be_full, are_too_many}
 use Rattle.cyc_thread_reasons.proofs.Counting.{HasNoDoubles, pigeons_of, sum_all, sum_on, sum_on_but_one}

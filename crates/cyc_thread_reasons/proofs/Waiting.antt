@@ -8,16 +8,16 @@ use Rattle.cyc_types.specs.Series.{never}
 use Rattle.cyc_types.specs.declared.receipt.Receipt.{Receipt}
 use Rattle.cyc_types.specs.declared.refusal.Refusal.{Refusal}
 use Rattle.cyc_script.specs.declared.step.Step.{Step}
-use Rattle.cyc_thread_expected.proofs.Spots.{none_some}
-use Rattle.cyc_thread_expected.specs.Calls.{PollRemove}
-use Rattle.cyc_thread_expected.specs.Named.{Named}
-use Rattle.cyc_thread_expected.specs.Named.TheVariants.{Leaving, Removed}
-use Rattle.cyc_thread_expected.specs.Progress.{Progress}
-use Rattle.cyc_thread_expected.specs.StepCalls.{CallsFor, Poll, Polls, Settles, Waits}
-use Rattle.cyc_thread_expected.specs.Names.{named_at, id_of}
-use Rattle.cyc_thread_expected.specs.Words.{Begins, waits_first}
-use Rattle.cyc_calm.proofs.Keeping.{polled_given}
-use Rattle.cyc_calm.proofs.Waiting.{IsCalmNow, HasWaited, waited_calm}
+use Rattle.cyc_thread_calls.proofs.Spots.{none_some}
+use Rattle.cyc_thread_calls.specs.Calls.{PollRemove}
+use Rattle.cyc_thread_calls.specs.Named.{Named}
+use Rattle.cyc_thread_calls.specs.Named.TheVariants.{Leaving, Removed}
+use Rattle.cyc_thread_calls.specs.Progress.{Progress}
+use Rattle.cyc_thread_calls.specs.StepCalls.{CallsFor, Poll, Polls, Settles, Waits}
+use Rattle.cyc_thread_calls.specs.Names.{named_at, id_of}
+use Rattle.cyc_thread_calls.specs.Words.{Begins, waits_first}
+use Rattle.cyc_thread_calls.proofs.Keeping.{polled_given}
+use Rattle.cyc_thread_calls.proofs.Waiting.{IsCalmNow, HasWaited, waited_calm}
 use Rattle.cyc_thread_reasons.specs.Known.{Whereabouts, Absent, Known, name_has, before_step}
 use Rattle.cyc_thread_reasons.specs.Reasons.{is_there}
 use Rattle.cyc_thread_reasons.proofs.Whereabouts.{stands, stands_same, stands_kept, polled_stands}

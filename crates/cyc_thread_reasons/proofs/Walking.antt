@@ -10,16 +10,16 @@ use Rattle.cyc_script.specs.declared.step.Step.{Step}
 use Rattle.cyc_script.specs.declared.step.Step.TheVariants as steps
 use Rattle.cyc_script.specs.WellFormed.{name_fits, names_after, names_fit, names_after_all, moment_fits, moment_after}
 use Rattle.cyc_script.specs.WellFormed.{moments_fit}
-use Rattle.cyc_thread_expected.proofs.Lists.{eq_true}
-use Rattle.cyc_thread_expected.specs.Progress.{Progress}
-use Rattle.cyc_thread_expected.specs.Names.{named_at}
-use Rattle.cyc_thread_expected.specs.Words.{Does, waits_first}
-use Rattle.cyc_thread_expected.specs.Steps.{TakesSteps, Runs}
-use Rattle.cyc_thread_expected.specs.Meeting.{accepted}
-use Rattle.cyc_calm.specs.Way.{is_moment}
-use Rattle.cyc_calm.proofs.Waiting.{HasWaited}
-use Rattle.cyc_calm.proofs.Stepping.{no_moment_of}
-use Rattle.cyc_calm.proofs.Agreeing.{both, more_names}
+use Rattle.cyc_thread_calls.proofs.Lists.{eq_true}
+use Rattle.cyc_thread_calls.specs.Progress.{Progress}
+use Rattle.cyc_thread_calls.specs.Names.{named_at}
+use Rattle.cyc_thread_calls.specs.Words.{Does, waits_first}
+use Rattle.cyc_thread_calls.specs.Steps.{TakesSteps, Runs}
+use Rattle.cyc_thread_calls.specs.Meeting.{accepted}
+use Rattle.cyc_thread_calls.specs.Way.{is_moment}
+use Rattle.cyc_thread_calls.proofs.Waiting.{HasWaited}
+use Rattle.cyc_thread_calls.proofs.Stepping.{no_moment_of}
+use Rattle.cyc_thread_calls.proofs.Agreeing.{both, more_names}
 use Rattle.cyc_thread_reasons.specs.Known.{Known, name_has, before_step, known_after}
 use Rattle.cyc_thread_reasons.specs.Reasons.{can_be_reprogrammed}
 use Rattle.cyc_thread_reasons.specs.Explained.{AreExplained, AllExplained}

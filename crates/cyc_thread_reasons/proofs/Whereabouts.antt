@@ -33,18 +33,18 @@ use Rattle.cyc_agreement.proofs.Recording.{found, one_record, record_here}
 use Rattle.cyc_agreement.proofs.Forgetting.{rising_set, begins_forgotten, polls_forgotten}
 use Rattle.cyc_agreement.proofs.Others.{begins_others, polls_others}
 use Rattle.cyc_agreement.proofs.Folds.{folds_keep}
-use Rattle.cyc_thread_expected.specs.System.{SystemView, record_of, is_unknown, is_omnipresent}
-use Rattle.cyc_thread_expected.specs.Adding.{add_request, Adds}
-use Rattle.cyc_thread_expected.specs.Omni.{AddsOmni}
-use Rattle.cyc_thread_expected.specs.SystemRemoval.{SystemRemoval}
-use Rattle.cyc_thread_expected.specs.SystemRemoval.TheVariants as over
-use Rattle.cyc_thread_expected.specs.Removing.{Begun, BeginsOn, BeginsRemoval}
-use Rattle.cyc_thread_expected.specs.Polling.{Polled, PollsOn, PollsRemoval}
-use Rattle.cyc_thread_expected.specs.Turn.{Turn}
-use Rattle.cyc_thread_expected.specs.Turn.TheVariants.{StaysBound, StaysPending, StaysRefused, Moves}
-use Rattle.cyc_thread_expected.specs.Juggling.{TakesTurn, Turns, single_ids}
-use Rattle.cyc_thread_expected.specs.Calls.{SystemCall, Changes, Add, AddOmni, Bind, BeginRemove, PollRemove, Reprogram}
-use Rattle.cyc_thread_expected.specs.Calls.{ReprogramOn, Juggle, Offline, Online}
+use Rattle.cyc_thread_calls.specs.System.{SystemView, record_of, is_unknown, is_omnipresent}
+use Rattle.cyc_thread_calls.specs.Adding.{add_request, Adds}
+use Rattle.cyc_thread_calls.specs.Omni.{AddsOmni}
+use Rattle.cyc_thread_calls.specs.SystemRemoval.{SystemRemoval}
+use Rattle.cyc_thread_calls.specs.SystemRemoval.TheVariants as over
+use Rattle.cyc_thread_calls.specs.Removing.{Begun, BeginsOn, BeginsRemoval}
+use Rattle.cyc_thread_calls.specs.Polling.{Polled, PollsOn, PollsRemoval}
+use Rattle.cyc_thread_calls.specs.Turn.{Turn}
+use Rattle.cyc_thread_calls.specs.Turn.TheVariants.{StaysBound, StaysPending, StaysRefused, Moves}
+use Rattle.cyc_thread_calls.specs.Juggling.{TakesTurn, Turns, single_ids}
+use Rattle.cyc_thread_calls.specs.Calls.{SystemCall, Changes, Add, AddOmni, Bind, BeginRemove, PollRemove, Reprogram}
+use Rattle.cyc_thread_calls.specs.Calls.{ReprogramOn, Juggle, Offline, Online}
 use Rattle.cyc_thread_reasons.specs.Known.{Whereabouts, Absent, OnOne, OnAll}
 use Rattle.cyc_thread_reasons.specs.Reasons.{is_there, has_components}
 

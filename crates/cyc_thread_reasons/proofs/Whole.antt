@@ -3,9 +3,9 @@ use Rattle.std.proofs.Common.{ℕ, ◌≤◌, List, length, arith}
 use Rattle.cyc_types.specs.declared.Calls.{Ghosts as Calls}
 use Rattle.cyc_ring.specs.Ends.{raise_end}
 use Rattle.cyc_script.specs.declared.script.Script.{Script}
-use Rattle.cyc_thread_expected.specs.Ended.{Ended}
-use Rattle.cyc_thread_expected.specs.Running.{HasRun}
-use Rattle.cyc_calm.proofs.Beginning.{first_calm}
+use Rattle.cyc_thread_calls.specs.Ended.{Ended}
+use Rattle.cyc_thread_calls.specs.Running.{HasRun}
+use Rattle.cyc_thread_calls.proofs.Beginning.{first_calm}
 use Rattle.cyc_thread_reasons.specs.Known.{known_first}
 use Rattle.cyc_thread_reasons.specs.Explained.{AllExplained}
 use Rattle.cyc_thread_reasons.proofs.Beginning.{first_fits}

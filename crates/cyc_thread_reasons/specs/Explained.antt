@@ -11,15 +11,15 @@ use Rattle.cyc_agreement.specs.Cpus.{IsCpu}
 use Rattle.cyc_script.specs.declared.step.Step.{Step}
 use Rattle.cyc_script.specs.declared.step.Step.TheVariants as steps
 use Rattle.cyc_system_laws.specs.Settling.{RefusedTurn, refused_turns}
-use Rattle.cyc_thread_expected.specs.System.{SystemView}
-use Rattle.cyc_thread_expected.specs.Juggling.{MovesAway, single_ids}
-use Rattle.cyc_thread_expected.specs.Calls.{SystemCall, Add, AddOmni, Bind, Online}
-use Rattle.cyc_thread_expected.specs.SystemRingsLeading.{LeadCall, Make}
-use Rattle.cyc_thread_expected.specs.Progress.{Progress}
-use Rattle.cyc_thread_expected.specs.Words.{Does}
-use Rattle.cyc_thread_expected.specs.Steps.{TakesSteps, Runs}
-use Rattle.cyc_thread_expected.specs.Leading.{call_of}
-use Rattle.cyc_thread_expected.specs.Meeting.{accepted}
+use Rattle.cyc_thread_calls.specs.System.{SystemView}
+use Rattle.cyc_thread_calls.specs.Juggling.{MovesAway, single_ids}
+use Rattle.cyc_thread_calls.specs.Calls.{SystemCall, Add, AddOmni, Bind, Online}
+use Rattle.cyc_thread_calls.specs.SystemRingsLeading.{LeadCall, Make}
+use Rattle.cyc_thread_calls.specs.Progress.{Progress}
+use Rattle.cyc_thread_calls.specs.Words.{Does}
+use Rattle.cyc_thread_calls.specs.Steps.{TakesSteps, Runs}
+use Rattle.cyc_thread_calls.specs.Leading.{call_of}
+use Rattle.cyc_thread_calls.specs.Meeting.{accepted}
 use Rattle.cyc_thread_reasons.specs.Known.{Known, before_step, known_after}
 use Rattle.cyc_thread_reasons.specs.Reasons.{has_reason}
 

@@ -4,7 +4,7 @@ use Rattle.std.specs.Prelude.{ℕ, Bool, true, false, if◌then◌else◌, List,
 use Rattle.cyc_script.specs.declared.step.Step.{Step}
 use Rattle.cyc_script.specs.declared.step.Step.TheVariants.{Add, Omni, Bind, Unbind, Remove, Offline, Online}
 use Rattle.cyc_expected.specs.Expected.{Met}
-use Rattle.cyc_thread_expected.specs.Words.{waits_first}
+use Rattle.cyc_thread_calls.specs.Words.{waits_first}
 
 -- what a name has
 pub data Whereabouts : Type 0 where

@@ -8,7 +8,7 @@ use Rattle.cyc_agreement.specs.Cpus.{numbers_from}
 use Rattle.cyc_script.specs.declared.step.Step.{Step}
 use Rattle.cyc_script.specs.declared.step.Step.TheVariants.{Add, Omni, Bind, Unbind, Reprogram, Remove, Advance, Softint, Juggle}
 use Rattle.cyc_script.specs.declared.step.Step.TheVariants.{Offline, Online}
-use Rattle.cyc_calm.specs.Way.{is_series, is_moment}
+use Rattle.cyc_thread_calls.specs.Way.{is_series, is_moment}
 use Rattle.cyc_thread_reasons.specs.Known.{Whereabouts, Absent, OnOne, OnAll, Known, name_has, is_known_up}
 
 -- ---- what a name has

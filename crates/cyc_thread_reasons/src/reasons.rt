@@ -3,8 +3,8 @@
 ghost use Rattle.std.specs.Prelude.{ℕ, List, length};
 ghost use Rattle.cyc_ring.specs.Ends.{raise_end};
 ghost use Rattle.cyc_script.specs.declared.script.Script.{Script as OneScript};
-ghost use Rattle.cyc_thread_expected.specs.Ended.{Ended as Ends};
-ghost use Rattle.cyc_thread_expected.specs.Running.{HasRun};
+ghost use Rattle.cyc_thread_calls.specs.Ended.{Ended as Ends};
+ghost use Rattle.cyc_thread_calls.specs.Running.{HasRun};
 ghost use Rattle.cyc_thread_reasons.specs.Known.{known_first};
 ghost use Rattle.cyc_thread_reasons.specs.Explained.{AllExplained};
 

@@ -1,6 +1,0 @@
-use Rattle.cyc_calm.proofs.Reports.{run_text}
-use Rattle.cyc_calm.proofs.texts.calm_text_law.Goals as goal
-
-pub returns : goal.returns
-returns g c script calls e text run calm memory below =
-    run_text g.C.Calls script calls e text run calm memory below
