@@ -3,6 +3,9 @@ pub mod Given
 pub mod Spared
 pub mod Lasting
 pub mod Components
+pub mod Outstanding
+pub mod Pends
+pub mod Balanced
 pub use Rattle.cyc_system_laws.proofs.Lists
 pub use Rattle.cyc_system_laws.proofs.Presence
 pub use Rattle.cyc_system_laws.proofs.Spots

@@ -1,6 +1,7 @@
 pub mod Totalling
 pub mod Sparing
 pub mod Kinds
+pub mod Pending
 pub use Rattle.cyc_system_laws.specs.SoftFault
 pub use Rattle.cyc_system_laws.specs.Counts
 pub use Rattle.cyc_system_laws.specs.System

@@ -9,16 +9,16 @@ ghost use Rattle.cyc_soft.specs.declared.Ran.{Ran};
 ghost use Rattle.cyc_timers.specs.declared.fire.Fired.{Fired};
 ghost use Rattle.cyc_timers.specs.declared.fire.FireRefused.{FireRefused};
 ghost use Rattle.cyc_cpu.specs.Soft.{raise_tables, fires, firing_at, Interrupts};
-ghost use Rattle.cyc_system_sums.specs.SoftFault.{SoftFault};
-ghost use Rattle.cyc_system_sums.specs.Counts.{all_lost};
-ghost use Rattle.cyc_system_sums.specs.System.{SystemView, RunningSystem, has};
-ghost use Rattle.cyc_system_sums.specs.SystemTotals.{SystemTotals};
-ghost use Rattle.cyc_system_sums.specs.Calls.{SystemCall, Changes, Does, AskTotals, FireOne, SoftInterrupt};
-ghost use Rattle.cyc_system_sums.specs.Gone.{AreLevelsLawful};
-ghost use Rattle.cyc_system_sums.specs.Sound.{IsSound};
-ghost use Rattle.cyc_system_sums.specs.Keeping.{EndsRemoval};
+ghost use Rattle.cyc_system_laws.specs.SoftFault.{SoftFault};
+ghost use Rattle.cyc_system_laws.specs.Counts.{all_lost};
+ghost use Rattle.cyc_system_laws.specs.System.{SystemView, RunningSystem, has};
+ghost use Rattle.cyc_system_laws.specs.SystemTotals.{SystemTotals};
+ghost use Rattle.cyc_system_laws.specs.SystemCalls.{SystemCall, Changes, Does, AskTotals, FireOne, SoftInterrupt};
+ghost use Rattle.cyc_system_laws.specs.Gone.{AreLevelsLawful};
+ghost use Rattle.cyc_system_laws.specs.Sound.{IsSound};
+ghost use Rattle.cyc_system_laws.specs.Keeping.{EndsRemoval};
 ghost use Rattle.cyc_system_sums.specs.Totalling.{Steps, expirations_along, losses_in, Answers};
-ghost use Rattle.cyc_system_pending.specs.Pending.{pending_on, all_pending, raised_on, Serves};
+ghost use Rattle.cyc_system_sums.specs.Pending.{pending_on, all_pending, raised_on, Serves};
 
 use cyc_types::Calls;
 

@@ -1,5 +1,5 @@
-use Rattle.cyc_system_pending.proofs.Balanced.{run_balances, levels_of, receipt_calls}
-use Rattle.cyc_system_pending.proofs.pending.balance_law.Goals as goal
+use Rattle.cyc_system_sums.proofs.Balanced.{run_balances, levels_of, receipt_calls}
+use Rattle.cyc_system_sums.proofs.pending.balance_law.Goals as goal
 
 pub returns-clause-balanced : goal.returns-clause-balanced
 returns-clause-balanced g c id s t way run a h open_still =

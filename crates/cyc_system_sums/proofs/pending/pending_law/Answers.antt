@@ -1,6 +1,6 @@
-use Rattle.cyc_system_pending.proofs.Pends.{kept_on, fired_on, served_on}
-use Rattle.cyc_system_pending.proofs.Balanced.{levels_kept, moved_none, answered_none, totals_all}
-use Rattle.cyc_system_pending.proofs.pending.pending_law.Goals as goal
+use Rattle.cyc_system_sums.proofs.Pends.{kept_on, fired_on, served_on}
+use Rattle.cyc_system_sums.proofs.Balanced.{levels_kept, moved_none, answered_none, totals_all}
+use Rattle.cyc_system_sums.proofs.pending.pending_law.Goals as goal
 
 pub returns-clause-kept : goal.returns-clause-kept
 returns-clause-kept g c id n s t call d not =

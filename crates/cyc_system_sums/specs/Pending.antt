@@ -9,10 +9,10 @@ use Rattle.cyc_timers.specs.declared.fire.Fired.{Fired}
 use Rattle.cyc_timers.specs.declared.fire.FireRefused.{FireRefused}
 use Rattle.cyc_cpu.specs.Cpu.{CpuView}
 use Rattle.cyc_cpu.specs.Calls.{Fire}
-use Rattle.cyc_system_sums.specs.Accounts.{Account, account_of}
+use Rattle.cyc_system_laws.specs.Accounts.{Account, account_of}
 use Rattle.cyc_agreement.specs.Cpus.{CpusView}
-use Rattle.cyc_system_sums.specs.System.{SystemView}
-use Rattle.cyc_system_sums.specs.Calls.{SystemCall, FireOne, SoftInterrupt}
+use Rattle.cyc_system_laws.specs.System.{SystemView}
+use Rattle.cyc_system_laws.specs.SystemCalls.{SystemCall, FireOne, SoftInterrupt}
 
 -- the outstanding calls of an id on a CPU, at both of its soft levels: pending, in hand, or kept for its removal (cy_pend)
 abbrev pub pending_in : ℕ → CpuView Tables → ℕ

@@ -23,8 +23,8 @@ use Rattle.cyc_core.specs.FiringSide.{Fires}
 use Rattle.cyc_core.specs.DrainingSide.{take_events, Drains}
 use Rattle.cyc_core.proofs.Changes.{held_cyclic}
 use Rattle.cyc_cpu.specs.Soft.{raise_tables}
-use Rattle.cyc_system_sums.specs.Cores.{LevelCall, OfFiring, OfSoft, LevelDoes, firing_calls, soft_calls}
-use Rattle.cyc_system_sums.proofs.Lists.{eq_true, true_eq, false_ne, false_true}
+use Rattle.cyc_system_laws.specs.Cores.{LevelCall, OfFiring, OfSoft, LevelDoes, firing_calls, soft_calls}
+use Rattle.cyc_system_laws.proofs.Lists.{eq_true, true_eq, false_ne, false_true}
 
 -- ---- a lawful level stays so
 

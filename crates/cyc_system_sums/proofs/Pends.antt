@@ -22,24 +22,24 @@ use Rattle.cyc_cpu.specs.Cpu.{CpuView, Running, running}
 use Rattle.cyc_cpu.specs.Laws.{IsLawful}
 use Rattle.cyc_cpu.specs.Soft.{raise_tables, firing_at, Interrupts}
 use Rattle.cyc_cpu.specs.Calls.{CpuCall, Changes as CpuChanges, Does as CpuDoes, Fire, SoftInterrupt as CpuSoftInterrupt}
-use Rattle.cyc_system_sums.specs.Accounts.{account_of, lost_of}
-use Rattle.cyc_system_sums.proofs.Accounting.{none_made}
-use Rattle.cyc_system_sums.proofs.Cores.{core_proceeds_one}
-use Rattle.cyc_system_sums.proofs.Stills.{still_raises, changes_still}
+use Rattle.cyc_system_laws.specs.Accounts.{account_of, lost_of}
+use Rattle.cyc_system_laws.proofs.Accounting.{none_made}
+use Rattle.cyc_system_laws.proofs.Cores.{core_proceeds_one}
+use Rattle.cyc_system_laws.proofs.Stills.{still_raises, changes_still}
 use Rattle.cyc_agreement.specs.Cpus.{CpusView, IsCpu, ChangesAt}
 use Rattle.cyc_agreement.proofs.CpuSpots.{get_set_same, get_set_other}
-use Rattle.cyc_system_sums.specs.System.{SystemView, RunningSystem}
-use Rattle.cyc_system_sums.specs.Calls.{SystemCall, Changes, Does, no_fire, Add, AddOmni, Bind, BeginRemove, PollRemove}
-use Rattle.cyc_system_sums.specs.Calls.{AskTotals}
-use Rattle.cyc_system_sums.specs.Calls.{Reprogram, ReprogramOn, Juggle, Offline, Online, FireOne, SoftInterrupt}
-use Rattle.cyc_system_sums.specs.Parts.{CpusCall, OnCpu, SetOnline, DoesPart}
-use Rattle.cyc_system_sums.proofs.Over.{at_one}
-use Rattle.cyc_system_sums.proofs.Pieces.{made_of}
-use Rattle.cyc_system_sums.proofs.Flow.{sum_set}
-use Rattle.cyc_system_pending.specs.Pending.{pending_in, pending_on, raised_in, raised_on, Serves}
+use Rattle.cyc_system_laws.specs.System.{SystemView, RunningSystem}
+use Rattle.cyc_system_laws.specs.SystemCalls.{SystemCall, Changes, Does, no_fire, Add, AddOmni, Bind, BeginRemove, PollRemove}
+use Rattle.cyc_system_laws.specs.SystemCalls.{AskTotals}
+use Rattle.cyc_system_laws.specs.SystemCalls.{Reprogram, ReprogramOn, Juggle, Offline, Online, FireOne, SoftInterrupt}
+use Rattle.cyc_system_laws.specs.Parts.{CpusCall, OnCpu, SetOnline, DoesPart}
+use Rattle.cyc_system_laws.proofs.Over.{at_one}
+use Rattle.cyc_system_laws.proofs.Pieces.{made_of}
+use Rattle.cyc_system_laws.proofs.Flow.{sum_set}
+use Rattle.cyc_system_sums.specs.Pending.{pending_in, pending_on, raised_in, raised_on, Serves}
 use Rattle.cyc_system_sums.specs.Totalling.{losses_of_fire, losses_in}
 use Rattle.cyc_system_sums.proofs.Totals.{fire_here, lost_here}
-use Rattle.cyc_system_pending.proofs.Outstanding.{goes_law, way_law, goes_counts, way_counts}
+use Rattle.cyc_system_sums.proofs.Outstanding.{goes_law, way_law, goes_counts, way_counts}
 
 -- both levels of a CPU are lawful
 abbrev pub HasLawfulLevels : CpuView Tables → Type 0

@@ -17,32 +17,32 @@ use Rattle.cyc_cpu.specs.Cpu.{CpuView, running}
 use Rattle.cyc_cpu.specs.Laws.{IsLawful}
 use Rattle.cyc_cpu.specs.Soft.{raise_tables, firing_at, Interrupts}
 use Rattle.cyc_cpu.specs.Calls.{Fire, AskTotals as CpuAskTotals}
-use Rattle.cyc_system_sums.specs.Accounts.{account_of}
+use Rattle.cyc_system_laws.specs.Accounts.{account_of}
 use Rattle.cyc_agreement.specs.Cpus.{CpusView, IsCpu, numbers_from, Works}
-use Rattle.cyc_system_sums.specs.System.{SystemView, RunningSystem, has, ids_of}
-use Rattle.cyc_system_sums.specs.SystemRemoval.TheVariants as over
-use Rattle.cyc_system_sums.specs.SystemTotals.{SystemTotals}
-use Rattle.cyc_system_sums.specs.Counting.{Counted, asked}
-use Rattle.cyc_system_sums.proofs.Lists.{among, false_true}
-use Rattle.cyc_system_sums.proofs.Presence.{has_here}
-use Rattle.cyc_system_sums.proofs.Spots.{none_some}
-use Rattle.cyc_system_sums.proofs.Who.{ids_there}
-use Rattle.cyc_system_sums.specs.Counts.{all_expired, all_lost, AreLawful}
-use Rattle.cyc_system_sums.proofs.Forgetting.{begins_forgotten, polls_forgotten}
-use Rattle.cyc_system_sums.proofs.Sums.{sum_none}
-use Rattle.cyc_system_sums.specs.Calls.{SystemCall, Changes, Does, Add, AddOmni, Bind, BeginRemove, PollRemove, AskTotals}
-use Rattle.cyc_system_sums.specs.Calls.{Reprogram}
-use Rattle.cyc_system_sums.specs.Calls.{ReprogramOn, Juggle, Offline, Online, FireOne, SoftInterrupt}
-use Rattle.cyc_system_sums.specs.Gone.{AreLevelsLawful}
-use Rattle.cyc_system_sums.proofs.Over.{at_one}
-use Rattle.cyc_system_sums.specs.Sound.{IsSound}
-use Rattle.cyc_system_sums.specs.Keeping.{EndsRemoval}
+use Rattle.cyc_system_laws.specs.System.{SystemView, RunningSystem, has, ids_of}
+use Rattle.cyc_system_laws.specs.SystemRemoval.TheVariants as over
+use Rattle.cyc_system_laws.specs.SystemTotals.{SystemTotals}
+use Rattle.cyc_system_laws.specs.Counting.{Counted, asked}
+use Rattle.cyc_system_laws.proofs.Lists.{among, false_true}
+use Rattle.cyc_system_laws.proofs.Presence.{has_here}
+use Rattle.cyc_system_laws.proofs.Spots.{none_some}
+use Rattle.cyc_system_laws.proofs.Who.{ids_there}
+use Rattle.cyc_system_laws.specs.Counts.{all_expired, all_lost, AreLawful}
+use Rattle.cyc_system_laws.proofs.Forgetting.{begins_forgotten, polls_forgotten}
+use Rattle.cyc_system_laws.proofs.Sums.{sum_none}
+use Rattle.cyc_system_laws.specs.SystemCalls.{SystemCall, Changes, Does, Add, AddOmni, Bind, BeginRemove, PollRemove, AskTotals}
+use Rattle.cyc_system_laws.specs.SystemCalls.{Reprogram}
+use Rattle.cyc_system_laws.specs.SystemCalls.{ReprogramOn, Juggle, Offline, Online, FireOne, SoftInterrupt}
+use Rattle.cyc_system_laws.specs.Gone.{AreLevelsLawful}
+use Rattle.cyc_system_laws.proofs.Over.{at_one}
+use Rattle.cyc_system_laws.specs.Sound.{IsSound}
+use Rattle.cyc_system_laws.specs.Keeping.{EndsRemoval}
 use Rattle.cyc_system_sums.specs.Totalling.{Steps, expirations_in, expirations_along, losses_in, Answers, fired_in}
-use Rattle.cyc_system_pending.specs.Pending.{pending_in, pending_on, all_pending}
+use Rattle.cyc_system_sums.specs.Pending.{pending_in, pending_on, all_pending}
 use Rattle.cyc_system_sums.proofs.Totals.{one_grows, run_sound}
 use Rattle.cyc_system_sums.proofs.Given.{receipt_along, receipt_all, no_losses_yet}
-use Rattle.cyc_system_pending.proofs.Pends.{HasLawfulLevels, quietly, quiet_pends, keeps_at, quiet_levels, all_after, fire_pends}
-use Rattle.cyc_system_pending.proofs.Pends.{serve_pends}
+use Rattle.cyc_system_sums.proofs.Pends.{HasLawfulLevels, quietly, quiet_pends, keeps_at, quiet_levels, all_after, fire_pends}
+use Rattle.cyc_system_sums.proofs.Pends.{serve_pends}
 
 -- ---- where the cyclic is not
 

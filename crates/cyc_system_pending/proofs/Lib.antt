@@ -1,3 +1,0 @@
-pub mod Outstanding
-pub mod Pends
-pub mod Balanced
