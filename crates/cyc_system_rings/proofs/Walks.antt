@@ -32,7 +32,8 @@ use Rattle.cyc_agreement.specs.GoingOffline.{quiet, Retires}
 use Rattle.cyc_agreement.specs.Omni.{AddsOmni, entering_each, component_first}
 use Rattle.cyc_agreement.specs.Online.{staying, returns, return_at, switched_on}
 use Rattle.cyc_system_laws.specs.Counting.{asked}
-use Rattle.cyc_system_laws.specs.SystemCalls.{SystemCall, Changes, Add, AddOmni, Bind, BeginRemove, PollRemove, AskTotals, Reprogram}
+use Rattle.cyc_system_laws.specs.SystemCalls.{SystemCall, Changes, Add, AddOmni, Bind, BeginRemove, PollRemove, AskTotals}
+use Rattle.cyc_system_laws.specs.SystemCalls.{Reprogram}
 use Rattle.cyc_system_laws.specs.SystemCalls.{ReprogramOn, Juggle, Offline, Online, FireOne, SoftInterrupt}
 use Rattle.cyc_system_laws.proofs.Idle.{IsIdle, AreIdle, idle_on, idle_rooms, idle_reserves, idle_quiet, idle_asked}
 use Rattle.cyc_system_rings.proofs.Runs.{neither}
