@@ -42,6 +42,8 @@ fn a_refusal_has_its_number_and_shows_its_name(rt: HostRuntime) {
         (Refusal::NameTwice(5), 22, "NameTwice"),
         (Refusal::NoName(5), 23, "NoName"),
         (Refusal::Online, 24, "Online"),
+        (Refusal::Suspended, 25, "Suspended"),
+        (Refusal::NotSuspended, 26, "NotSuspended"),
     ];
     for (refusal, number, name) in cases {
         assert_eq!(rt; refusal.number(), number);

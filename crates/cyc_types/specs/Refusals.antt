@@ -5,6 +5,7 @@ use Rattle.cyc_types.specs.declared.refusal.Refusal.TheVariants.{Memory, BadWhen
 use Rattle.cyc_types.specs.declared.refusal.Refusal.TheVariants.{NoCyclic, Pending, IdsSpent, CountSpent, HandlerRefused, NoCpu}
 use Rattle.cyc_types.specs.declared.refusal.Refusal.TheVariants.{Offline, LastCpu, Omnipresent, Left, ScriptSyntax, ScriptShape}
 use Rattle.cyc_types.specs.declared.refusal.Refusal.TheVariants.{TimeBack, NameTwice, NoName, Online}
+use Rattle.cyc_types.specs.declared.refusal.Refusal.TheVariants.{Suspended, NotSuspended}
 
 -- the number of each refusal; none has 18
 abbrev pub number_of : Refusal → ℕ
@@ -31,3 +32,5 @@ number_of (TimeBack step) = 21
 number_of (NameTwice step) = 22
 number_of (NoName step) = 23
 number_of Online = 24
+number_of Suspended = 25
+number_of NotSuspended = 26

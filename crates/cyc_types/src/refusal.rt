@@ -71,6 +71,10 @@ pub enum Refusal {
     NoName(u32),
     /// The CPU is online.
     Online,
+    /// The clock is suspended.
+    Suspended,
+    /// The clock is not suspended.
+    NotSuspended,
 }
 
 impl Refusal {
@@ -102,6 +106,8 @@ impl Refusal {
             Refusal::NameTwice(_) => 22,
             Refusal::NoName(_) => 23,
             Refusal::Online => 24,
+            Refusal::Suspended => 25,
+            Refusal::NotSuspended => 26,
         }
     }
 
@@ -131,6 +137,8 @@ impl Refusal {
             Refusal::NameTwice(_) => "NameTwice",
             Refusal::NoName(_) => "NoName",
             Refusal::Online => "Online",
+            Refusal::Suspended => "Suspended",
+            Refusal::NotSuspended => "NotSuspended",
         }
     }
 }
