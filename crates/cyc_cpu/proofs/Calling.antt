@@ -1,5 +1,6 @@
 -- The cases of what a call does.
 use Rattle.std.proofs.Common.{◌≡◌, ◌≢◌, ℕ, ◌++◌, ◌∷◌, List, length, Some, None, true, false, inl, inr, refl, sym, ap, ◌∙◌, subst}
+use Rattle.std.proofs.lemmas.Bool.{false≢true}
 use Rattle.std.specs.Prelude.{Result, Ok, Err, IfOk, IfErr}
 use Rattle.cyc_types.specs.declared.Calls.{Ghosts as Calls}
 use Rattle.cyc_types.specs.declared.Raise.{Ghosts as Raise}
@@ -23,12 +24,13 @@ use Rattle.cyc_cpu.specs.declared.removing.Removal.TheVariants.{Done, Kept}
 use Rattle.cyc_cpu.specs.Moving.{WhyNotTaken}
 use Rattle.cyc_cpu.specs.Cpu.{CpuView, Running, SameCpu, Makes, WhyStopped, Looked, WhyNotReserved, sides}
 use Rattle.cyc_cpu.specs.Calls.{CpuCall, Fire, SoftInterrupt, Add, Place, Reprogram, AskPending, AskTotals, AskRoom, Reserve}
-use Rattle.cyc_cpu.specs.Calls.{Widen, BeginRemove, PollRemove, TakeNow, AskSettled, Changes, Does, Stopped}
+use Rattle.cyc_cpu.specs.Calls.{Widen, BeginRemove, PollRemove, TakeNow, AskSettled, Suspend, Resume, Changes, Does, Stopped}
+use Rattle.cyc_cpu.specs.Calls.{MayFire, WhyNoFire}
 
 module _ {C R : Type 0} (handler : Calls C) (firing : Raise R)
     (interrupts : Soft → ℕ → Result Ran SoftRefused → Running C R → Running C R → Type 0) (now : ℕ) (s t : Running C R)
-    (early : now ≢ never) (kept : SameCpu s.cpu t.cpu) where
-  -- a fire at a moment that is not never
+    (may : MayFire now s.cpu) (kept : SameCpu s.cpu t.cpu) where
+  -- a fire that is not refused at once
   pub fired : (answer : Result Fired FireRefused) → IfOk answer (λ r. r.expired ≡ length (expirations now (timers s.cpu.cyclics)))
       → IfOk answer (λ r. r.next ≡ earliest (timers t.cpu.cyclics))
       → IfOk answer (λ r. Makes (at_level handler.called High) handler.count firing now
@@ -40,10 +42,10 @@ module _ {C R : Type 0} (handler : Calls C) (firing : Raise R)
       × ((id : ℕ) → handler.count t.calls id ≡ handler.count at id)
       × WhyStopped handler.may_refuse s.cpu.most at last (timers t.cpu.cyclics) e.why)
       → Does handler firing interrupts s (Fire now answer) t
-  fired (Ok r) expired next makes stopped = (early, kept, expired, next, makes)
+  fired (Ok r) expired next makes stopped = (may, kept, expired, next, makes)
   fired (Err e) expired next makes (made, last, rest, listed, long, at, m, counted, stops) =
       inr (
-        early,
+        may,
         kept,
         record {
           made = made;
@@ -66,14 +68,20 @@ pub not_added : {R : Type 0} (firing : Raise R) (id now : ℕ) (level : Level)
 not_added firing id now level when v w BadNow early d = absurd (early d.1)
 not_added firing id now level when v w e early d = (d.2, d.3)
 
--- what refused a fire at a moment that is not never
+-- a fire that is taken up is not refused at once
+pub refused_not : {R : Type 0} (now : ℕ) (v : CpuView R) (e : Refusal) → MayFire now v → WhyNoFire now v e → ⊥
+refused_not now v why.Suspended may is = false≢true (sym may.awake ∙ is)
+refused_not now v why.BadNow may is = may.early is.1
+refused_not now v e may is = is
+
+-- what refused a fire that was taken up
 pub not_fired : {C R : Type 0} (handler : Calls C) (firing : Raise R)
     (interrupts : Soft → ℕ → Result Ran SoftRefused → Running C R → Running C R → Type 0) (now : ℕ) (s t : Running C R)
-    (e : FireRefused) → now ≢ never
+    (e : FireRefused) → MayFire now s.cpu
     → Does handler firing interrupts s (Fire now (Err e)) t
     → Stopped handler firing now e s t
-not_fired handler firing interrupts now s t e early (inl d) = absurd (early d.0)
-not_fired handler firing interrupts now s t e early (inr d) = d.2
+not_fired handler firing interrupts now s t e may (inl d) = absurd (refused_not now s.cpu e.why may d.0)
+not_fired handler firing interrupts now s t e may (inr d) = d.2
 
 -- what a cyclic may expire at most is the same for good
 not_taken_most : {R : Type 0} (firing : Raise R) (id : ℕ) (v w : CpuView R)
@@ -116,6 +124,8 @@ changes_most firing v w (TakeNow id (Ok taken)) (still, (c, counts, is, polled, 
 changes_most firing v w (TakeNow id (Err e)) d = not_taken_most firing id v w e d
 changes_most firing v w (AskSettled true) d = d.0.kept.most
 changes_most firing v w (AskSettled false) d = d.0.kept.most
+changes_most {R} firing v w Suspend d = ap (λ (x : CpuView R). x.most) d
+changes_most {R} firing v w Resume d = ap (λ (x : CpuView R). x.most) d
 changes_most firing v w (Fire now answer) d = absurd d
 changes_most firing v w (SoftInterrupt level budget answer) d = absurd d
 
@@ -126,5 +136,5 @@ pub fire_keeps : {C R : Type 0} (handler : Calls C) (firing : Raise R)
     → Does handler firing interrupts s (Fire now answer) t → SameCpu s.cpu t.cpu
 fire_keeps handler firing interrupts now s t (Ok r) d = d.1
 fire_keeps handler firing interrupts now s t (Err e) (inl (late, is, same)) =
-    subst (λ x. SameCpu s.cpu x.cpu) (sym same) (record { removal = refl; size = refl; room = refl; most = refl })
+    subst (λ x. SameCpu s.cpu x.cpu) (sym same) (record { removal = refl; size = refl; room = refl; most = refl; suspended = refl })
 fire_keeps handler firing interrupts now s t (Err e) (inr d) = d.1

@@ -43,6 +43,7 @@ use Rattle.cyc_cpu.specs.Cpu.{AreAdmitted, HasRisingIds, with_moment}
 use Rattle.cyc_cpu.specs.Removal.{calls_at, EndGoes, Leaves}
 use Rattle.cyc_cpu.specs.Moving.{WhyNotTaken, Inquires}
 use Rattle.cyc_cpu.specs.Soft.{raise_tables, firing_at, held_at, end_at, drain_tables, SoftKept, Interrupts}
+use Rattle.cyc_cpu.specs.Calls.{Suspend, Resume}
 use Rattle.cyc_cpu.specs.Calls.{CpuCall, Fire, SoftInterrupt, Add, Place, Reprogram, AskPending, AskTotals, AskRoom, Reserve}
 use Rattle.cyc_cpu.specs.Calls.{Widen, BeginRemove, PollRemove, TakeNow, AskSettled, Changes, Does}
 use Rattle.cyc_cpu.specs.Gone.{IsAbsent, IsGone, HasLeft, PutsNot, StaysGone}
@@ -261,6 +262,11 @@ inquired_gone id v w h i = record {
 same_gone : (id : ℕ) (v w : CpuView Tables) → IsGone id v → w ≡ v → IsGone id w
 same_gone id v w h is = subst (λ (x : CpuView Tables). IsGone id x) (sym is) h
 
+-- a mark of the CPU says nothing of a cyclic
+marked_gone : (id : ℕ) (mark : Bool) (v w : CpuView Tables) → IsGone id v → w ≡ record v { suspended = mark } → IsGone id w
+marked_gone id mark v w h is = subst (λ (x : CpuView Tables). IsGone id x) (sym is)
+    (record { no_cyclic = h.no_cyclic; lock = h.lock; low = h.low })
+
 not_taken_gone : (id j : ℕ) (v w : CpuView Tables) (e : Refusal) → IsGone id v → WhyNotTaken raise_tables j v e w → IsGone id w
 not_taken_gone id j v w why.NoCyclic h d = same_gone id v w h d.1
 not_taken_gone id j v w (why.Busy removed) h d = same_gone id v w h d.2
@@ -308,6 +314,8 @@ changes_gone id v w (TakeNow j (Ok taken)) h not (still, (c, counts, is, polled,
 changes_gone id v w (TakeNow j (Err e)) h not d = not_taken_gone id j v w e h d
 changes_gone id v w (AskSettled true) h not d = inquired_gone id v w h d.0
 changes_gone id v w (AskSettled false) h not d = inquired_gone id v w h d.0
+changes_gone id v w Suspend h not d = marked_gone id true v w h d
+changes_gone id v w Resume h not d = marked_gone id false v w h d
 changes_gone id v w (Fire now answer) h not d = absurd d
 changes_gone id v w (SoftInterrupt soft budget answer) h not d = absurd d
 
@@ -353,6 +361,8 @@ module _ {C : Type 0} (handler : Calls C) (id : ℕ) where
   stays_gone s t (PollRemove answer) h not r = quiet_gone s t (PollRemove answer) h not r
   stays_gone s t (TakeNow j answer) h not r = quiet_gone s t (TakeNow j answer) h not r
   stays_gone s t (AskSettled answer) h not r = quiet_gone s t (AskSettled answer) h not r
+  stays_gone s t Suspend h not r = quiet_gone s t Suspend h not r
+  stays_gone s t Resume h not r = quiet_gone s t Resume h not r
 
   pub runs_gone : (s t : Running C Tables) (way : List CpuCall) → IsGone id s.cpu → All (PutsNot id) way → FoldsTo Runs s way t
       → StaysGone handler.count id s t

@@ -1,5 +1,5 @@
 -- What is true of every CPU, from what its fields keep.
-use Rattle.std.proofs.Common.{◌≡◌, ℕ, ◌<◌, ◌≤◌, Option, List, All, Some, length, get_or, refl, sym, ap, ◌∙◌, subst, arith, inl}
+use Rattle.std.proofs.Common.{◌≡◌, ℕ, Bool, ◌<◌, ◌≤◌, Option, List, All, Some, length, get_or, refl, sym, ap, ◌∙◌, subst, arith, inl}
 use Rattle.std.proofs.Common.{inr}
 use Rattle.std.proofs.lemmas.Bool.{cases_lt, cases_eq}
 use Rattle.std.proofs.lemmas.List.{length-map, get_or-map, get_or_default}
@@ -82,18 +82,19 @@ module _ {R : Type 0} (view : R → FiringView) (size room most : ℕ) (removal 
       subst (IsSpared (view lock).ceiling (view low).ceiling) (sym (get_or-map cyclic_of rows k e d at))
       (spared_row k (get_or rows k e) (at, get_or_default rows k (get_or rows k e) e at))
 
-  pub lawful : length rows ≤ size → size ≤ most_cyclics → size ≤ room
+  pub lawful : (suspended : Bool) → length rows ≤ size → size ≤ most_cyclics → size ≤ room
       → IsLawful view (record {
         cyclics = cyclics_of rows;
         removal = removal;
         size = size;
         room = room;
         most = most;
+        suspended = suspended;
         lock =
             lock;
         low = low;
       })
-  lawful few small reserved =
+  lawful suspended few small reserved =
       let up = rising_cyclics rows rising in
       let removed = λ (id : ℕ) (q : removal ≡ Some id). removed_cyclic view size most removal lock low rows id h q in
       record {

@@ -12,7 +12,7 @@ use Rattle.cyc_types.specs.declared.level.Soft.{Soft}
 use Rattle.cyc_types.specs.declared.moment.When.{When}
 use Rattle.cyc_types.specs.declared.receipt.Receipt.{Receipt}
 use Rattle.cyc_types.specs.declared.refusal.Refusal.{Refusal}
-use Rattle.cyc_types.specs.declared.refusal.Refusal.TheVariants.{BadNow, NoCyclic}
+use Rattle.cyc_types.specs.declared.refusal.Refusal.TheVariants.{BadNow, NoCyclic, Suspended}
 use Rattle.cyc_soft.specs.declared.Ran.{Ran}
 use Rattle.cyc_soft.specs.declared.SoftRefused.{SoftRefused}
 use Rattle.cyc_types.specs.Timers.{earliest}
@@ -46,6 +46,8 @@ pub data CpuCall : Type 0 where
   PollRemove : Option Receipt → CpuCall
   TakeNow : ℕ → Result Taken Refusal → CpuCall
   AskSettled : Bool → CpuCall
+  Suspend : CpuCall
+  Resume : CpuCall
 
 -- a cyclic with these counts may be put in: its id is new here, and an index is free
 pub record MayPlace {R : Type 0} (id : ℕ) (carried : Sent) (v : CpuView R) : Type 0 where
@@ -98,8 +100,21 @@ Changes firing v (TakeNow id (Ok taken)) w = (v.removal ≡ None) × TakesNow fi
 Changes firing v (TakeNow id (Err e)) w = WhyNotTaken firing id v e w
 Changes firing v (AskSettled true) w = Inquires firing v w × IsSettled firing.view w
 Changes firing v (AskSettled false) w = Inquires firing v w × (IsSettled firing.view w → ⊥)
+Changes firing v Suspend w = w ≡ record v { suspended = true }
+Changes firing v Resume w = w ≡ record v { suspended = false }
 Changes firing v (Fire now answer) w = ⊥
 Changes firing v (SoftInterrupt level budget answer) w = ⊥
+
+-- a fire is taken up: the CPU is not suspended, and the moment is not never
+pub record MayFire {R : Type 0} (now : ℕ) (v : CpuView R) : Type 0 where
+  pub awake : v.suspended ≡ false
+  pub early : now ≢ never
+
+-- why a fire is refused at once: while the CPU is suspended nothing else is looked at
+abbrev pub WhyNoFire : {R : Type 0} → ℕ → CpuView R → Refusal → Type 0
+WhyNoFire now v Suspended = v.suspended ≡ true
+WhyNoFire now v BadNow = (v.suspended ≡ false) × (now ≡ never)
+WhyNoFire now v e = ⊥
 
 -- a fire was stopped by an expiration that was refused: those before it were made, and no other
 pub record Stopped {C R : Type 0} (handler : Calls C) (firing : Raise R) (now : ℕ)
@@ -121,13 +136,13 @@ pub record Stopped {C R : Type 0} (handler : Calls C) (firing : Raise R) (now : 
 -- has both sides of its levels.
 abbrev pub Does : {C R : Type 0} → Calls C → Raise R
     → (Soft → ℕ → Result Ran SoftRefused → Running C R → Running C R → Type 0) → Running C R → CpuCall → Running C R → Type 0
-Does handler firing interrupts s (Fire now (Ok r)) t = (now ≢ never) × SameCpu s.cpu t.cpu
+Does handler firing interrupts s (Fire now (Ok r)) t = MayFire now s.cpu × SameCpu s.cpu t.cpu
     × (r.expired ≡ length (expirations now (timers s.cpu.cyclics))) × (r.next ≡ earliest (timers t.cpu.cyclics))
     × Makes (at_level handler.called High) handler.count firing now (expirations now (timers s.cpu.cyclics))
     s.cpu.cyclics t.cpu.cyclics (sides s.calls s.cpu) (sides t.calls t.cpu) r.lost
 Does handler firing interrupts s (Fire now (Err e)) t =
-    ((now ≡ never) × (e ≡ record { why = BadNow; expired = 0; lost = 0 }) × (t ≡ s))
-    ⊎ ((now ≢ never) × SameCpu s.cpu t.cpu × Stopped handler firing now e s t)
+    (WhyNoFire now s.cpu e.why × (e ≡ record e { expired = 0; lost = 0 }) × (t ≡ s))
+    ⊎ (MayFire now s.cpu × SameCpu s.cpu t.cpu × Stopped handler firing now e s t)
 Does handler firing interrupts s (SoftInterrupt level budget answer) t = interrupts level budget answer s t
 Does handler firing interrupts s call t = Changes firing s.cpu call t.cpu × (t.calls ≡ s.calls)
 

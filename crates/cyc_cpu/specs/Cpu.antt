@@ -1,6 +1,6 @@
 -- What callers see of the firing side of one CPU.
 use Rattle.std.specs.Prelude.{◌≡◌, ◌≢◌, ℕ, zero, suc, ◌+◌, ◌^◌, nat_le, cond, insert, ◌<◌, ◌≤◌, max, List, length, slice_index_or}
-use Rattle.std.specs.Prelude.{All, true, false, ◌⊎◌, Option, Some, None}
+use Rattle.std.specs.Prelude.{All, Bool, true, false, ◌⊎◌, Option, Some, None}
 use Rattle.cyc_types.specs.declared.Raise.{Ghosts as Raise}
 use Rattle.cyc_types.specs.Firing.{FiringView, Expands, Stay, IsAdmitted, seen_of}
 use Rattle.cyc_types.specs.Series.{never}
@@ -27,6 +27,8 @@ pub record CpuView (R : Type 0) : Type 0 where
   pub room : ℕ
   -- the most expirations of a cyclic
   pub most : ℕ
+  -- it makes no fire, until it is resumed
+  pub suspended : Bool
   pub lock : R
   pub low : R
 
@@ -52,6 +54,7 @@ pub record SameCpu {R : Type 0} (v w : CpuView R) : Type 0 where
   pub size : w.size ≡ v.size
   pub room : w.room ≡ v.room
   pub most : w.most ≡ v.most
+  pub suspended : w.suspended ≡ v.suspended
 
 -- an end with no cyclic, on bank 0
 pub record IsFresh (v : FiringView) : Type 0 where
@@ -158,6 +161,7 @@ pub record Reserves {R : Type 0} (firing : Raise R) (more : ℕ)
   pub size : w.size ≡ v.size
   pub room : w.room ≡ max v.room (size_for v.size (length v.cyclics + more))
   pub most : w.most ≡ v.most
+  pub suspended : w.suspended ≡ v.suspended
 
 -- why no memory was taken for so many more: as for room, and then want of memory where more is needed than is there
 abbrev pub WhyNotReserved : {R : Type 0} → (R → FiringView) → ℕ → CpuView R → CpuView R → Refusal → Type 0
@@ -178,6 +182,7 @@ pub record Widens {R : Type 0} (firing : Raise R) (more : ℕ)
   pub removal : w.removal ≡ v.removal
   pub room : w.room ≡ v.room
   pub most : w.most ≡ v.most
+  pub suspended : w.suspended ≡ v.suspended
 
 -- a cyclic with the counts that it carries in
 abbrev pub cyclic_with : ℕ → Level → ℕ → ℕ → ℕ → ℕ → Cyclic

@@ -39,6 +39,7 @@ pub record Leaves {R : Type 0} (firing : Raise R) (id : ℕ) (way : List FiringC
   pub size : w.size ≡ v.size
   pub room : w.room ≡ v.room
   pub most : w.most ≡ v.most
+  pub suspended : w.suspended ≡ v.suspended
 
 -- the removal of this cyclic is open: so many calls of it are kept, and it never expires
 pub record Opens {R : Type 0} (firing : Raise R) (id kept : ℕ)
@@ -55,6 +56,7 @@ pub record Opens {R : Type 0} (firing : Raise R) (id kept : ℕ)
   pub size : w.size ≡ v.size
   pub room : w.room ≡ v.room
   pub most : w.most ≡ v.most
+  pub suspended : w.suspended ≡ v.suspended
 
 -- a cyclic that leaves has the counts that it carried in and, at a soft level, those that the end of its stay answered; and it
 -- has lost nothing here where it is spared

@@ -1,7 +1,7 @@
 //! The firing side of one CPU: opening it, taking memory, growing, adding and firing.
 
 ghost use Rattle.std.specs.Prelude.{◌≡◌, ◌≢◌, ℕ, ◌+◌, ◌<◌, ◌≤◌, ◌++◌, ◌∷◌, [], List, All, length, slice_set, None, Some, IfOk};
-ghost use Rattle.std.specs.Prelude.{IfErr, Ok, OnOk, OnErr, IfNone, IfSome, ◌⊎◌};
+ghost use Rattle.std.specs.Prelude.{false, IfErr, Ok, OnOk, OnErr, IfNone, IfSome, ◌⊎◌};
 ghost use Rattle.std.specs.Bool.{OnTrue, OnFalse};
 ghost use Rattle.cyc_types.specs.Limits.{cyclics};
 ghost use Rattle.cyc_types.specs.declared.level.Level.TheVariants.{Low, Lock};
@@ -39,6 +39,7 @@ pub struct Hard<R: Raise> {
     pub(crate) table: Table,
     pub(crate) removal: Option<CyclicId>,
     pub(crate) most: u64,
+    pub(crate) suspended: bool,
     pub(crate) lock: R,
     pub(crate) low: R,
 }
@@ -57,11 +58,23 @@ impl<R: Raise> Model for Hard<R> {
       room =
           h.table.room;
       most = h.most;
+      suspended = h.suspended;
       lock = h.lock;
       low = h.low;
     } };
 
     ghost invariant = { λ h. IsHard R.view h.table.size h.most h.removal h.lock h.low h.table.rows };
+}
+
+/// A fire that made nothing is refused.
+fn refused(why: Refusal) -> FireRefused
+    ensures { result ≡ record { why = why; expired = 0; lost = 0 } }
+{
+    FireRefused {
+        why,
+        expired: 0,
+        lost: 0,
+    }
 }
 
 impl<R: Raise + Drop> Hard<R> {
@@ -76,6 +89,7 @@ impl<R: Raise + Drop> Hard<R> {
           size = 1;
           room = 1;
           most = most;
+          suspended = false;
           lock =
               lock;
           low = low;
@@ -89,6 +103,7 @@ impl<R: Raise + Drop> Hard<R> {
             table,
             removal: None,
             most,
+            suspended: false,
             lock,
             low,
         })
@@ -104,6 +119,7 @@ impl<R: Raise> Hard<R> {
             table: _table,
             removal: _,
             most: _,
+            suspended: _,
             lock,
             low,
         } = self;
@@ -143,19 +159,19 @@ impl<R: Raise> Hard<R> {
     /// Makes every expiration that is due at `now`, in the order of their moments and ids (`cyclic_fire`). At high level the
     /// handler is called, at a soft level the pend is raised.
     ///
-    /// Refuses with BadNow where `now` is never. An expiration of a cyclic that has expired `most` times is refused with
+    /// Refuses with Suspended while the CPU is suspended, then with BadNow where `now` is never. An expiration of a cyclic that has expired `most` times is refused with
     /// CountSpent, and one whose handler refuses with HandlerRefused; those before it were made. Takes no memory.
     pub fn fire<C: Calls>(&mut self, now: Moment, calls: &mut C) -> Result<Fired, FireRefused>
-        // The whole list was made, or it was made up to an expiration that was refused; at the moment that is never, nothing.
+        // The whole list was made, or it was made up to an expiration that was refused; while the CPU is suspended, or at the moment
+        // that is never, nothing.
         ensures { Does C.Calls R.Raise no_interrupts (running calls.old self.old) (Fire now result)
             (running calls.new self.new) }
     {
+        if self.suspended {
+            return Err(refused(Refusal::Suspended));
+        }
         if now.nanoseconds() == Moment::NEVER.nanoseconds() {
-            return Err(FireRefused {
-                why: Refusal::BadNow,
-                expired: 0,
-                lost: 0,
-            });
+            return Err(refused(Refusal::BadNow));
         }
         fire_all(
             &mut self.table,

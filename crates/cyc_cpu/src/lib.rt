@@ -14,6 +14,7 @@ mod next;
 mod removing;
 mod settling;
 mod soft;
+mod suspending;
 
 pub use cyc_core::LevelCore;
 pub use cyc_timers::{FireRefused, Fired, share_law};

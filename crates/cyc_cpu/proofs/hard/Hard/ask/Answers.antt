@@ -44,6 +44,7 @@ returns-clause-some g c =
       room =
           i.table.room;
       most = i.most;
+      suspended = i.suspended;
       lock = c.load_pend-pend.new.lock;
       low = c.load_pend-pend.new.low;
     } in
@@ -61,7 +62,7 @@ returns-clause-some g c =
         low = subst (λ l. Goes g.R.Raise i.low
             (asks_at Low l c.args.id c.load_pend-pend.result) c.load_pend-pend.new.low) level e.low;
         cyclics = refl;
-        kept = record { removal = refl; size = refl; room = refl; most = refl };
+        kept = record { removal = refl; size = refl; room = refl; most = refl; suspended = refl };
       },
       rec.2,
       rec.3,

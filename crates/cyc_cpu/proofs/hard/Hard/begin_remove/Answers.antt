@@ -94,6 +94,7 @@ returns-then-left-gt0 g c =
         size = c.reprogram.ensures.size;
         room = c.reprogram.ensures.room;
         most = refl;
+        suspended = refl;
       }),
     )
 
@@ -173,6 +174,7 @@ returns g c =
               size = c.remove.ensures.size;
               room = c.remove.ensures.room;
               most = refl;
+              suspended = refl;
             }),
       ),
     )

@@ -17,6 +17,7 @@ returns g c =
       room =
           n.table.room;
       most = i.most;
+      suspended = i.suspended;
       lock = n.lock;
       low = n.low;
     } in
@@ -27,6 +28,7 @@ returns g c =
       room =
           i.table.room;
       most = i.most;
+      suspended = i.suspended;
       lock = i.lock;
       low = i.low;
     } in
@@ -34,5 +36,5 @@ returns g c =
     subst (λ (v : CpuView _). Does g.C.Calls g.R.Raise
     no_interrupts (running c.args.calls.now v) (Fire c.args.now c.fire_all.result) (running n.calls w)) c.self.view_is
     (fired g.C.Calls g.R.Raise no_interrupts c.args.now
-    (running c.args.calls.now u) (running n.calls w) early
-    (record { removal = refl; size = e.size; room = e.room; most = refl }) c.fire_all.result e.expired e.next e.made e.refused)
+    (running c.args.calls.now u) (running n.calls w) (record { awake = c.if-self.false; early = early })
+    (record { removal = refl; size = e.size; room = e.room; most = refl; suspended = refl }) c.fire_all.result e.expired e.next e.made e.refused)

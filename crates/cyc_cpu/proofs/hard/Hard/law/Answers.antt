@@ -9,6 +9,6 @@ returns g c =
     let i = c.self.inside in
     subst (λ (v : CpuView _). IsLawful g.R.Raise.view v) c.self.view_is
     (lawful g.R.Raise.view i.table.size i.table.room i.most i.removal i.lock i.low i.table.rows c.self.invariant
-    c.law.ensures.rising
+    c.law.ensures.rising i.suspended
     (let a = c.len.ensures in omega (arith, a)) (let b = c.size.ensures in omega (arith, b))
     (let b = c.size.ensures in omega (arith, b)))

@@ -94,6 +94,7 @@ returns g c =
           size = c.insert-index.ensures.size ∙ ap (λ (x : CpuView _). x.size) v;
           room = c.insert-index.ensures.room ∙ ap (λ (x : CpuView _). x.room) v;
           most = ap (λ (x : CpuView _). x.most) v;
+          suspended = ap (λ (x : CpuView _). x.suspended) v;
         };
       },
     )

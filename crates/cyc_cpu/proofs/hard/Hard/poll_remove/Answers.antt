@@ -71,7 +71,7 @@ returns-then-not-poll_at g c =
               level b,
         );
         cyclics = refl;
-        kept = record { removal = refl; size = refl; room = refl; most = refl };
+        kept = record { removal = refl; size = refl; room = refl; most = refl; suspended = refl };
       }),
     )
 
@@ -146,4 +146,5 @@ returns g c =
       size = c.remove.ensures.size;
       room = c.remove.ensures.room;
       most = refl;
+      suspended = refl;
     })

@@ -48,6 +48,7 @@ returns g c =
         size = (c.reprogram.ensures.size ∙ ap (λ (x : CpuView _). x.size) v) j;
         room = (c.reprogram.ensures.room ∙ ap (λ (x : CpuView _). x.room) v) j;
         most = ap (λ (x : CpuView _). x.most) v j;
+        suspended = ap (λ (x : CpuView _). x.suspended) v j;
         lock = ap (λ (x : CpuView _). x.lock) v j;
         low = ap (λ (x : CpuView _). x.low) v j;
       },

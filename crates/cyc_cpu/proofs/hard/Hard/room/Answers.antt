@@ -18,6 +18,7 @@ returns g c =
       size = i.table.size;
       room = i.table.room;
       most = i.most;
+      suspended = i.suspended;
       lock =
           c.both_followed.new.lock;
       low = c.both_followed.new.low;
@@ -26,7 +27,7 @@ returns g c =
       lock = (a ∷ [], (c.both_followed.new.lock, taught, refl));
       low = (b ∷ [], (c.both_followed.new.low, taught', refl));
       cyclics = refl;
-      kept = record { removal = refl; size = refl; room = refl; most = refl };
+      kept = record { removal = refl; size = refl; room = refl; most = refl; suspended = refl };
     }) in
     let l = length-map i.table.rows cyclic_of in
     let len = c.len-len.ensures.value in let size = c.size-size.ensures.value in let from = c.from.ensures in

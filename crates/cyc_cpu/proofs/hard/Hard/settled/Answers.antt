@@ -14,7 +14,7 @@ returns-then-is_some g c =
         lock = (v.lock, ([], refl), ([], refl));
         low = (v.low, ([], refl), ([], refl));
         cyclics = refl;
-        kept = record { removal = refl; size = refl; room = refl; most = refl };
+        kept = record { removal = refl; size = refl; room = refl; most = refl; suspended = refl };
       },
       λ settled. some_not_none c.self.inside.removal (sym c.is_some.ensures ∙ c.if-is_some.true)
           (ap (λ (x : CpuView _). x.removal) c.self.view_is ∙ settled.still),
@@ -35,7 +35,7 @@ returns-then-not-all_quiet g c =
         lock = (c.all_quiet.new.lock, e.lock, ([], refl));
         low = (c.all_quiet.new.low, e.low, ([], refl));
         cyclics = refl;
-        kept = record { removal = refl; size = refl; room = refl; most = refl };
+        kept = record { removal = refl; size = refl; room = refl; most = refl; suspended = refl };
       }),
       λ settled. (let none = settled.seen id in absurd (omega (arith, none, some))),
     )
@@ -65,7 +65,7 @@ returns g c =
       lock = (c.all_quiet.new.lock, e.lock, (a ∷ [], (c.both_followed.new.lock, (stepped, learns), refl)));
       low = (c.all_quiet.new.low, e.low, (b ∷ [], (c.both_followed.new.low, (stepped', learns'), refl)));
       cyclics = refl;
-      kept = record { removal = refl; size = refl; room = refl; most = refl };
+      kept = record { removal = refl; size = refl; room = refl; most = refl; suspended = refl };
     }))
     (on_true c.both_followed.result _ _ (λ both. record {
       seen = λ id.

@@ -66,7 +66,7 @@ returns-then-not-take_at-clause-did g c =
         lock = subst (λ l. Goes g.R.Raise i.lock (asks_at Lock l c.args.id n) c.take_at.new.lock) level a;
         low = subst (λ l. Goes g.R.Raise i.low (asks_at Low l c.args.id n) c.take_at.new.low) level b;
         cyclics = refl;
-        kept = record { removal = refl; size = refl; room = refl; most = refl };
+        kept = record { removal = refl; size = refl; room = refl; most = refl; suspended = refl };
       }),
     )
 
@@ -152,6 +152,7 @@ returns-clause-did g c =
               size = c.remove.ensures.size;
               room = c.remove.ensures.room;
               most = refl;
+              suspended = refl;
             }),
       ),
     )

@@ -89,6 +89,7 @@ returns-then-needed-size g c =
         removal = ap (λ (x : CpuView _). x.removal) v;
         room = ap (λ (x : TableView). x.room) c.widen.ensures ∙ ap (λ (x : CpuView _). x.room) v;
         most = ap (λ (x : CpuView _). x.most) v;
+        suspended = ap (λ (x : CpuView _). x.suspended) v;
       },
     )
 
@@ -110,5 +111,6 @@ returns-else-needed-size g c =
         removal = refl;
         room = refl;
         most = refl;
+        suspended = refl;
       },
     )
