@@ -129,6 +129,58 @@ changes_most {R} firing v w Resume d = ap (λ (x : CpuView R). x.most) d
 changes_most firing v w (Fire now answer) d = absurd d
 changes_most firing v w (SoftInterrupt level budget answer) d = absurd d
 
+-- the call neither suspends the CPU nor resumes it
+abbrev pub LeavesMark : CpuCall → Type 0
+LeavesMark Suspend = ⊥
+LeavesMark Resume = ⊥
+LeavesMark call = Unit {0}
+
+not_taken_suspended : {R : Type 0} (firing : Raise R) (id : ℕ) (v w : CpuView R)
+    (e : Refusal) → WhyNotTaken firing id v e w → w.suspended ≡ v.suspended
+not_taken_suspended {R} firing id v w why.NoCyclic d = ap (λ (x : CpuView R). x.suspended) d.1
+not_taken_suspended {R} firing id v w (why.Busy removed) d = ap (λ (x : CpuView R). x.suspended) d.2
+not_taken_suspended firing id v w why.Pending (still, some, n, more, a) = a.kept.suspended
+not_taken_suspended firing id v w e d = absurd d
+
+not_added_suspended : {R : Type 0} (firing : Raise R) (id now : ℕ) (level : Level)
+    (when : When) (v w : CpuView R) (e : Refusal)
+    → Changes firing v (Add id level when now (Err e)) w → w.suspended ≡ v.suspended
+not_added_suspended {R} firing id now level when v w BadNow d = ap (λ (x : CpuView R). x.suspended) d.2
+not_added_suspended firing id now level when v w e d = d.2.kept.suspended
+
+-- no other call changes whether it is suspended
+pub changes_suspended : {R : Type 0} (firing : Raise R) (v w : CpuView R) (call : CpuCall) → LeavesMark call
+    → Changes firing v call w → w.suspended ≡ v.suspended
+changes_suspended firing v w (Add id level when now (Ok done)) plain (absent, early, a) = a.enters.kept.suspended ∙ a.widens.suspended
+    ∙ a.reserves.suspended
+changes_suspended firing v w (Add id level when now (Err e)) plain d = not_added_suspended firing id now level when v w e d
+changes_suspended firing v w (Place id level interval moment carried) plain d = d.1.kept.suspended
+changes_suspended {R} firing v w (Reprogram id moment (Ok done)) plain (k, c, here, named, still, is) = ap (λ (x : CpuView R). x.suspended) is
+changes_suspended {R} firing v w (Reprogram id moment (Err e)) plain d = ap (λ (x : CpuView R). x.suspended) d.2
+changes_suspended firing v w (AskPending id (Some n)) plain d = d.0.kept.suspended
+changes_suspended {R} firing v w (AskPending id None) plain d = ap (λ (x : CpuView R). x.suspended) d.1
+changes_suspended firing v w (AskTotals id (Some t)) plain d = d.0.kept.suspended
+changes_suspended {R} firing v w (AskTotals id None) plain d = ap (λ (x : CpuView R). x.suspended) d.1
+changes_suspended firing v w (AskRoom more (Ok done)) plain d = d.0.kept.suspended
+changes_suspended firing v w (AskRoom more (Err e)) plain d = d.0.kept.suspended
+changes_suspended firing v w (Reserve more (Ok done)) plain d = d.0.suspended
+changes_suspended firing v w (Reserve more (Err e)) plain d = d.0.kept.suspended
+changes_suspended firing v w (Widen more) plain d = d.1.suspended
+changes_suspended firing v w (BeginRemove id (Ok (Done receipt))) plain (still, (c, counts, is, polled, l)) = l.suspended
+changes_suspended firing v w (BeginRemove id (Ok (Kept kept))) plain d = d.1.suspended
+changes_suspended {R} firing v w (BeginRemove id (Err e)) plain d = ap (λ (x : CpuView R). x.suspended) d.1
+changes_suspended firing v w (PollRemove (Some receipt)) plain d = d.leaves.suspended
+changes_suspended {R} firing v w (PollRemove None) plain (inl d) = ap (λ (x : CpuView R). x.suspended) d.1
+changes_suspended firing v w (PollRemove None) plain (inr (id, is_open, d)) = d.kept.suspended
+changes_suspended firing v w (TakeNow id (Ok taken)) plain (still, (c, counts, is, polled, l)) = l.suspended
+changes_suspended firing v w (TakeNow id (Err e)) plain d = not_taken_suspended firing id v w e d
+changes_suspended firing v w (AskSettled true) plain d = d.0.kept.suspended
+changes_suspended firing v w (AskSettled false) plain d = d.0.kept.suspended
+changes_suspended firing v w Suspend plain d = absurd plain
+changes_suspended firing v w Resume plain d = absurd plain
+changes_suspended firing v w (Fire now answer) plain d = absurd d
+changes_suspended firing v w (SoftInterrupt level budget answer) plain d = absurd d
+
 -- a fire leaves all but the cyclics and the ends
 pub fire_keeps : {C R : Type 0} (handler : Calls C) (firing : Raise R)
     (interrupts : Soft → ℕ → Result Ran SoftRefused → Running C R → Running C R → Type 0) (now : ℕ) (s t : Running C R)

@@ -20,6 +20,7 @@ use Rattle.cyc_cpu.specs.Acts.{is_of, timer_of}
 use Rattle.cyc_cpu.specs.Shares.{share}
 use Rattle.cyc_cpu.specs.Cpu.{CpuView, Running, SameCpu, Makes, sides}
 use Rattle.cyc_cpu.specs.Laws.{IsLawful}
+use Rattle.cyc_cpu.specs.Calls.{Suspend, Resume}
 use Rattle.cyc_cpu.specs.Calls.{CpuCall, Changes, Does, Stopped, no_interrupts, Fire, SoftInterrupt, Add, Place, Reprogram}
 use Rattle.cyc_cpu.specs.Calls.{AskPending, AskTotals, AskRoom, Reserve, Widen, BeginRemove, PollRemove, TakeNow, AskSettled}
 use Rattle.cyc_cpu.proofs.Sharing.{raises_add_up, ids_add_up}
@@ -224,6 +225,8 @@ module _ {C R : Type 0} (handler : Calls C) (firing : Raise R) where
   proceeds_one s t (PollRemove answer) law d = quiet s t (PollRemove answer) refl d
   proceeds_one s t (TakeNow j answer) law d = quiet s t (TakeNow j answer) refl d
   proceeds_one s t (AskSettled answer) law d = quiet s t (AskSettled answer) refl d
+  proceeds_one s t Suspend law d = quiet s t Suspend refl d
+  proceeds_one s t Resume law d = quiet s t Resume refl d
 
   -- the calls of a run
   abbrev D : Running C R → CpuCall → Running C R → Type 0

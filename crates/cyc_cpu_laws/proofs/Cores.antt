@@ -25,6 +25,7 @@ use Rattle.cyc_cpu.specs.Rows.{timers}
 use Rattle.cyc_cpu.specs.Cpu.{Running}
 use Rattle.cyc_cpu.specs.Laws.{IsLawful}
 use Rattle.cyc_cpu.specs.Soft.{raise_tables, drain_tables, held_at, firing_at, end_at, SoftKept, Interrupts}
+use Rattle.cyc_cpu.specs.Calls.{Suspend, Resume}
 use Rattle.cyc_cpu.specs.Calls.{CpuCall, Does, no_interrupts, Fire, SoftInterrupt, Add, Place, Reprogram, AskPending, AskTotals}
 use Rattle.cyc_cpu.specs.Calls.{AskRoom, Reserve, Widen, BeginRemove, PollRemove, TakeNow, AskSettled}
 use Rattle.cyc_cpu.proofs.Softs.{serving_keeps}
@@ -300,6 +301,10 @@ module _ {C : Type 0} (handler : Calls C) where
       no_interrupt s t (TakeNow j answer) (λ own. refl) law d
   core_proceeds_one s t (AskSettled answer) law d =
       no_interrupt s t (AskSettled answer) (λ own. refl) law d
+  core_proceeds_one s t Suspend law d =
+      no_interrupt s t Suspend (λ own. refl) law d
+  core_proceeds_one s t Resume law d =
+      no_interrupt s t Resume (λ own. refl) law d
 
   -- the calls of a run
   abbrev D : Running C Tables → CpuCall → Running C Tables → Type 0

@@ -12,6 +12,7 @@ use Rattle.cyc_cpu.specs.Shares.{share}
 use Rattle.cyc_cpu.specs.Cpu.{CpuView, Running, HasNoCyclic, AreAdmitted}
 use Rattle.cyc_cpu.specs.Laws.{IsLawful}
 use Rattle.cyc_cpu.specs.Gone.{IsOff, PutsNot}
+use Rattle.cyc_cpu.specs.Calls.{Suspend, Resume}
 use Rattle.cyc_cpu.specs.Calls.{CpuCall, Changes, Does, no_interrupts, Fire, SoftInterrupt, Add, Place, Reprogram, AskPending}
 use Rattle.cyc_cpu.specs.Calls.{AskTotals, AskRoom, Reserve, Widen, BeginRemove, PollRemove, TakeNow, AskSettled}
 use Rattle.cyc_cpu.proofs.Off.{none_there}
@@ -71,6 +72,8 @@ module _ {C R : Type 0} (handler : Calls C) (firing : Raise R) (id : ℕ) where
   away_one s t (PollRemove answer) none not d = quiet_away s t (PollRemove answer) none not d
   away_one s t (TakeNow j answer) none not d = quiet_away s t (TakeNow j answer) none not d
   away_one s t (AskSettled answer) none not d = quiet_away s t (AskSettled answer) none not d
+  away_one s t Suspend none not d = quiet_away s t Suspend none not d
+  away_one s t Resume none not d = quiet_away s t Resume none not d
 
   -- its share of any call
   unfired_one : (s : Running C R) (call : CpuCall) (level : Level) → HasNoCyclic id s.cpu.cyclics →

@@ -7,4 +7,5 @@ pub mod Cores
 pub mod Staying
 pub mod Softs
 pub mod Departing
+pub mod Unfired
 pub mod Answering

@@ -20,6 +20,7 @@ use Rattle.cyc_cpu.specs.Gone.{PutsNot}
 use Rattle.cyc_cpu.specs.Removal.{Leaves}
 use Rattle.cyc_cpu.specs.Cpu.{CpuView, IsCyclic, HasNoCyclic, with_moment}
 use Rattle.cyc_cpu.specs.Moving.{WhyNotTaken}
+use Rattle.cyc_cpu.specs.Calls.{Suspend, Resume}
 use Rattle.cyc_cpu.specs.Calls.{CpuCall, Changes, Fire, SoftInterrupt, Add, Place, Reprogram, AskPending, AskTotals, AskRoom}
 use Rattle.cyc_cpu.specs.Calls.{Reserve, Widen, BeginRemove, PollRemove, TakeNow, AskSettled}
 use Rattle.cyc_cpu_laws.specs.Accounts.{counts_of, entered_by, left_by, expired_of, lost_of}
@@ -171,6 +172,8 @@ module _ {R : Type 0} (firing : Raise R) where
   changes_shift v w (TakeNow id (Err e)) d = not_taken id v w e d
   changes_shift v w (AskSettled true) d = inl (d.0.cyclics, λ j. (refl, refl))
   changes_shift v w (AskSettled false) d = inl (d.0.cyclics, λ j. (refl, refl))
+  changes_shift v w Suspend d = inl (ap (λ (x : CpuView R). x.cyclics) d, λ j. (refl, refl))
+  changes_shift v w Resume d = inl (ap (λ (x : CpuView R). x.cyclics) d, λ j. (refl, refl))
   changes_shift v w (Fire now answer) d = absurd d
   changes_shift v w (SoftInterrupt soft budget answer) d = absurd d
 

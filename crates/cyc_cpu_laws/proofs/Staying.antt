@@ -20,6 +20,7 @@ use Rattle.cyc_cpu.specs.declared.removing.Removal.TheVariants.{Done, Kept}
 use Rattle.cyc_cpu.specs.Cpu.{CpuView, Running, WhyNoRoom, WhyNotReserved}
 use Rattle.cyc_cpu.specs.Removal.{calls_at, Opens, WhyNotBegun}
 use Rattle.cyc_cpu.specs.Moving.{IsSettled, WhyNotTaken}
+use Rattle.cyc_cpu.specs.Calls.{Suspend, Resume}
 use Rattle.cyc_cpu.specs.Calls.{CpuCall, Changes, Does, Fire, SoftInterrupt, Add, Place, Reprogram, AskPending, AskTotals}
 use Rattle.cyc_cpu.specs.Calls.{AskRoom, Reserve, Widen, BeginRemove, PollRemove, TakeNow, AskSettled}
 use Rattle.cyc_cpu_laws.specs.Runs.{Steps}
@@ -143,6 +144,8 @@ module _ {R : Type 0} (firing : Raise R) where
   still_closed v w (TakeNow id (Err e)) s d = not_taken id v w e s.still d
   still_closed v w (AskSettled true) s d = d.0.kept.removal ∙ s.still
   still_closed v w (AskSettled false) s d = d.0.kept.removal ∙ s.still
+  still_closed v w Suspend s d = ap (λ (x : CpuView R). x.removal) d ∙ s.still
+  still_closed v w Resume s d = ap (λ (x : CpuView R). x.removal) d ∙ s.still
   still_closed v w (Fire now answer) s d = absurd d
   still_closed v w (SoftInterrupt soft budget answer) s d = absurd d
 
@@ -247,6 +250,8 @@ module _ {R : Type 0} (firing : Raise R) where
     grows s t (PollRemove answer) d = quiet_grows s t (PollRemove answer) d
     grows s t (TakeNow j answer) d = quiet_grows s t (TakeNow j answer) d
     grows s t (AskSettled answer) d = quiet_grows s t (AskSettled answer) d
+    grows s t Suspend d = quiet_grows s t Suspend d
+    grows s t Resume d = quiet_grows s t Resume d
 
     quiet_settled : (s t : Running C R) (call : CpuCall) → IsSettled firing.view s.cpu → t.cpu.size ≡ s.cpu.size →
         Changes firing s.cpu call t.cpu × (t.calls ≡ s.calls) → IsSettled firing.view t.cpu
@@ -270,6 +275,8 @@ module _ {R : Type 0} (firing : Raise R) where
     settled_one s t (PollRemove answer) h calm same d = quiet_settled s t (PollRemove answer) h same d
     settled_one s t (TakeNow j answer) h calm same d = quiet_settled s t (TakeNow j answer) h same d
     settled_one s t (AskSettled answer) h calm same d = quiet_settled s t (AskSettled answer) h same d
+    settled_one s t Suspend h calm same d = quiet_settled s t Suspend h same d
+    settled_one s t Resume h calm same d = quiet_settled s t Resume h same d
 
     pub run_grows : (s t : Running C R) (way : List CpuCall) → FoldsTo Ones s way t → s.cpu.size ≤ t.cpu.size
     run_grows s t [] run = (let e = ap (λ (x : Running C R). x.cpu.size) run in omega (arith, e))

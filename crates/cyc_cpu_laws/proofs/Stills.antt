@@ -20,6 +20,7 @@ use Rattle.cyc_cpu.specs.Quiet.{OnlyLooks, LoadsThenLooks}
 use Rattle.cyc_cpu.specs.Removal.{calls_at, Leaves}
 use Rattle.cyc_cpu.specs.Cpu.{CpuView, Looked, Asks, Reserves, Widens, Places, size_for, bank_for}
 use Rattle.cyc_cpu.specs.Moving.{Inquires, WhyNotTaken}
+use Rattle.cyc_cpu.specs.Calls.{Suspend, Resume}
 use Rattle.cyc_cpu.specs.Calls.{CpuCall, Changes, Fire, SoftInterrupt, Add, Place, Reprogram, AskPending, AskTotals, AskRoom}
 use Rattle.cyc_cpu.specs.Calls.{Reserve, Widen, BeginRemove, PollRemove, TakeNow, AskSettled}
 use Rattle.cyc_cpu.specs.Rows.{Cyclic}
@@ -226,6 +227,15 @@ module _ {R : Type 0} (firing : Raise R) where
   not_added_still id now level when v w why.BadNow d = stills_same v w d.2
   not_added_still id now level when v w e d = stills_looked v w d.2
 
+  -- the mark of a CPU says nothing of its ends
+  stills_marked : (mark : Bool) (v w : CpuView R) → w ≡ record v { suspended = mark } → Stills v w
+  stills_marked mark v w is = record {
+    lock = still_none v.size w.size v.lock w.lock (ap (λ (x : CpuView R). x.lock) is);
+    low = still_none v.size w.size v.low w.low (ap (λ (x : CpuView R). x.low) is);
+    grows = (let e = ap (λ (x : CpuView R). x.size) is in omega (arith, e));
+    most = ap (λ (x : CpuView R). x.most) is;
+  }
+
   -- every call but a fire and a soft interrupt
   pub changes_still : (v w : CpuView R) (call : CpuCall) → Changes firing v call w → Stills v w
   changes_still v w (Add id level when now (Ok done)) (absent, early, a) =
@@ -282,5 +292,7 @@ module _ {R : Type 0} (firing : Raise R) where
   changes_still v w (TakeNow id (Err e)) d = not_taken_still id v w e d
   changes_still v w (AskSettled true) d = stills_inquired v w d.0
   changes_still v w (AskSettled false) d = stills_inquired v w d.0
+  changes_still v w Suspend d = stills_marked true v w d
+  changes_still v w Resume d = stills_marked false v w d
   changes_still v w (Fire now answer) d = absurd d
   changes_still v w (SoftInterrupt soft budget answer) d = absurd d

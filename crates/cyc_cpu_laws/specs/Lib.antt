@@ -4,6 +4,7 @@ pub mod Accounts
 pub mod Cores
 pub mod Settled
 pub mod Absence
+pub mod Suspension
 pub mod Receipts
 pub use Rattle.cyc_cpu.specs.Cpu
 pub use Rattle.cyc_cpu.specs.Calls
