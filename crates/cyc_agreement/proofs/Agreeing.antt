@@ -177,6 +177,7 @@ module _ {R : Type 0} (v w : CpusView R) (rs rs' : List Record) (last id place :
       long = ap (λ (l : List Bool). length l) d.online ∙ a.long ∙ sym d.long;
       some = (a.some.0, online_same v w a.some.0 d.online ∙ a.some.1);
       most = λ n k p q e f. a.most n k p q (sym (d.most n) ∙ e) (sym (d.most k) ∙ f);
+      suspended = λ n k p q e f. a.suspended n k p q (sym (d.suspended n) ∙ e) (sym (d.suspended k) ∙ f);
     })
 
   -- ---- it has left all of its CPUs, and its record went
@@ -204,6 +205,7 @@ module _ {R : Type 0} (v w : CpusView R) (rs rs' : List Record) (last id place :
       long = ap (λ (l : List Bool). length l) d.online ∙ a.long ∙ sym d.long;
       some = (a.some.0, online_same v w a.some.0 d.online ∙ a.some.1);
       most = λ n k p q e f. a.most n k p q (sym (d.most n) ∙ e) (sym (d.most k) ∙ f);
+      suspended = λ n k p q e f. a.suspended n k p q (sym (d.suspended n) ∙ e) (sym (d.suspended k) ∙ f);
     })
 
   pub within_left : EndedWithin (system v rs last) → EndedWithin (system w (remove rs' place) last)

@@ -1,5 +1,5 @@
 -- A new system agrees with its records, of which there is none.
-use Rattle.std.proofs.Common.{◌≡◌, ℕ, ◌<◌, ◌≤◌, Option, Some, None, List, [], length, replicate, zero, suc, option_map, true}
+use Rattle.std.proofs.Common.{Bool, ◌≡◌, ℕ, ◌<◌, ◌≤◌, Option, Some, None, List, [], length, replicate, zero, suc, option_map, true}
 use Rattle.std.proofs.Common.{false, refl, sym, ap, ◌∙◌, arith}
 use Rattle.std.specs.List.{slice_get, list_any}
 use Rattle.std.specs.Option.{option_map_or}
@@ -8,7 +8,7 @@ use Rattle.std.proofs.lemmas.Option.{slice_get-map}
 use Rattle.std.proofs.lemmas.List.{length-map, length-replicate}
 use Rattle.cyc_agreement.specs.Cpus.{new_cpus, new_cpu}
 use Rattle.cyc_agreement.specs.System.{ids_of, has}
-use Rattle.cyc_agreement.specs.Agreement.{Agrees, most_on}
+use Rattle.cyc_agreement.specs.Agreement.{Agrees, most_on, suspended_on}
 use Rattle.cyc_agreement.proofs.Spots.{none_some, same_some}
 use Rattle.cyc_agreement.proofs.Lists.{false_true}
 
@@ -27,6 +27,11 @@ its_most : {R : Type 0} (most : ℕ) (o : Option (R × R)) (a : ℕ)
 its_most most None a e = absurd (none_some e)
 its_most most (Some x) a e = same_some e
 
+its_mark : {R : Type 0} (most : ℕ) (o : Option (R × R)) (a : Bool)
+    → option_map (λ cpu. cpu.suspended) (option_map (λ (e : R × R). new_cpu most e.0 e.1) o) ≡ Some a → false ≡ a
+its_mark most None a e = absurd (none_some e)
+its_mark most (Some x) a e = same_some e
+
 pub agrees_new : {R : Type 0} (most last : ℕ) (ends : List (R × R)) → 0 < length ends → length ends ≤ 16
     → Agrees (record { cpus = new_cpus most ends; records = []; last = last })
 agrees_new {R} most last ends some few = record {
@@ -40,11 +45,16 @@ agrees_new {R} most last ends some few = record {
   long = length-replicate (length ends) true ∙ sym (length-map ends (λ (e : R × R). new_cpu most e.0 e.1));
   some = (0, first (length ends) some);
   most = λ n m a b x y. sym (most_at n a x) ∙ most_at m b y;
+  suspended = λ n m a b x y. sym (suspended_at n a x) ∙ suspended_at m b y;
 }
   where
     first : (n : ℕ) → 0 < n → option_map_or (λ online. online) (slice_get (replicate n true) 0) false ≡ true
     first zero low = absurd (omega (arith, low))
     first (suc n) low = refl
+
+    suspended_at : (n : ℕ) (a : Bool) → suspended_on n (new_cpus most ends) ≡ Some a → false ≡ a
+    suspended_at n a x = its_mark most (slice_get ends n) a
+        (sym (ap (λ o. option_map (λ cpu. cpu.suspended) o) (slice_get-map (λ (e : R × R). new_cpu most e.0 e.1) ends n)) ∙ x)
 
     most_at : (n a : ℕ) → most_on n (new_cpus most ends) ≡ Some a → most ≡ a
     most_at n a x = its_most most (slice_get ends n) a

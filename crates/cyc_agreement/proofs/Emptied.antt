@@ -105,4 +105,5 @@ module _ {R : Type 0} (firing : Raise R) (source : ℕ) (v : CpusView R)
     long = length-set w.online source false ∙ ap (λ (xs : List Bool). length xs) i.online ∙ a.long ∙ sym i.there;
     some = (let (on, beside) = destination_fits (Some source) v d chosen in (d, up d (λ e. beside (ap Some (sym e))) ∙ on));
     most = λ n m x y p q. a.most n m x y (sym (i.most n) ∙ p) (sym (i.most m) ∙ q);
+    suspended = λ n m x y p q. a.suspended n m x y (sym (i.suspended n) ∙ p) (sym (i.suspended m) ∙ q);
   }

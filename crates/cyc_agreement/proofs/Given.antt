@@ -33,6 +33,7 @@ agrees_same s w a b = record {
   long = ap (λ (o : List Bool). length o) b.online ∙ a.long ∙ sym b.long;
   some = (a.some.0, online_same s.cpus w a.some.0 b.online ∙ a.some.1);
   most = λ n m x y p q. a.most n m x y (sym (b.most n) ∙ p) (sym (b.most m) ∙ q);
+  suspended = λ n m x y p q. a.suspended n m x y (sym (b.suspended n) ∙ p) (sym (b.suspended m) ∙ q);
 }
   where
     by : (n : ℕ) (r : Record) → (has n r.id s.cpus ≡ true) ⊎ ((m : ℕ) × (removal_on m s.cpus ≡ Some r.id))
@@ -118,4 +119,5 @@ module _ {R : Type 0} (s : SystemView R) (id : ℕ) (level : Level) (place : Pla
     long = ap (λ (o : List Bool). length o) b.online ∙ a.long ∙ sym b.long;
     some = (a.some.0, online_same s.cpus w a.some.0 b.online ∙ a.some.1);
     most = λ n m p q e f. a.most n m p q (sym (b.most n) ∙ e) (sym (b.most m) ∙ f);
+    suspended = λ n m p q e f. a.suspended n m p q (sym (b.suspended n) ∙ e) (sym (b.suspended m) ∙ f);
   }

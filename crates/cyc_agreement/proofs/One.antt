@@ -32,6 +32,7 @@ pub record LeavesCpu {R : Type 0} (id : ℕ) (x y : CpuView R) : Type 0 where
   pub were_open : (q : ℕ) → q ≢ id → y.removal ≡ Some q → x.removal ≡ Some q
   pub leaving : among id (ids_of y) ≡ true → y.removal ≡ Some id
   pub most : y.most ≡ x.most
+  pub suspended : y.suspended ≡ x.suspended
 
 from_less : {R : Type 0} (id : ℕ) (x y : CpuView R) → OneLess id x y → ((q : ℕ) → q ≢ id → x.removal ≢ Some q) → LeavesCpu id x y
 from_less id x y l still = record {
@@ -41,6 +42,7 @@ from_less id x y l still = record {
   were_open = λ q ne e. absurd (none_some (sym l.removal ∙ e));
   leaving = λ h. absurd (false_true (sym l.gone ∙ h));
   most = l.most;
+  suspended = l.suspended;
 }
 
 module _ {R : Type 0} (firing : Raise R) (id : ℕ) (x y : CpuView R)
@@ -59,6 +61,7 @@ module _ {R : Type 0} (firing : Raise R) (id : ℕ) (x y : CpuView R)
     were_open = λ q ne e. absurd (ne (same_some (sym e ∙ o.removal)));
     leaving = λ h. o.removal;
     most = o.most;
+    suspended = o.suspended;
   }
     where
       same : ids_of y ≡ ids_of x
@@ -79,6 +82,7 @@ module _ {R : Type 0} (firing : Raise R) (id : ℕ) (x y : CpuView R)
     were_open = λ q ne e. sym w.kept.removal ∙ e;
     leaving = λ h. w.kept.removal ∙ was;
     most = w.kept.most;
+    suspended = w.kept.suspended;
   }
 
 -- what a CPU counts of a cyclic is bounded

@@ -22,7 +22,7 @@ use Rattle.cyc_places.specs.Places.{IsRecord, HasRisingIds, ended_on, with_ended
 use Rattle.cyc_agreement.specs.Cpus.{CpusView, IsCpu}
 use Rattle.cyc_agreement.proofs.CpuSpots.{get_set_same, get_set_other}
 use Rattle.cyc_agreement.specs.System.{SystemView, ids_of, ids_on, has, removal_on, is_online, is_leaving_here}
-use Rattle.cyc_agreement.specs.Agreement.{Agrees, Stands, most_on}
+use Rattle.cyc_agreement.specs.Agreement.{Agrees, Stands, most_on, suspended_on}
 use Rattle.cyc_agreement.proofs.Lists.{among, any_place, eq_true, true_eq, false_true}
 use Rattle.cyc_agreement.proofs.Spots.{get_some, same_some, none_some}
 use Rattle.cyc_agreement.proofs.Recording.{one_record}
@@ -35,7 +35,7 @@ use Rattle.cyc_agreement.specs.Holding.{LeaveWhole}
 use Rattle.cyc_agreement.specs.Online.{is_staying, staying, after_return, switched_on}
 use Rattle.cyc_agreement.proofs.Prefixes.{ids_in, found_in, is_in}
 use Rattle.cyc_agreement.proofs.Rising.{rises_of, records_rise, no_more}
-use Rattle.cyc_agreement.proofs.Returned.{Back, back_has, back_removals, back_most, back_elsewhere}
+use Rattle.cyc_agreement.proofs.Returned.{Back, back_has, back_removals, back_most, back_suspended, back_elsewhere}
 use Rattle.cyc_agreement.proofs.Bringing.{staying_everywhere}
 
 and_second : (a b : Bool) → (a && not b) ≡ true → b ≡ false
@@ -191,6 +191,9 @@ module _ {R : Type 0} (n : ℕ) (s : SystemView R) (u w : CpusView R) (a : Agree
   most : (m : ℕ) → most_on m w ≡ most_on m s.cpus
   most m = back_most n (staying s) u w x at b m ∙ same.most m
 
+  suspended : (m : ℕ) → suspended_on m w ≡ suspended_on m s.cpus
+  suspended m = back_suspended n (staying s) u w x at b m ∙ same.suspended m
+
   long : length w.cpus ≡ length s.cpus.cpus
   long = b.long ∙ same.long
 
@@ -308,6 +311,7 @@ module _ {R : Type 0} (n : ℕ) (s : SystemView R) (u w : CpusView R) (a : Agree
     long = length-set w.online n true ∙ ap (λ (o : List Bool). length o) as_before ∙ a.long ∙ sym long;
     some = (a.some.0, online_there a.some.0 (not_this a.some.0 a.some.1) ∙ a.some.1);
     most = λ m j c d e f. a.most m j c d (sym (most m) ∙ e) (sym (most j) ∙ f);
+    suspended = λ m j c d e f. a.suspended m j c d (sym (suspended m) ∙ e) (sym (suspended j) ∙ f);
   }
 
   pub within_online : EndedWithin s → EndedWithin

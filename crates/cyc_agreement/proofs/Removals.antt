@@ -5,6 +5,7 @@ use Rattle.cyc_types.specs.declared.Raise.{Ghosts as Raise}
 use Rattle.cyc_types.specs.Firing.{FiringView}
 use Rattle.cyc_cpu.specs.Cpu.{CpuView}
 use Rattle.cyc_cpu.specs.Laws.{IsLawful}
+use Rattle.cyc_cpu.specs.Calls.{Suspend, Resume}
 use Rattle.cyc_cpu.specs.Calls.{CpuCall, Changes, Fire, SoftInterrupt, Add, Place, Reprogram, AskPending, AskTotals, AskRoom}
 use Rattle.cyc_cpu.specs.Calls.{Reserve, Widen, BeginRemove, PollRemove, TakeNow, AskSettled}
 use Rattle.cyc_agreement.specs.Cpus.{CpusView, CallOn, IsCpu, DoesAt, Works}
@@ -28,6 +29,8 @@ IsSteady (Widen more) = Unit {0}
 IsSteady (TakeNow id (Ok taken)) = Unit {0}
 IsSteady (TakeNow id (Err e)) = ⊥
 IsSteady (AskSettled answer) = Unit {0}
+IsSteady Suspend = ⊥
+IsSteady Resume = ⊥
 IsSteady (BeginRemove id answer) = ⊥
 IsSteady (PollRemove answer) = ⊥
 IsSteady (Add id level when now answer) = ⊥
@@ -60,6 +63,8 @@ module _ {R : Type 0} (firing : Raise R) where
   removal_kept x y (TakeNow id (Err e)) h d = absurd h
   removal_kept x y (AskSettled true) h d = d.0.kept.removal
   removal_kept x y (AskSettled false) h d = d.0.kept.removal
+  removal_kept x y Suspend h d = absurd h
+  removal_kept x y Resume h d = absurd h
   removal_kept x y (BeginRemove id answer) h d = absurd h
   removal_kept x y (PollRemove answer) h d = absurd h
   removal_kept x y (Add id level when now answer) h d = absurd h

@@ -103,6 +103,7 @@ module _ {R : Type 0} (s : SystemView R) (k d : ℕ) (bound was : Bool) (home : 
     long = ap (λ (o : List Bool). length o) b.online ∙ a.long ∙ sym b.long;
     some = (a.some.0, online_same s.cpus w a.some.0 b.online ∙ a.some.1);
     most = λ n m p q e f. a.most n m p q (sym (b.most n) ∙ e) (sym (b.most m) ∙ f);
+    suspended = λ n m p q e f. a.suspended n m p q (sym (b.suspended n) ∙ e) (sym (b.suspended m) ∙ f);
   }
     where
       Old : ℕ → Record → Type 0

@@ -28,7 +28,7 @@ use Rattle.cyc_agreement.specs.Cpus.{CpusView, IsCpu, OfCpu, with_cpu, on, DoesA
 use Rattle.cyc_agreement.specs.Shifting.{MayLeave}
 use Rattle.cyc_agreement.proofs.CpuSpots.{of_cpu, cpu_there, get_set_same, get_set_other}
 use Rattle.cyc_agreement.specs.System.{ids_of, ids_on, removal_on, is_everywhere, is_omnipresent}
-use Rattle.cyc_agreement.specs.Agreement.{Agrees, most_on}
+use Rattle.cyc_agreement.specs.Agreement.{Agrees, most_on, suspended_on}
 use Rattle.cyc_agreement.proofs.Lists.{false_true}
 use Rattle.cyc_agreement.proofs.Spots.{same_some, none_some}
 use Rattle.cyc_agreement.proofs.Who
@@ -134,6 +134,7 @@ module _ {R : Type 0} (firing : Raise R) (source : ℕ) (v : CpusView R)
     pub there : length w.cpus ≡ length v.cpus
     pub still : removal_on source w ≡ None
     pub most : (n : ℕ) → most_on n w ≡ most_on n v
+    pub suspended : (n : ℕ) → suspended_on n w ≡ suspended_on n v
     pub quiet_here : OfCpu source (AreQuiet firing.view) w
     pub long : length qs.list ≡ length rs.list
     pub forth : (j : ℕ) (r : Record) → IsRecord rs.list j r → (q : Record) × IsRecord qs.list j q × SameBeside source r q
@@ -151,6 +152,7 @@ module _ {R : Type 0} (firing : Raise R) (source : ℕ) (v : CpusView R)
     there = refl;
     still = still;
     most = λ n. refl;
+    suspended = λ n. refl;
     quiet_here = quiet;
     long = refl;
     forth = λ j r is. (r, is, record { id = refl; place = refl; ended = λ m ne. refl; single = λ e. refl });
@@ -200,6 +202,9 @@ module _ {R : Type 0} (firing : Raise R) (source : ℕ) (v : CpusView R)
           let kept : (m : ℕ) → most_on m x ≡ most_on m w = λ m. ap (λ u. most_on m u) takes.rest
           ∙ Who.kept_at w source takes.before takes.after takes.here (λ o. option_map (λ (cpu : CpuView R). cpu.most) o)
           (ap Some l.most) m in
+          let kept_mark : (m : ℕ) → suspended_on m x ≡ suspended_on m w = λ m. ap (λ u. suspended_on m u) takes.rest
+          ∙ Who.kept_at w source takes.before takes.after takes.here (λ o. option_map (λ (cpu : CpuView R). cpu.suspended) o)
+          (ap Some l.suspended) m in
           record {
             run = λ n. subst (λ ids. FoldsTo (Retires firing source) (system_of v rs n) ids (system_of x ps n))
                 (sym (take_more (ids_on source v) done id first))
@@ -211,6 +216,7 @@ module _ {R : Type 0} (firing : Raise R) (source : ℕ) (v : CpusView R)
             there = off.there ∙ i.there;
             still = off.still;
             most = λ n. kept n ∙ i.most n;
+            suspended = λ n. kept_mark n ∙ i.suspended n;
             quiet_here = subst (λ u. OfCpu source (AreQuiet firing.view) u) (sym takes.rest)
                 (of_cpu source (AreQuiet firing.view) takes.after (with_cpu w source takes.after)
                 (cpu_there source takes.before takes.after w takes.here)

@@ -21,7 +21,7 @@ use Rattle.cyc_places.specs.Places.{ended_on}
 use Rattle.cyc_agreement.specs.Cpus.{CpusView, IsCpu, with_cpu, ChangesAt, DoesAt, Works}
 use Rattle.cyc_agreement.proofs.CpuSpots.{get_set_other, cpu_there, one_cpu, changed}
 use Rattle.cyc_agreement.specs.System.{ids_of, ids_on, has, removal_on, is_everywhere, is_leaving_here}
-use Rattle.cyc_agreement.specs.Agreement.{most_on}
+use Rattle.cyc_agreement.specs.Agreement.{most_on, suspended_on}
 use Rattle.cyc_agreement.proofs.Lists.{among, true_eq, false_ne, false_true}
 use Rattle.cyc_agreement.proofs.Who.{OneMore, placed}
 use Rattle.cyc_agreement.specs.Omni.{component_first}
@@ -40,6 +40,7 @@ pub record Gains {R : Type 0} (rs : List Record) (x y : CpuView R) : Type 0 wher
   pub many : length y.cyclics ≡ length x.cyclics + length rs
   pub size : y.size ≡ x.size
   pub most : y.most ≡ x.most
+  pub suspended : y.suspended ≡ x.suspended
   pub removal : y.removal ≡ x.removal
 
 -- and all else is as it was
@@ -63,6 +64,7 @@ gains_then r rs x y z a b = record {
   many = (let p = a.many in let q = b.many in omega (arith, p, q));
   size = b.size ∙ a.size;
   most = b.most ∙ a.most;
+  suspended = b.suspended ∙ a.suspended;
   removal = b.removal ∙ a.removal;
 }
   where
@@ -81,6 +83,7 @@ module _ {R : Type 0} (firing : Raise R) where
     many = (let e = ap (λ (cs : List Cyclic). length cs) p.cyclics ∙ length-insert x.cyclics p.place c p.within in e);
     size = p.kept.size;
     most = p.kept.most;
+    suspended = p.kept.suspended;
     removal = p.kept.removal;
   }
     where
@@ -121,6 +124,7 @@ back_none n v = record {
       many = (let e : length x.cyclics ≡ length x.cyclics + 0 = omega arith in e);
       size = refl;
       most = refl;
+      suspended = refl;
       removal = refl;
     },
   );
@@ -174,6 +178,14 @@ module _ {R : Type 0} (n : ℕ) (rs : List Record) (v w : CpusView R) (x : CpuVi
       ∙ sym (as_map (slice_get v.cpus m))
     where
       as_map : (o : _) → option_map (λ (cpu : CpuView R). cpu.most) o ≡ option_map_or (λ cpu. Some cpu.most) o None
+      as_map None = refl
+      as_map (Some y) = refl
+
+  pub back_suspended : (m : ℕ) → suspended_on m w ≡ suspended_on m v
+  back_suspended m = as_map (slice_get w.cpus m) ∙ kept (λ cpu. Some cpu.suspended) None (λ y g. ap Some g.suspended) m
+      ∙ sym (as_map (slice_get v.cpus m))
+    where
+      as_map : (o : _) → option_map (λ (cpu : CpuView R). cpu.suspended) o ≡ option_map_or (λ cpu. Some cpu.suspended) o None
       as_map None = refl
       as_map (Some y) = refl
 

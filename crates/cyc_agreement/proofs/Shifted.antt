@@ -57,6 +57,7 @@ less_left firing x y id way c rise l = record {
       ∙ any_remove (λ own. own == q) (ids_of x) l.place 0 low (false_ne _ q (λ e. ne (sym e ∙ at)));
   removal = l.removal;
   most = l.most;
+  suspended = l.suspended;
 }
   where
     low : l.place < length (ids_of x)

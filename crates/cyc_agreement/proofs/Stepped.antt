@@ -19,7 +19,7 @@ use Rattle.cyc_agreement.specs.Cpus.{CpusView, ChangesAt, Works}
 use Rattle.cyc_agreement.specs.Shifting.{moving, HasRemoval}
 use Rattle.cyc_agreement.proofs.CpuSpots.{get_set_same, get_set_other}
 use Rattle.cyc_agreement.specs.System.{SystemView, ids_of, ids_on, removal_on, is_everywhere, is_omnipresent}
-use Rattle.cyc_agreement.specs.Agreement.{most_on}
+use Rattle.cyc_agreement.specs.Agreement.{most_on, suspended_on}
 use Rattle.cyc_agreement.proofs.Spots.{same_some, none_some, get_some}
 use Rattle.cyc_agreement.proofs.Recording.{one_record}
 use Rattle.cyc_agreement.proofs.Destinations.{destination_fits}
@@ -45,6 +45,7 @@ pub record Stepped {R : Type 0} (source place : ℕ) (turn : Option Turn) (s t :
   pub there : length t.cpus.cpus ≡ length s.cpus.cpus
   pub omni : (id : ℕ) → is_omnipresent id t ≡ is_omnipresent id s
   pub most : (n : ℕ) → most_on n t.cpus ≡ most_on n s.cpus
+  pub suspended : (n : ℕ) → suspended_on n t.cpus ≡ suspended_on n s.cpus
   -- no ended stay
   pub ended : (k : ℕ) (r : Record) → IsRecord t.records k r → (q : Record) × IsRecord s.records k q
       × ((n : ℕ) → ended_on n r ≡ ended_on n q)
@@ -140,6 +141,7 @@ module _ {R : Type 0} (firing : Raise R) (source place id : ℕ) (s t : SystemVi
     there = ap (λ (x : SystemView _). length x.cpus.cpus) is;
     omni = λ q. ap (λ (x : SystemView _). is_omnipresent q x) is;
     most = λ n. ap (λ (x : SystemView _). most_on n x.cpus) is;
+    suspended = λ n. ap (λ (x : SystemView _). suspended_on n x.cpus) is;
     ended = λ k r at. (r, ap (λ (x : SystemView _). slice_get x.records k) (sym is) ∙ at, λ n. refl);
   }
 
@@ -153,6 +155,7 @@ module _ {R : Type 0} (firing : Raise R) (source place id : ℕ) (s t : SystemVi
     omni = λ q. ap (λ (rs : List Record). option_map_or (λ (r : Record). is_everywhere r.place)
         (find (λ (r : Record). r.id == q) rs) false) records;
     most = w.most;
+    suspended = w.suspended;
     ended = λ k r at. (r, ap (λ (rs : List Record). slice_get rs k) (sym records) ∙ at, λ n. refl);
   }
 
@@ -186,6 +189,8 @@ module _ {R : Type 0} (firing : Raise R) (source place id : ℕ) (s t : SystemVi
             (sym (ap (λ (y : Record). is_everywhere y.place) (sym e) ∙ ap is_everywhere place_is));
         most = (moved firing id source d s.cpus t.cpus
             (λ q. (destination_fits (Some source) s.cpus d chosen).1 (ap Some (sym q))) rise taken works).but.most;
+        suspended = (moved firing id source d s.cpus t.cpus
+            (λ q. (destination_fits (Some source) s.cpus d chosen).1 (ap Some (sym q))) rise taken works).but.suspended;
         ended = λ m y held. ended_at d k r is records m y held;
       }
     where

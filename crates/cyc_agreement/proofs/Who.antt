@@ -26,7 +26,7 @@ use Rattle.cyc_types.specs.Expirations.{Expiration, expirations, all_after}
 use Rattle.cyc_types.specs.Timers.{Timer}
 use Rattle.cyc_agreement.specs.Cpus.{CpusView, IsCpu, with_cpu, ChangesAt}
 use Rattle.cyc_agreement.specs.System.{ids_of, ids_on, has, removal_on}
-use Rattle.cyc_agreement.specs.Agreement.{most_on}
+use Rattle.cyc_agreement.specs.Agreement.{most_on, suspended_on}
 use Rattle.cyc_agreement.proofs.CpuSpots.{get_set_same, get_set_other}
 use Rattle.cyc_agreement.proofs.Lists.{among, any_insert, any_map, true_eq, false_ne, false_true}
 
@@ -37,6 +37,7 @@ pub record SameIds {R : Type 0} (x y : CpuView R) : Type 0 where
   pub ids : ids_of y ≡ ids_of x
   pub removal : y.removal ≡ x.removal
   pub most : y.most ≡ x.most
+  pub suspended : y.suspended ≡ x.suspended
 
 -- it has one more
 pub record OneMore {R : Type 0} (id : ℕ) (x y : CpuView R) : Type 0 where
@@ -44,6 +45,7 @@ pub record OneMore {R : Type 0} (id : ℕ) (x y : CpuView R) : Type 0 where
   pub others : (q : ℕ) → q ≢ id → among q (ids_of y) ≡ among q (ids_of x)
   pub removal : y.removal ≡ x.removal
   pub most : y.most ≡ x.most
+  pub suspended : y.suspended ≡ x.suspended
 
 -- it has one less, and no removal is open
 pub record OneLess {R : Type 0} (id : ℕ) (x y : CpuView R) : Type 0 where
@@ -52,22 +54,23 @@ pub record OneLess {R : Type 0} (id : ℕ) (x y : CpuView R) : Type 0 where
   pub others : (q : ℕ) → q ≢ id → among q (ids_of y) ≡ among q (ids_of x)
   pub removal : y.removal ≡ None
   pub most : y.most ≡ x.most
+  pub suspended : y.suspended ≡ x.suspended
 
 abbrev pub id_in : Cyclic → ℕ
 id_in c = c.timer.id
 
 module _ {R : Type 0} (firing : Raise R) (x y : CpuView R) where
   pub same_asked : (id n : ℕ) → Asks firing id n x y → SameIds x y
-  same_asked id n a = record { ids = ap (λ cs. map id_in cs) a.cyclics; removal = a.kept.removal; most = a.kept.most }
+  same_asked id n a = record { ids = ap (λ cs. map id_in cs) a.cyclics; removal = a.kept.removal; most = a.kept.most; suspended = a.kept.suspended }
 
   pub same_looked : Looked firing x y → SameIds x y
-  same_looked a = record { ids = ap (λ cs. map id_in cs) a.cyclics; removal = a.kept.removal; most = a.kept.most }
+  same_looked a = record { ids = ap (λ cs. map id_in cs) a.cyclics; removal = a.kept.removal; most = a.kept.most; suspended = a.kept.suspended }
 
   pub same_reserved : (more : ℕ) → Reserves firing more x y → SameIds x y
-  same_reserved more a = record { ids = ap (λ cs. map id_in cs) a.cyclics; removal = a.removal; most = a.most }
+  same_reserved more a = record { ids = ap (λ cs. map id_in cs) a.cyclics; removal = a.removal; most = a.most; suspended = a.suspended }
 
   pub same_widened : (more : ℕ) → Widens firing more x y → SameIds x y
-  same_widened more a = record { ids = ap (λ cs. map id_in cs) a.cyclics; removal = a.removal; most = a.most }
+  same_widened more a = record { ids = ap (λ cs. map id_in cs) a.cyclics; removal = a.removal; most = a.most; suspended = a.suspended }
 
   more_here : (b c : Bool) → b ≡ true → (b || c) ≡ true
   more_here true c e = refl
@@ -83,6 +86,7 @@ module _ {R : Type 0} (firing : Raise R) (x y : CpuView R) where
     others = λ q ne. grown q ∙ more_other (c.timer.id == q) _ (false_ne c.timer.id q (λ e. ne (sym e)));
     removal = a.kept.removal;
     most = a.kept.most;
+    suspended = a.kept.suspended;
   }
     where
       grown : (q : ℕ) → among q (ids_of y) ≡ ((c.timer.id == q) || among q (ids_of x))
@@ -109,6 +113,7 @@ same_reprogram firing x y id moment (k, c, is, named, still, e) = record {
   ids = ap ids_of e ∙ ids_set x.cyclics k moment c is;
   removal = ap (λ (v : CpuView _). v.removal) e;
   most = ap (λ (v : CpuView _). v.most) e;
+  suspended = ap (λ (v : CpuView _). v.suspended) e;
 }
 
 -- a fire moves cyclics to later moments, and takes none away
@@ -136,21 +141,24 @@ module _ {C R : Type 0} (handler : Calls C) (firing : Raise R)
     ids = ids_fired now (expirations now (timers s.cpu.cyclics)) s.cpu.cyclics t.cpu.cyclics makes.timers_are;
     removal = same.removal;
     most = same.most;
+    suspended = same.suspended;
   }
   same_fired now (Err e) (inl (is, what, same)) = record {
     ids = ap (λ (u : Running C R). ids_of u.cpu) same;
     removal = ap (λ (u : Running C R). u.cpu.removal) same;
     most = ap (λ (u : Running C R). u.cpu.most) same;
+    suspended = ap (λ (u : Running C R). u.cpu.suspended) same;
   }
   same_fired now (Err e) (inr (nn, same, stopped)) = record {
     ids = ids_fired now stopped.made s.cpu.cyclics t.cpu.cyclics stopped.makes.timers_are;
     removal = same.removal;
     most = same.most;
+    suspended = same.suspended;
   }
 
 -- a soft interrupt touches no cyclic
 pub same_served : {R : Type 0} (level : Soft) (x y : CpuView R) → SoftKept level x y → SameIds x y
-same_served level x y s = record { ids = ap (λ cs. map id_in cs) s.cyclics; removal = s.kept.removal; most = s.kept.most }
+same_served level x y s = record { ids = ap (λ cs. map id_in cs) s.cyclics; removal = s.kept.removal; most = s.kept.most; suspended = s.kept.suspended }
 
 -- ---- all CPUs
 
@@ -160,6 +168,7 @@ pub record SameWho {R : Type 0} (v w : CpusView R) : Type 0 where
   pub removals : (n : ℕ) → removal_on n w ≡ removal_on n v
   pub online : w.online ≡ v.online
   pub most : (n : ℕ) → most_on n w ≡ most_on n v
+  pub suspended : (n : ℕ) → suspended_on n w ≡ suspended_on n v
   pub long : length w.cpus ≡ length v.cpus
 
 -- but for this id they have the same cyclics, and no other removal has ended
@@ -168,10 +177,11 @@ pub record SameBut {R : Type 0} (id : ℕ) (v w : CpusView R) : Type 0 where
   pub removals : (n q : ℕ) → q ≢ id → removal_on n v ≡ Some q → removal_on n w ≡ Some q
   pub online : w.online ≡ v.online
   pub most : (n : ℕ) → most_on n w ≡ most_on n v
+  pub suspended : (n : ℕ) → suspended_on n w ≡ suspended_on n v
   pub long : length w.cpus ≡ length v.cpus
 
 pub same_none : {R : Type 0} (v : CpusView R) → SameWho v v
-same_none v = record { ids = λ n. refl; removals = λ n. refl; online = refl; most = λ n. refl; long = refl }
+same_none v = record { ids = λ n. refl; removals = λ n. refl; online = refl; most = λ n. refl; suspended = λ n. refl; long = refl }
 
 pub same_then : {R : Type 0} (u v w : CpusView R) → SameWho u v → SameWho v w → SameWho u w
 same_then u v w a b = record {
@@ -179,6 +189,7 @@ same_then u v w a b = record {
   removals = λ n. b.removals n ∙ a.removals n;
   online = b.online ∙ a.online;
   most = λ n. b.most n ∙ a.most n;
+  suspended = λ n. b.suspended n ∙ a.suspended n;
   long = b.long ∙ a.long;
 }
 
@@ -191,6 +202,7 @@ but_same id v w s = record {
   removals = λ n q ne e. s.removals n ∙ e;
   online = s.online;
   most = s.most;
+  suspended = s.suspended;
   long = s.long;
 }
 
@@ -200,6 +212,7 @@ but_then id u v w a b = record {
   removals = λ n q ne e. b.removals n q ne (a.removals n q ne e);
   online = b.online ∙ a.online;
   most = λ n. b.most n ∙ a.most n;
+  suspended = λ n. b.suspended n ∙ a.suspended n;
   long = b.long ∙ a.long;
 }
 
@@ -233,6 +246,7 @@ module _ {R : Type 0} (v : CpusView R) (n : ℕ) (x y : CpuView R) (at : IsCpu n
     removals = kept_at (λ o. option_and_then (λ cpu. cpu.removal) o) s.removal;
     online = refl;
     most = kept_at (λ o. option_map (λ cpu. cpu.most) o) (ap Some s.most);
+    suspended = kept_at (λ o. option_map (λ cpu. cpu.suspended) o) (ap Some s.suspended);
     long = length-set v.cpus n y;
   }
 
@@ -242,6 +256,7 @@ module _ {R : Type 0} (v : CpusView R) (n : ℕ) (x y : CpuView R) (at : IsCpu n
     removals = λ m q ne e. kept_at (λ o. option_and_then (λ cpu. cpu.removal) o) s.removal m ∙ e;
     online = refl;
     most = kept_at (λ o. option_map (λ cpu. cpu.most) o) (ap Some s.most);
+    suspended = kept_at (λ o. option_map (λ cpu. cpu.suspended) o) (ap Some s.suspended);
     long = length-set v.cpus n y;
   }
 
@@ -255,6 +270,7 @@ module _ {R : Type 0} (v : CpusView R) (n : ℕ) (x y : CpuView R) (at : IsCpu n
     removals = λ m q ne e. kept_at v n x y at (λ o. option_and_then (λ cpu. cpu.removal) o) (s.removal ∙ sym still) m ∙ e;
     online = refl;
     most = kept_at v n x y at (λ o. option_map (λ cpu. cpu.most) o) (ap Some s.most);
+    suspended = kept_at v n x y at (λ o. option_map (λ cpu. cpu.suspended) o) (ap Some s.suspended);
     long = length-set v.cpus n y;
   }
 

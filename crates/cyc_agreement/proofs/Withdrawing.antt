@@ -92,6 +92,8 @@ module _ {R : Type 0} (v : CpusView R) (n id place : ℕ) (x y : CpuView R) (at 
       online = refl;
       most = at_each v n x y at (λ a b. option_map (λ cpu. cpu.most) b ≡ option_map (λ cpu. cpu.most) a) (ap Some l.most)
           (λ o. refl);
+      suspended = at_each v n x y at (λ a b. option_map (λ cpu. cpu.suspended) b ≡ option_map (λ cpu. cpu.suspended) a) (ap Some l.suspended)
+          (λ o. refl);
       long = length-set v.cpus n y;
       before = r;
       after = after;
@@ -137,6 +139,7 @@ withdraws_none id place v rs r is = record {
   were_open = λ n q ne h. h;
   online = refl;
   most = λ n. refl;
+  suspended = λ n. refl;
   long = refl;
   before = r;
   after = r;
@@ -172,6 +175,7 @@ withdraws_then id place u v w rs ss ts a b = record {
   were_open = λ n q ne h. a.were_open n q ne (b.were_open n q ne h);
   online = b.online ∙ a.online;
   most = λ n. b.most n ∙ a.most n;
+  suspended = λ n. b.suspended n ∙ a.suspended n;
   long = b.long ∙ a.long;
   before = a.before;
   after = b.after;

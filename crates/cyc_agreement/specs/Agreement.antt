@@ -14,6 +14,10 @@ use Rattle.cyc_agreement.specs.System.{SystemView, has, removal_on, is_online, i
 abbrev pub most_on : {R : Type 0} → ℕ → CpusView R → Option ℕ
 most_on n v = option_map (λ cpu. cpu.most) (slice_get v.cpus n)
 
+-- whether the CPU of this number is suspended
+abbrev pub suspended_on : {R : Type 0} → ℕ → CpusView R → Option Bool
+suspended_on n v = option_map (λ cpu. cpu.suspended) (slice_get v.cpus n)
+
 -- a cyclic with this place has one on the CPU of this number, or may have
 abbrev pub Stands : ℕ → Placement → Type 0
 Stands n (On m bound) = m ≡ n
@@ -42,3 +46,5 @@ pub record Agrees {R : Type 0} (s : SystemView R) : Type 0 where
   pub some : (n : ℕ) × (is_online n s.cpus ≡ true)
   -- all CPUs have one bound on the expirations of a cyclic
   pub most : (n m a b : ℕ) → most_on n s.cpus ≡ Some a → most_on m s.cpus ≡ Some b → a ≡ b
+  -- all CPUs are suspended, offline ones too, or none is
+  pub suspended : (n m : ℕ) (a b : Bool) → suspended_on n s.cpus ≡ Some a → suspended_on m s.cpus ≡ Some b → a ≡ b

@@ -6,7 +6,7 @@ use Rattle.cyc_places.specs.declared.record.Record.{Record}
 use Rattle.cyc_places.specs.Places.{IsRecord, ended_on}
 use Rattle.cyc_agreement.specs.Cpus.{CpusView}
 use Rattle.cyc_agreement.specs.System.{SystemView, has, removal_on}
-use Rattle.cyc_agreement.specs.Agreement.{most_on}
+use Rattle.cyc_agreement.specs.Agreement.{most_on, suspended_on}
 
 -- a system with these parts
 abbrev pub system : {R : Type 0} → CpusView R → List Record → ℕ → SystemView R
@@ -28,6 +28,7 @@ pub record Withdraws {R : Type 0} (id place : ℕ) (v w : CpusView R) (rs rs' : 
   pub were_open : (n q : ℕ) → q ≢ id → removal_on n w ≡ Some q → removal_on n v ≡ Some q
   pub online : w.online ≡ v.online
   pub most : (n : ℕ) → most_on n w ≡ most_on n v
+  pub suspended : (n : ℕ) → suspended_on n w ≡ suspended_on n v
   pub long : length w.cpus ≡ length v.cpus
   pub before : Record
   pub after : Record

@@ -25,6 +25,7 @@ use Rattle.cyc_cpu.specs.Removal.{HasCyclic, WhyNotBegun, IsReceipt, Waits}
 use Rattle.cyc_cpu.specs.Moving.{WhyNotTaken}
 use Rattle.cyc_cpu_model.specs.Tied.{IsTied}
 use Rattle.cyc_cpu.specs.Soft.{raise_tables, firing_at as seen, Interrupts}
+use Rattle.cyc_cpu.specs.Calls.{Suspend, Resume}
 use Rattle.cyc_cpu.specs.Calls.{CpuCall, Fire, SoftInterrupt, Add, Place, Reprogram, AskPending, AskTotals, AskRoom, Reserve}
 use Rattle.cyc_cpu.specs.Calls.{Widen, BeginRemove, PollRemove, TakeNow, AskSettled, Changes, Does}
 use Rattle.cyc_model.specs.Cpu.{has_cyclic}
@@ -385,3 +386,5 @@ answers handler n online (TakeNow id (Ok got)) s t law in_time goes ((still, (x,
 answers handler n online (TakeNow id (Err e)) s t law in_time goes (d, calls) =
     not_taken id online e s.cpu t.cpu law d
 answers handler n online (AskSettled b) s t law in_time goes does = tt
+answers handler n online Suspend s t law in_time goes does = tt
+answers handler n online Resume s t law in_time goes does = tt

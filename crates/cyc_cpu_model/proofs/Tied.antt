@@ -25,6 +25,7 @@ use Rattle.cyc_cpu.specs.declared.removing.Removal.TheVariants.{Done, Kept}
 use Rattle.cyc_cpu.specs.Cpu.{CpuView, Running, HasNoCyclic, HasRisingIds, AreAdmitted, with_moment}
 use Rattle.cyc_cpu.specs.Laws.{IsLawful}
 use Rattle.cyc_cpu.specs.Soft.{raise_tables, firing_at as seen, Interrupts}
+use Rattle.cyc_cpu.specs.Calls.{Suspend, Resume}
 use Rattle.cyc_cpu.specs.Calls.{CpuCall, Fire, SoftInterrupt, Add, Place, Reprogram, AskPending, AskTotals, AskRoom, Reserve}
 use Rattle.cyc_cpu.specs.Calls.{Widen, BeginRemove, PollRemove, TakeNow, AskSettled, Changes, Does}
 use Rattle.cyc_model.specs.Cpu.{is_of, handler_level_of}
@@ -153,6 +154,8 @@ owns handler n index online (TakeNow id (Ok got)) s t rising goes ((still, takes
     take_ties n id (shown_cpu online s.cpu) still h.known
 owns handler n index online (TakeNow id (Err e)) s t rising goes d h = h
 owns handler n index online (AskSettled b) s t rising goes d h = h
+owns handler n index online Suspend s t rising goes d h = h
+owns handler n index online Resume s t rising goes d h = h
 
 pub tied : {C : Type 0} (handler : Calls C) (call : CpuCall) (s t : Running C Tables)
     → (IsStopped call → ⊥) → Does handler raise_tables (Interrupts handler) s call t

@@ -12,6 +12,7 @@ use Rattle.cyc_types.specs.declared.level.Soft.{Soft}
 use Rattle.cyc_core.specs.Tables.{Tables}
 use Rattle.cyc_cpu.specs.Cpu.{CpuView, running}
 use Rattle.cyc_cpu.specs.Soft.{raise_tables, Interrupts}
+use Rattle.cyc_cpu.specs.Calls.{Suspend, Resume}
 use Rattle.cyc_cpu.specs.Calls.{CpuCall, Fire, SoftInterrupt, Add, Place, Reprogram, AskPending, AskTotals, AskRoom, Reserve}
 use Rattle.cyc_cpu.specs.Calls.{Widen, BeginRemove, PollRemove, TakeNow, AskSettled, Changes, Does}
 use Rattle.cyc_system.specs.Cpus.{CpusView, IsCpu, with_cpu, on, DoesAt, RunningCpus, running_cpus, RunsAt}
@@ -83,6 +84,8 @@ does_of (BeginRemove id answer) x y d = (d, refl)
 does_of (PollRemove answer) x y d = (d, refl)
 does_of (TakeNow id answer) x y d = (d, refl)
 does_of (AskSettled answer) x y d = (d, refl)
+does_of Suspend x y d = (d, refl)
+does_of Resume x y d = (d, refl)
 
 no_stop : (call : CpuCall) (x y : CpuView Tables) → Changes raise_tables x call y → IsStopped call → ⊥
 no_stop (Fire now answer) x y d stopped = d
@@ -99,6 +102,8 @@ no_stop (BeginRemove id answer) x y d stopped = absurd stopped
 no_stop (PollRemove answer) x y d stopped = absurd stopped
 no_stop (TakeNow id answer) x y d stopped = absurd stopped
 no_stop (AskSettled answer) x y d stopped = absurd stopped
+no_stop Suspend x y d stopped = absurd stopped
+no_stop Resume x y d stopped = absurd stopped
 
 -- ---- by number
 

@@ -10,6 +10,7 @@ use Rattle.cyc_soft.specs.declared.Ran.{Ran}
 use Rattle.cyc_soft.specs.declared.SoftRefused.{SoftRefused}
 use Rattle.cyc_cpu.specs.Cpu.{CpuView, Running, running}
 use Rattle.cyc_cpu.specs.Moving.{IsSettled}
+use Rattle.cyc_cpu.specs.Calls.{Suspend, Resume}
 use Rattle.cyc_cpu.specs.Calls.{CpuCall, Changes as CpuChanges, Does as CpuDoes, no_interrupts, Fire}
 use Rattle.cyc_cpu.specs.Calls.{SoftInterrupt as CpuSoftInterrupt, Add as CpuAdd, Place, Reprogram as CpuReprogram, AskPending}
 use Rattle.cyc_cpu.specs.Calls.{AskTotals as CpuAskTotals, AskRoom, Reserve, Widen, BeginRemove as CpuBegin}
@@ -52,6 +53,8 @@ module _ {R : Type 0} (firing : Raise R) where
   quiet_settled x y (CpuPoll answer) d = one_settled x y (CpuPoll answer) tt (d, refl)
   quiet_settled x y (TakeNow own answer) d = one_settled x y (TakeNow own answer) tt (d, refl)
   quiet_settled x y (AskSettled answer) d = one_settled x y (AskSettled answer) tt (d, refl)
+  quiet_settled x y Suspend d = one_settled x y Suspend tt (d, refl)
+  quiet_settled x y Resume d = one_settled x y Resume tt (d, refl)
 
   -- one CPU became another: its size is no smaller, and where it is the same a settled CPU stays so
   pub record Calm (x y : CpuView R) : Type 0 where

@@ -8,6 +8,7 @@ use Rattle.cyc_types.specs.declared.level.Soft.{Soft}
 use Rattle.cyc_soft.specs.declared.Ran.{Ran}
 use Rattle.cyc_soft.specs.declared.SoftRefused.{SoftRefused}
 use Rattle.cyc_cpu.specs.Cpu.{CpuView, Running, running}
+use Rattle.cyc_cpu.specs.Calls.{Suspend, Resume}
 use Rattle.cyc_cpu.specs.Calls.{CpuCall, Changes, Does, Fire, SoftInterrupt, Add, Place, Reprogram, AskPending, AskTotals}
 use Rattle.cyc_cpu.specs.Calls.{AskRoom, Reserve, Widen, BeginRemove, PollRemove, TakeNow, AskSettled}
 use Rattle.cyc_system_laws.specs.Runs.{calls_on, DoesWithSome}
@@ -33,6 +34,8 @@ module _ {C R : Type 0} (handler : Calls C)
   quiet_does x y (PollRemove answer) d = (d, refl)
   quiet_does x y (TakeNow j answer) d = (d, refl)
   quiet_does x y (AskSettled answer) d = (d, refl)
+  quiet_does x y Suspend d = (d, refl)
+  quiet_does x y Resume d = (d, refl)
 
   quiet_at : (v : CpusView R) (c : CallOn) (w : CpusView R) → DoesAt firing v c w →
       RunsAt handler firing interrupts (running_cpus calls v) c (running_cpus calls w)

@@ -13,6 +13,7 @@ use Rattle.cyc_cpu.proofs.Sharing.{ids_add_up}
 use Rattle.cyc_cpu.specs.Cpu.{CpuView, Running, running, HasNoCyclic}
 use Rattle.cyc_cpu.specs.Gone.{IsGone, PutsNot}
 use Rattle.cyc_cpu.specs.Soft.{raise_tables, Interrupts}
+use Rattle.cyc_cpu.specs.Calls.{Suspend, Resume}
 use Rattle.cyc_cpu.specs.Calls.{CpuCall, Changes, Does, no_interrupts, Fire, SoftInterrupt, Add, Place, Reprogram, AskPending}
 use Rattle.cyc_cpu.specs.Calls.{AskTotals, AskRoom, Reserve, Widen, BeginRemove, PollRemove, TakeNow, AskSettled}
 use Rattle.cyc_cpu.proofs.Following.{stays_gone}
@@ -87,6 +88,8 @@ module _ {C : Type 0} (handler : Calls C) (id : ℕ) where
   with_calls calls x y (PollRemove answer) d = (d, refl)
   with_calls calls x y (TakeNow own answer) d = (d, refl)
   with_calls calls x y (AskSettled answer) d = (d, refl)
+  with_calls calls x y Suspend d = (d, refl)
+  with_calls calls x y Resume d = (d, refl)
 
   pub stays_whole : (s t : RunningSystem C Tables) (way : List SystemCall) → IsOverWhole id s.system
       → FoldsTo (SystemDoes handler raise_tables (Interrupts handler)) s way t
