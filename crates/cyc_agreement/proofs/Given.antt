@@ -13,33 +13,38 @@ use Rattle.cyc_places.specs.declared.record.Record.{Record}
 use Rattle.cyc_places.specs.Places.{IsRecord, new_record, ended_on}
 use Rattle.cyc_agreement.specs.Cpus.{CpusView}
 use Rattle.cyc_agreement.specs.System.{SystemView, has, removal_on, is_online, is_everywhere}
-use Rattle.cyc_agreement.specs.Agreement.{Agrees, Stands}
+use Rattle.cyc_agreement.specs.Agreement.{Agrees, Stands, suspended_on}
 use Rattle.cyc_agreement.proofs.Spots.{get_front, get_last, get_either}
-use Rattle.cyc_agreement.proofs.Who.{SameWho, SameBut, has_same}
+use Rattle.cyc_agreement.proofs.Who.{SameWho, SameBeside, SameBut, has_beside, beside_same}
 
 pub online_same : {R : Type 0} (v w : CpusView R) (n : ℕ) → w.online ≡ v.online → is_online n w ≡ is_online n v
 online_same v w n e = ap (λ o. option_map_or (λ online. online) (slice_get o n) false) e
 
-pub agrees_same : {R : Type 0} (s : SystemView R) (w : CpusView R) → Agrees s → SameWho s.cpus w → Agrees (record s { cpus = w })
-agrees_same s w a b = record {
-  known = λ n id h. (let (k, r, is, named, stands, on) = a.known n id (sym (has_same s.cpus w b n id) ∙ h) in
+pub agrees_beside : {R : Type 0} (s : SystemView R) (w : CpusView R) → Agrees s → SameBeside s.cpus w
+    → ((n m : ℕ) (x y : Bool) → suspended_on n w ≡ Some x → suspended_on m w ≡ Some y → x ≡ y) → Agrees (record s { cpus = w })
+agrees_beside s w a b alike = record {
+  known = λ n id h. (let (k, r, is, named, stands, on) = a.known n id (sym (has_beside s.cpus w b n id) ∙ h) in
       (k, r, is, named, stands, online_same s.cpus w n b.online ∙ on));
-  home = λ k n bound r is place. has_same s.cpus w b n r.id ∙ a.home k n bound r is place;
+  home = λ k n bound r is place. has_beside s.cpus w b n r.id ∙ a.home k n bound r is place;
   everywhere = λ k n r is place on. by n r (a.everywhere k n r is place (sym (online_same s.cpus w n b.online) ∙ on));
-  ended = λ k n r is h. a.ended k n r is (sym (has_same s.cpus w b n r.id) ∙ h);
+  ended = λ k n r is h. a.ended k n r is (sym (has_beside s.cpus w b n r.id) ∙ h);
   single = a.single;
   given = a.given;
   few = subst (λ n. n ≤ 16) (sym b.long) a.few;
   long = ap (λ (o : List Bool). length o) b.online ∙ a.long ∙ sym b.long;
   some = (a.some.0, online_same s.cpus w a.some.0 b.online ∙ a.some.1);
   most = λ n m x y p q. a.most n m x y (sym (b.most n) ∙ p) (sym (b.most m) ∙ q);
-  suspended = λ n m x y p q. a.suspended n m x y (sym (b.suspended n) ∙ p) (sym (b.suspended m) ∙ q);
+  suspended = alike;
 }
   where
     by : (n : ℕ) (r : Record) → (has n r.id s.cpus ≡ true) ⊎ ((m : ℕ) × (removal_on m s.cpus ≡ Some r.id))
         → (has n r.id w ≡ true) ⊎ ((m : ℕ) × (removal_on m w ≡ Some r.id))
-    by n r (inl h) = inl (has_same s.cpus w b n r.id ∙ h)
+    by n r (inl h) = inl (has_beside s.cpus w b n r.id ∙ h)
     by n r (inr (m, e)) = inr (m, b.removals m ∙ e)
+
+pub agrees_same : {R : Type 0} (s : SystemView R) (w : CpusView R) → Agrees s → SameWho s.cpus w → Agrees (record s { cpus = w })
+agrees_same s w a b = agrees_beside s w a (beside_same s.cpus w b)
+    (λ n m x y p q. a.suspended n m x y (sym (b.suspended n) ∙ p) (sym (b.suspended m) ∙ q))
 
 none_ended : (n k : ℕ) → get_or (replicate n no_counts) k no_counts ≡ no_counts
 none_ended zero k = refl

@@ -61,4 +61,5 @@ pub mod Rejoined
 pub mod Going
 pub mod Visits
 pub mod Regained
+pub mod Marked
 pub use Rattle.cyc_cpu.proofs.Inquiring

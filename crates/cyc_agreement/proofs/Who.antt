@@ -171,6 +171,14 @@ pub record SameWho {R : Type 0} (v w : CpusView R) : Type 0 where
   pub suspended : (n : ℕ) → suspended_on n w ≡ suspended_on n v
   pub long : length w.cpus ≡ length v.cpus
 
+-- the same, but that they may be suspended or resumed
+pub record SameBeside {R : Type 0} (v w : CpusView R) : Type 0 where
+  pub ids : (n : ℕ) → ids_on n w ≡ ids_on n v
+  pub removals : (n : ℕ) → removal_on n w ≡ removal_on n v
+  pub online : w.online ≡ v.online
+  pub most : (n : ℕ) → most_on n w ≡ most_on n v
+  pub long : length w.cpus ≡ length v.cpus
+
 -- but for this id they have the same cyclics, and no other removal has ended
 pub record SameBut {R : Type 0} (id : ℕ) (v w : CpusView R) : Type 0 where
   pub others : (n q : ℕ) → q ≢ id → has n q w ≡ has n q v
@@ -193,8 +201,14 @@ same_then u v w a b = record {
   long = b.long ∙ a.long;
 }
 
+pub has_beside : {R : Type 0} (v w : CpusView R) → SameBeside v w → (n q : ℕ) → has n q w ≡ has n q v
+has_beside v w s n q = ap (λ ids. among q ids) (s.ids n)
+
+pub beside_same : {R : Type 0} (v w : CpusView R) → SameWho v w → SameBeside v w
+beside_same v w s = record { ids = s.ids; removals = s.removals; online = s.online; most = s.most; long = s.long }
+
 pub has_same : {R : Type 0} (v w : CpusView R) → SameWho v w → (n q : ℕ) → has n q w ≡ has n q v
-has_same v w s n q = ap (λ ids. among q ids) (s.ids n)
+has_same v w s = has_beside v w (beside_same v w s)
 
 pub but_same : {R : Type 0} (id : ℕ) (v w : CpusView R) → SameWho v w → SameBut id v w
 but_same id v w s = record {

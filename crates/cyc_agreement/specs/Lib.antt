@@ -2,6 +2,7 @@ pub mod Cpus
 pub mod Destination
 pub mod Shifting
 pub mod Reserving
+pub mod Suspending
 pub mod Ids
 pub mod System
 pub mod Agreement

@@ -27,6 +27,7 @@ mod reserving;
 mod retiring;
 mod returning;
 mod shifting;
+mod suspending;
 mod totals;
 mod totals_on;
 mod turning;
