@@ -4,8 +4,8 @@
     tests/timeline.py [COUNT [SEED]]     with so many scripts made at random; without numbers 100 of seed 1
     tests/timeline.py --write            writes the pictures of the examples anew
 
-The picture of each example is the one that stands beside it. The scripts of SEVERAL, whose program is still to come, have the text that
-is worked out by hand. Of scripts made at random (tests/random.py) the program writes the text: so the run that the picture is made of,
+The picture of each example is the one that stands beside it. The scripts of WORKED have the text that is worked out by hand, which the
+program writes too. Of scripts made at random (tests/random.py) the program writes the text: so the run that the picture is made of,
 which shares no code with the program, comes to the same lines.
 """
 import os
@@ -29,8 +29,8 @@ PROGRAM = f"{TOP}/crates/cyclic/out/cyclic"
 MARK = re.compile(r'data-kind="(\w+)" data-name="([^"]+)" data-count="(\d+)"')
 REPORT = re.compile(r"(\S+) expired (\d+) called (\d+) lost (\d+) pending \d+")
 
-# scripts of several CPUs: the steps, and the lines with the counts of the report
-SEVERAL = {
+# scripts of several CPUs, and of some that are suspended: the CPUs, the steps, and the lines with the counts of the report
+WORKED = {
     "offline leaves what is bound or has no room": (
         2, "add a high 10 10; add b high 10 10; add c high 10 10; bind a 0; offline 0; unbind a; offline 0; softint 1 low 1; "
         "softint 1 lock 1; offline 0; offline 1; offline 0",
@@ -56,6 +56,21 @@ SEVERAL = {
         "bind o 1; reprogram o 50; reprogram o 50 1",
         "1 ok/2 fired 1 lost 0/3 refused 9/4 refused 13/5 ran 1 idle/6 ok/7 ok/8 refused 14/9 ok/10 refused 16/11 refused 16/12 ok/"
         "a 1 1 0 0/o 0 0 0 0"),
+    "one fire after a resume makes all that is due": (
+        1, "add a high 10 10; suspend; advance 35; suspend; resume; resume; advance 36",
+        "1 ok/2 ok/3 refused 25/4 refused 25/5 ok/6 refused 26/7 fired 3 lost 0/a 3 3 0 0"),
+    "a fire after a resume may be more than a second late": (
+        1, "add a high 100000000 100000000; suspend; advance 1200000001; resume; advance 1200000001",
+        "1 ok/2 ok/3 refused 25/4 ok/5 fired 1 lost 0/a 1 1 0 0"),
+    "a refused advance sets the clock": (
+        1, "suspend; advance 25; add a high 0 10; resume; advance 30",
+        "1 ok/2 refused 25/3 ok/4 ok/5 fired 1 lost 0/a 1 1 0 0"),
+    "calls are made while the clock is suspended": (
+        1, "add a low 10 10; advance 10; suspend; softint 0 low 8; remove a",
+        "1 ok/2 fired 1 lost 0/3 ok/4 ran 1 idle/5 removed a 1/a 1 1 0 0"),
+    "a CPU that comes online is suspended": (
+        2, "omni a high 10 10 0; offline 1; suspend; online 1; advance 20; resume; advance 20",
+        "1 ok/2 ok/3 ok/4 ok/5 refused 25/6 ok/7 fired 4 lost 0/a 4 4 0 0"),
 }
 
 
@@ -125,11 +140,12 @@ def examples(work, writes):
         yield path, fault_of(script, text, work)
 
 
-def several(work):
-    for name, (cpus, steps, lines) in SEVERAL.items():
+def worked(work):
+    for name, (cpus, steps, lines) in WORKED.items():
         script = json.dumps({"cpus": cpus, "steps": [step_of(it) for it in steps.split("; ")]}).encode()
         text = "".join(whole(line) + "\n" for line in lines.split("/")).encode()
-        yield name, fault_of(script, text, work)
+        written = replayed(script)
+        yield name, fault_of(script, text, work) if written == text else f"the program writes {written!r}"
 
 
 def at_random(work, count, seed):
@@ -154,7 +170,7 @@ def main():
     numbers = given + [100, 1][len(given):]
     subprocess.run([f"{TOP}/cyclic", "replay"], stdin=subprocess.DEVNULL, capture_output=True)
     with tempfile.TemporaryDirectory(prefix="timeline-") as work:
-        tried = [*examples(work, "--write" in sys.argv), *several(work), *refusals(work), *at_random(work, *numbers)]
+        tried = [*examples(work, "--write" in sys.argv), *worked(work), *refusals(work), *at_random(work, *numbers)]
     faults = [(name, fault) for name, fault in tried if fault]
     for name, fault in faults:
         print(f"timeline: {name}: {fault}")

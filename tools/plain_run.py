@@ -98,11 +98,11 @@ class Run:
     def __init__(self, script):
         self.cpus = [Cpu() for _ in range(script["cpus"])]
         self.ceiling = script.get("ceiling", 2**32 - 1)
-        self.clock, self.last, self.number = 0, 0, 0
+        self.clock, self.last, self.number, self.suspended = 0, 0, 0, False
         self.names, self.of_id, self.lines, self.marks, self.refused = {}, {}, [], [], {}
-        self.clocks = []  # the clock before and after each step
+        self.clocks, self.fired = [], 0  # for each step the moment of the last fire before it, and the clock after it
         for self.number, (word, *words) in enumerate(script["steps"], 1):
-            before = self.clock
+            before = self.fired
             try:
                 said = getattr(self, word)(*words)
                 self.line(said if said is not None else "ok")
@@ -228,7 +228,8 @@ class Run:
 
     def advance(self, now):
         self.clock = now
-        sums = [0, 0]
+        refuse(25, self.suspended)
+        self.fired, sums = now, [0, 0]
         for n, cpu in enumerate(self.cpus):
             if cpu.online:
                 for cyclic in sorted(cpu.cyclics.values(), key=lambda it: (it.expire, it.id)):
@@ -253,6 +254,16 @@ class Run:
         cyclic.expired, cyclic.lost = cyclic.expired + count, cyclic.lost + lost
         cyclic.expire = following(cyclic.expire, cyclic.interval, self.clock)
         sums[0], sums[1] = sums[0] + count, sums[1] + lost
+
+    def suspend(self):
+        refuse(25, self.suspended)
+        self.suspended = True
+        self.mark("suspended", None, None)
+
+    def resume(self):
+        refuse(26, not self.suspended)
+        self.suspended = False
+        self.mark("resumed", None, None)
 
     def softint(self, n, at, budget):
         refuse(13, n >= len(self.cpus))
