@@ -6,7 +6,7 @@
 Every other script is whole: it must be accepted. The others are damaged in one to four bytes: each is accepted, or refused as a
 script. An accepted one has status 0, nothing on standard error, lines of the right forms, and a report in which the expirations
 are those called, lost and pending; and where the script was not damaged its text is the one that `tools/plain_run.py` works out
-by itself. A refused one has status 2, no text, and one line 'script refused K', with 'step N' for 20 to 23. Every fourth pair of
+by itself. Half of the scripts suspend and resume. A refused one has status 2, no text, and one line 'script refused K', with 'step N' for 20 to 23. Every fourth pair of
 scripts is run in threads too: refused in the same words, or accepted with a report of the same names, in which nothing is
 pending. The same seed makes the same scripts. The first faulty one is printed, and the status is 1.
 """
@@ -15,6 +15,7 @@ import sys
 
 # this folder has a random.py that is not the library's
 sys.path = [it for it in sys.path if os.path.abspath(it or ".") != os.path.dirname(os.path.abspath(__file__))]
+import copy
 import importlib.machinery
 import importlib.util
 import json
@@ -48,6 +49,8 @@ class Maker:
     def __init__(self, chance):
         self.chance, self.clock, self.names = chance, 0, []
         self.cpus = chance.choice([1, 1, 2, 2, 3, 4, 16])
+        # a chance of its own, so that the other words don't depend on whether the script suspends
+        self.turns, self.suspended = random.Random(copy.copy(chance).getrandbits(64)), False
 
     def cpu(self):
         number = self.chance.choice([self.cpus, 15, 2**32 - 1]) if self.chance.random() < 0.03 else 0
@@ -108,8 +111,38 @@ class Maker:
             return ["bind", name, self.cpu()] if self.chance.random() < 0.7 else ["unbind", name]
         return [self.chance.choice(["juggle", "offline", "online"]), self.cpu()]
 
+    def turn(self):
+        """A suspend or a resume, one in six of them refused."""
+        self.suspended ^= self.turns.random() > 1 / 6
+        return ["suspend" if self.suspended else "resume"]
+
+    def later(self):
+        """After one turn in three the clock goes on, for many by more than a second."""
+        if self.turns.random() < 1 / 3:
+            self.clock = min(self.clock + self.turns.choice([0, 50, 1000, 3 * SECOND, 3 * SECOND]), NEVER - 1)
+            yield ["advance", self.clock]
+
+    def suspending(self, count):
+        """So many steps with turns between them, more of them beside a fire and a CPU that goes or comes. The last is mostly a resume."""
+        yield self.turn()
+        yield from self.later()
+        for _ in range(count):
+            step = self.step()
+            often = (0.12 if self.suspended else 0.04) * (2 if step[0] in ("advance", "offline", "online") else 1)
+            if self.turns.random() < often:
+                yield self.turn()
+            yield step
+            if self.turns.random() < often:
+                yield self.turn()
+                yield from self.later()
+        while self.suspended and self.turns.random() < 0.8:
+            yield self.turn()
+            yield from self.later()
+
     def script(self):
-        whole = {"cpus": self.cpus, "steps": [self.step() for _ in range(self.chance.choice([0, 3, 10, 30, 100, 300]))]}
+        count = self.chance.choice([0, 3, 10, 30, 100, 300])
+        steps = [*self.suspending(count)] if self.turns.random() < 0.5 else [self.step() for _ in range(count)]
+        whole = {"cpus": self.cpus, "steps": steps}
         if self.chance.random() < 0.5:
             whole["ceiling"] = self.chance.choice([1, 2, 7, 2**32 - 1])
         return json.dumps(whole).encode()

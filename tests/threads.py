@@ -4,17 +4,18 @@
     tests/threads.py COUNT [SEED]
 
 The scripts have 1 to 16 CPUs, all words but `offline`, ceilings from 1 on, and between any two removals a word at which a run
-waits until each CPU has settled. So the report tells the same expirations whatever the schedule: each name's are summed up here
-from the script's words alone. Its losses depend on the schedule, so for them there is a bound: between two moments at which
-nothing is pending, the first expirations of a cyclic on a CPU, as many as the ceiling, are not lost. All others are called or
-lost, and nothing is pending. This shares no code with the program. The same seed makes the same scripts. The first faulty one is
-printed, and the status is 1.
+waits until each CPU has settled. Some suspend and resume. So the report tells the same expirations whatever the schedule: each
+name's are summed up here from the script's words alone. Its losses depend on the schedule, so for them there is a bound: between two
+moments at which nothing is pending, the first expirations of a cyclic on a CPU, as many as the ceiling, are not lost. All others are
+called or lost, and nothing is pending. This shares no code with the program. The same seed makes the same scripts. The first faulty
+one is printed, and the status is 1.
 """
 import os
 import sys
 
 # this folder has a random.py that is not the library's
 sys.path = [it for it in sys.path if os.path.abspath(it or ".") != os.path.dirname(os.path.abspath(__file__))]
+import copy
 import json
 import random
 import re
@@ -72,7 +73,7 @@ class Cyclic:
 
 def expected(script):
     """For each name, in order, its expirations and the most of them that can be lost."""
-    ceiling, clock, cyclics = script.get("ceiling", GREATEST), 0, {}
+    ceiling, clock, suspended, cyclics = script.get("ceiling", GREATEST), 0, False, {}
     for word, *words in script["steps"]:
         if word not in ("advance", "remove"):
             for cyclic in cyclics.values():
@@ -91,9 +92,11 @@ def expected(script):
                 cyclic.moments[(cpu or [0])[0]] = moment
         elif word == "remove":
             cyclics[words[0]].moments = []
+        elif word in ("suspend", "resume"):
+            suspended = word == "suspend"
         elif word == "advance":
             clock = words[0]
-            for cyclic in cyclics.values():
+            for cyclic in [] if suspended else cyclics.values():
                 cyclic.advance(clock)
     for cyclic in cyclics.values():
         cyclic.settle(ceiling)
@@ -110,6 +113,8 @@ class Maker:
         self.chance, self.clock, self.names, self.removed = chance, 0, [], False
         self.cpus = chance.choice([1, 1, 2, 2, 3, 4, 8, chance.randint(1, 16)])
         self.longest = chance.choice([20, 200, 2000])
+        # a chance of its own, so that the other words don't depend on whether the script suspends
+        self.turns, self.suspended = random.Random(copy.copy(chance).getrandbits(64)), False
 
     def cpu(self):
         far = self.chance.choice([self.cpus, 15, GREATEST]) if self.chance.random() < 0.03 else 0
@@ -162,8 +167,26 @@ class Maker:
         self.removed = False
         return self.other()
 
+    def turn(self):
+        """A suspend or a resume, one in six of them refused. After one in four more than a second goes by."""
+        self.suspended ^= self.turns.random() > 1 / 6
+        self.removed = False
+        yield ["suspend" if self.suspended else "resume"]
+        if self.turns.random() < 1 / 4:
+            self.clock = min(self.clock + 3 * SECOND, NEVER - 1)
+            yield ["advance", self.clock]
+
+    def suspending(self, count):
+        """So many steps with turns between them."""
+        for _ in range(count):
+            if self.turns.random() < (0.25 if self.suspended else 0.1):
+                yield from self.turn()
+            yield self.step()
+
     def script(self):
-        whole = {"cpus": self.cpus, "steps": [self.step() for _ in range(self.chance.choice([0, 3, 10, 30, 100]))]}
+        count = self.chance.choice([0, 3, 10, 30, 100])
+        steps = [*self.suspending(count)] if self.turns.random() < 0.5 else [self.step() for _ in range(count)]
+        whole = {"cpus": self.cpus, "steps": steps}
         if self.chance.random() < 0.7:
             whole["ceiling"] = self.chance.choice([1, 2, 3, 7, 50, GREATEST])
         return whole
