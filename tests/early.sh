@@ -110,6 +110,10 @@ script 2 '["omni","a","high",1,1,0],["advance",9],["offline",1],["advance",99],[
 echo 'a expired 209 called 209 lost 0 pending 0' > "$work/report"
 refuse FAIL_THREAD "$work/script" "$work/report"
 made a_cpu_that_is_offline_for_one_advance $((4 + 2 + 1 + 2))
+script 2 '["omni","a","high",1,1,0],["suspend"],["advance",9],["resume"],["advance",10]'
+echo 'a expired 20 called 20 lost 0 pending 0' > "$work/report"
+refuse FAIL_THREAD "$work/script" "$work/report"
+made an_advance_that_is_refused $((4 + 2))
 
 # a signal in the middle of a run
 script 4 "[\"omni\",\"a\",\"low\",1,1,0],$(lines '["advance",&]' 60000)"

@@ -59,10 +59,16 @@ refuse no_cpus 'script refused 20 step 0' '{"cpus":0,"steps":[]}'
 refuse time_back 'script refused 21 step 2' '{"cpus":1,"steps":[["advance",5],["advance",4]]}'
 refuse name_twice 'script refused 22 step 2' '{"cpus":1,"steps":[["add","a","low",1,1],["add","a","low",1,1]]}'
 refuse no_name 'script refused 23 step 1' '{"cpus":1,"steps":[["remove","a"]]}'
+refuse time_back_while_suspended 'script refused 21 step 3' '{"cpus":1,"steps":[["suspend"],["advance",5],["advance",4]]}'
 refuse at_never 'script refused 20 step 1' '{"cpus":1,"steps":[["advance",9223372036854775807]]}'
 expect no_steps 0 '' '' '{"cpus":1,"steps":[]}' replay
 expect no_steps_in_threads 0 '' '' '{"cpus":1,"steps":[]}' run
 expect a_removal_in_threads 0 $'a expired 100 called 100 lost 0 pending 0\n' '' '{"cpus":1,"steps":[["add","a","low",1,1],["advance",100],["remove","a"],["advance",200]]}' run
+expect a_suspension_in_threads 0 $'a expired 3 called 3 lost 0 pending 0\n' '' '{"cpus":1,"steps":[["add","a","high",10,10],["suspend"],["advance",35],["suspend"],["resume"],["resume"],["advance",36]]}' run
+expect a_late_resume_in_threads 0 $'a expired 1 called 1 lost 0 pending 0\n' '' '{"cpus":1,"steps":[["add","a","high",100000000,100000000],["suspend"],["advance",1200000001],["resume"],["advance",1200000001]]}' run
+expect the_clock_while_suspended_in_threads 0 $'a expired 1 called 1 lost 0 pending 0\n' '' '{"cpus":1,"steps":[["suspend"],["advance",25],["add","a","high",0,10],["resume"],["advance",30]]}' run
+expect a_removal_while_suspended_in_threads 0 $'a expired 1 called 1 lost 0 pending 0\n' '' '{"cpus":1,"steps":[["add","a","low",10,10],["advance",10],["suspend"],["softint",0,"low",8],["remove","a"]]}' run
+expect a_cpu_comes_back_suspended_in_threads 0 $'a expired 4 called 4 lost 0 pending 0\n' '' '{"cpus":2,"steps":[["omni","a","high",10,10,0],["offline",1],["suspend"],["online",1],["advance",20],["resume"],["advance",20]]}' run
 
 # scripts that are refused, or as great as they may be
 first=$(cat crates/cyclic/stdin)
@@ -77,6 +83,8 @@ step form_before_name 'script refused 20 step 2' '["add","a","low",1,1],["add","
 step name_before_time 'script refused 23 step 2' '["advance",5],["remove","z"],["advance",4]'
 step name_of_33 'script refused 20 step 1' '["add","abcdefghijklmnopqrstuvwxyz0123456","low",1,1]'
 step empty_name 'script refused 20 step 1' '["add","","low",1,1]'
+step suspend_with_a_cpu 'script refused 20 step 1' '["suspend",0]'
+step resume_with_a_name 'script refused 20 step 1' '["resume","a"]'
 step spaced_name 'script refused 20 step 1' '["add","a b","low",1,1]'
 longest='{"cpus":1,"steps":[["add","abcdefghijklmnopqrstuvwxyz012345","low",1,1]]}'
 report=$'abcdefghijklmnopqrstuvwxyz012345 expired 0 called 0 lost 0 pending 0\n'
