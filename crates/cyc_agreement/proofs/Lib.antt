@@ -62,4 +62,5 @@ pub mod Going
 pub mod Visits
 pub mod Regained
 pub mod Marked
+pub use Rattle.cyc_cpu.proofs.Calling
 pub use Rattle.cyc_cpu.proofs.Inquiring

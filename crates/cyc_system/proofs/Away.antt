@@ -210,6 +210,7 @@ module _ {R : Type 0} (view : R → FiringView) where
     removal = refl;
     size = refl;
     most = refl;
+    suspended = refl;
     lock = end_same (view x.lock);
     low = end_same (view x.low);
   }
@@ -222,6 +223,7 @@ module _ {R : Type 0} (view : R → FiringView) where
     removal = b.removal ∙ a.removal;
     size = b.size ∙ a.size;
     most = b.most ∙ a.most;
+    suspended = b.suspended ∙ a.suspended;
     lock = end_then (view x.lock) (view y.lock) (view z.lock) a.lock b.lock;
     low = end_then (view x.low) (view y.low) (view z.low) a.low b.low;
   }
@@ -241,6 +243,7 @@ module _ {C R : Type 0} (handler : Calls C) (firing : Raise R) where
     removal = same.removal;
     size = same.size;
     most = same.most;
+    suspended = same.suspended;
     lock = lock;
     low = low;
   }
@@ -273,6 +276,7 @@ module _ {C R : Type 0} (handler : Calls C) (firing : Raise R) where
     removal = i.kept.removal;
     size = i.kept.size;
     most = i.kept.most;
+    suspended = i.kept.suspended;
     lock = inquired_end firing v.lock w.lock i.lock;
     low = inquired_end firing v.low w.low i.low;
   }

@@ -32,7 +32,7 @@ use Rattle.cyc_agreement.specs.GoingOffline.{Retires, Leaves}
 use Rattle.cyc_agreement.specs.Omni.{AddsOmni}
 use Rattle.cyc_agreement.specs.Online.{GoesOnline}
 use Rattle.cyc_system.specs.Calls.{SystemCall, Changes, Does, Add, AddOmni, Bind, BeginRemove, PollRemove, AskTotals, Reprogram}
-use Rattle.cyc_system.specs.Calls.{ReprogramOn, Juggle, Offline, Online, FireOne, SoftInterrupt}
+use Rattle.cyc_system.specs.Calls.{ReprogramOn, Juggle, Offline, Online, FireOne, SoftInterrupt, Suspend, Resume}
 
 stays : (a b : ℕ) → b ≡ a → a ≤ b
 stays a b e = omega (arith, e)
@@ -148,6 +148,8 @@ module _ {R : Type 0} (firing : Raise R) (s t : SystemView R) where
       stays s.last t.last (leaves firing n report answer moved t rest
       ∙ turns firing n (single_ids n s) report s moved moves)))
   changes (Online n now answer) d = refused_or _ _ answer s t _ d (λ g. returns firing s t n now answer g)
+  changes (Suspend answer) d = refused_or _ _ answer s t _ d (λ g. stays s.last t.last (g.1.2))
+  changes (Resume answer) d = refused_or _ _ answer s t _ d (λ g. stays s.last t.last (g.1.2))
   changes (FireOne n now answer) d = absurd d
   changes (SoftInterrupt n level budget answer) d = absurd d
 
@@ -157,6 +159,8 @@ module _ {C R : Type 0} (handler : Calls C) (firing : Raise R)
       → s.system.last ≤ t.system.last
   rises s t (Add level when now answer) d = changes firing s.system t.system (Add level when now answer) d.0
   rises s t (AddOmni level when skew now answer) d = changes firing s.system t.system (AddOmni level when skew now answer) d.0
+  rises s t (Suspend answer) d = changes firing s.system t.system (Suspend answer) d.0
+  rises s t (Resume answer) d = changes firing s.system t.system (Resume answer) d.0
   rises s t (BeginRemove id answer) d = changes firing s.system t.system (BeginRemove id answer) d.0
   rises s t (PollRemove id answer) d = changes firing s.system t.system (PollRemove id answer) d.0
   rises s t (AskTotals id answer) d = changes firing s.system t.system (AskTotals id answer) d.0

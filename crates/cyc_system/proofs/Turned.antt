@@ -13,15 +13,17 @@ use Rattle.cyc_cpu_laws.specs.Cpu.{CpuView}
 use Rattle.cyc_cpu_laws.specs.Gone.{PutsNot}
 use Rattle.cyc_cpu_laws.specs.Laws.{IsLawful}
 use Rattle.cyc_cpu_laws.specs.Calls.{CpuCall, Changes, Fire, SoftInterrupt, Add, Place, Reprogram, AskPending, AskTotals, AskRoom}
+use Rattle.cyc_cpu_laws.specs.Calls.{Suspend, Resume}
 use Rattle.cyc_cpu_laws.specs.Calls.{Reserve, Widen, BeginRemove, PollRemove, TakeNow, AskSettled}
 use Rattle.cyc_places.specs.declared.record.Placement.TheVariants as stands
 use Rattle.cyc_places.specs.declared.record.Record.{Record}
 use Rattle.cyc_places.specs.Places.{IsRecord, HasRisingIds, ended_on, summed, with_ended, with_place}
 use Rattle.cyc_agreement.specs.Cpus.{CpusView, IsCpu, CallOn, on, DoesAt, Works, with_cpu}
 use Rattle.cyc_agreement.specs.Shifting.{moving}
+use Rattle.cyc_agreement.proofs.Calling.{LeavesMark, changes_most, changes_suspended}
 use Rattle.cyc_agreement.proofs.CpuSpots.{get_set_same, get_set_other}
 use Rattle.cyc_agreement.specs.System.{SystemView, ids_on, ids_of, has, removal_on, is_everywhere}
-use Rattle.cyc_agreement.specs.Agreement.{Agrees, Stands, most_on}
+use Rattle.cyc_agreement.specs.Agreement.{Agrees, Stands, most_on, suspended_on}
 use Rattle.cyc_agreement.specs.Holding.{LeaveWhole}
 use Rattle.cyc_types.specs.declared.refusal.Refusal.{Refusal}
 use Rattle.cyc_agreement.specs.Adding.{OnlyWorks}
@@ -95,34 +97,19 @@ module _ {R : Type 0} (firing : Raise R) where
   back_one x y (TakeNow own (Err e)) id s p d h = absurd s
   back_one x y (AskSettled true) id s p d h = same_ids x y id d.0.cyclics h
   back_one x y (AskSettled false) id s p d h = same_ids x y id d.0.cyclics h
+  back_one x y Suspend id s p d h = absurd s
+  back_one x y Resume id s p d h = absurd s
   back_one x y (BeginRemove own answer) id s p d h = absurd s
   back_one x y (PollRemove answer) id s p d h = absurd s
   back_one x y (Add own level when now answer) id s p d h = absurd s
   back_one x y (Fire now answer) id s p d h = absurd s
   back_one x y (SoftInterrupt level budget answer) id s p d h = absurd s
 
-  most_one : (x y : CpuView R) (call : CpuCall) → IsSteady call → Changes firing x call y → y.most ≡ x.most
-  most_one x y (Place own level interval moment carried) s d = d.1.kept.most
-  most_one x y (Reprogram own moment (Ok done)) s (k, c, is, named, still, e) = ap (λ (v : CpuView R). v.most) e
-  most_one x y (Reprogram own moment (Err e)) s d = ap (λ (v : CpuView R). v.most) d.2
-  most_one x y (AskPending own (Some n)) s d = d.0.kept.most
-  most_one x y (AskPending own None) s d = ap (λ (v : CpuView R). v.most) d.1
-  most_one x y (AskTotals own (Some t)) s d = d.0.kept.most
-  most_one x y (AskTotals own None) s d = ap (λ (v : CpuView R). v.most) d.1
-  most_one x y (AskRoom more (Ok done)) s d = d.0.kept.most
-  most_one x y (AskRoom more (Err e)) s d = d.0.kept.most
-  most_one x y (Reserve more (Ok done)) s d = d.0.most
-  most_one x y (Reserve more (Err e)) s d = d.0.kept.most
-  most_one x y (Widen more) s d = d.1.most
-  most_one x y (TakeNow own (Ok taken)) s (none, (c, counts, is, polled, leaves)) = leaves.most
-  most_one x y (TakeNow own (Err e)) s d = absurd s
-  most_one x y (AskSettled true) s d = d.0.kept.most
-  most_one x y (AskSettled false) s d = d.0.kept.most
-  most_one x y (BeginRemove own answer) s d = absurd s
-  most_one x y (PollRemove answer) s d = absurd s
-  most_one x y (Add own level when now answer) s d = absurd s
-  most_one x y (Fire now answer) s d = absurd s
-  most_one x y (SoftInterrupt level budget answer) s d = absurd s
+  -- a steady call neither suspends nor resumes its CPU
+  steady_plain : (call : CpuCall) → IsSteady call → LeavesMark call
+  steady_plain Suspend s = absurd s
+  steady_plain Resume s = absurd s
+  steady_plain call s = tt
 
   back_done : (v w : CpusView R) (c : CallOn) (id n : ℕ) → IsSteady c.call → PutsNot id c.call → DoesAt firing v c w
       → has n id w ≡ true → has n id v ≡ true
@@ -144,13 +131,21 @@ module _ {R : Type 0} (firing : Raise R) where
   mosts_kept v w [] s last n = ap (λ u. most_on n u) (sym last)
   mosts_kept v w (c ∷ way) s (u, d, rest) n = mosts_kept u w way s.1 rest n ∙ (ap (λ x. most_on n x) d.rest
       ∙ kept_at v c.cpu d.before d.after d.here (λ o. option_map (λ cpu. cpu.most) o)
-      (ap Some (most_one d.before d.after c.call s.0 d.change)) n)
+      (ap Some (changes_most firing d.before d.after c.call d.change)) n)
+
+  pub suspensions_kept : (v w : CpusView R) (way : List CallOn) → AreSteady way → Works firing way v w → (n : ℕ)
+      → suspended_on n w ≡ suspended_on n v
+  suspensions_kept v w [] s last n = ap (λ u. suspended_on n u) (sym last)
+  suspensions_kept v w (c ∷ way) s (u, d, rest) n = suspensions_kept u w way s.1 rest n ∙ (ap (λ x. suspended_on n x) d.rest
+      ∙ kept_at v c.cpu d.before d.after d.here (λ o. option_map (λ cpu. cpu.suspended) o)
+      (ap Some (changes_suspended firing d.before d.after c.call (steady_plain c.call s.0) d.change)) n)
 
   -- ---- what turns keep
 
   pub record StillHolds (s t : SystemView R) : Type 0 where
     pub removals : (n : ℕ) → removal_on n t.cpus ≡ removal_on n s.cpus
     pub most : (n : ℕ) → most_on n t.cpus ≡ most_on n s.cpus
+    pub suspended : (n : ℕ) → suspended_on n t.cpus ≡ suspended_on n s.cpus
     pub rising : HasRisingIds s.records → HasRisingIds t.records
     -- an omnipresent cyclic was one, and has no CPU that it had not
     pub omni : HasRisingIds s.records → (k : ℕ) (r : Record) → IsRecord t.records k r → is_everywhere r.place ≡ true
@@ -161,6 +156,7 @@ module _ {R : Type 0} (firing : Raise R) where
   still_then s t u a b = record {
     removals = λ n. b.removals n ∙ a.removals n;
     most = λ n. b.most n ∙ a.most n;
+    suspended = λ n. b.suspended n ∙ a.suspended n;
     rising = λ h. b.rising (a.rising h);
     omni = λ h k r is e. (let (j, q, at, named, every, less) = b.omni (a.rising h) k r is e in
         let (i, p, own, same, whole, before) = a.omni h j q at every in (
@@ -180,6 +176,7 @@ module _ {R : Type 0} (firing : Raise R) where
   still_calls s t way steady puts (works, records, last) = record {
     removals = removals_kept firing s.cpus t.cpus way steady works;
     most = mosts_kept s.cpus t.cpus way steady works;
+    suspended = suspensions_kept s.cpus t.cpus way steady works;
     rising = λ h. subst HasRisingIds (sym records) h;
     omni = λ h k r is every. (
       k,
@@ -222,6 +219,7 @@ module _ {R : Type 0} (firing : Raise R) where
   still_moved s t id d source taken works (k, r, here, named, records, last) = record {
     removals = removals_kept firing s.cpus t.cpus (moving id source d taken) steady works;
     most = mosts_kept s.cpus t.cpus (moving id source d taken) steady works;
+    suspended = suspensions_kept s.cpus t.cpus (moving id source d taken) steady works;
     rising = λ h. subst HasRisingIds (sym records) (rising_set s.records k r (with_place (stands.On d false) r) here refl h);
     omni = λ h j q is every. omni h j q every
         (was s.records k j r (with_place (stands.On d false) r) q here refl (subst (λ rs. IsRecord rs j q) records is));
@@ -289,6 +287,7 @@ module _ {R : Type 0} (firing : Raise R) where
   still_retired n id s t (taken, does, k, r, here, named, records, last) = record {
     removals = removals_kept firing s.cpus t.cpus (on n (TakeNow id (Ok taken)) ∷ []) (tt, tt) (t.cpus, does, refl);
     most = mosts_kept s.cpus t.cpus (on n (TakeNow id (Ok taken)) ∷ []) (tt, tt) (t.cpus, does, refl);
+    suspended = suspensions_kept s.cpus t.cpus (on n (TakeNow id (Ok taken)) ∷ []) (tt, tt) (t.cpus, does, refl);
     rising = λ h. subst HasRisingIds (sym records) (rising_set s.records k r _ here refl h);
     omni = λ h j q is every. by j q every (was s.records k j r _ q here refl (subst (λ rs. IsRecord rs j q) records is));
   }
@@ -319,6 +318,7 @@ module _ {R : Type 0} (firing : Raise R) where
   still_switched n s t e = record {
     removals = λ m. ap (λ (x : SystemView R). removal_on m x.cpus) e;
     most = λ m. ap (λ (x : SystemView R). most_on m x.cpus) e;
+    suspended = λ m. ap (λ (x : SystemView R). suspended_on m x.cpus) e;
     rising = λ h. subst HasRisingIds (sym (ap (λ (x : SystemView R). x.records) e)) h;
     omni = λ h k r is every. (
       k,

@@ -15,6 +15,7 @@ use Rattle.cyc_cpu_laws.specs.Fired.{Fired}
 use Rattle.cyc_cpu_laws.specs.FireRefused.{FireRefused}
 use Rattle.cyc_cpu_laws.specs.Cpu.{Running}
 use Rattle.cyc_cpu_laws.specs.Calls.{Reprogram as CpuReprogram, Fire, SoftInterrupt as CpuSoftInterrupt}
+use Rattle.cyc_cpu_laws.specs.Calls.{Suspend as CpuSuspend, Resume as CpuResume}
 use Rattle.cyc_agreement.specs.Cpus.{CallOn, on, running_cpus, RunsAt}
 use Rattle.cyc_system.specs.declared.interrupting.SoftFault.{SoftFault}
 use Rattle.cyc_system.specs.declared.interrupting.SoftFault.TheVariants.{Refused}
@@ -32,6 +33,7 @@ use Rattle.cyc_agreement.specs.Juggling.{Juggles}
 use Rattle.cyc_agreement.specs.GoingOffline.{GoesOffline}
 use Rattle.cyc_agreement.specs.Omni.{AddsOmni}
 use Rattle.cyc_agreement.specs.Online.{GoesOnline, online_cpu}
+use Rattle.cyc_agreement.specs.Suspending.{suspended, not_suspended, MarksEach}
 
 -- the calls on a system that can change anything, each with its parameters and its answer
 pub data SystemCall : Type 0 where
@@ -48,6 +50,8 @@ pub data SystemCall : Type 0 where
   Online : ℕ → ℕ → Result (Unit {0}) Refusal → SystemCall
   FireOne : ℕ → ℕ → Result Fired FireRefused → SystemCall
   SoftInterrupt : ℕ → Soft → ℕ → Result Ran SoftFault → SystemCall
+  Suspend : Result (Unit {0}) Refusal → SystemCall
+  Resume : Result (Unit {0}) Refusal → SystemCall
 
 -- the call that gives a cyclic another next expiration, or its component on a CPU where one is named
 abbrev pub reprograms : Option ℕ → ℕ → ℕ → Result (Unit {0}) Refusal → SystemCall
@@ -87,6 +91,8 @@ Changes firing s (Juggle n answer) t = Juggles firing n answer s t
 Changes firing s (Offline n answer) t = GoesOffline firing n answer s t
 Changes firing s (Online n now answer) t =
     Unless (no_cpu n s ∷ online_cpu n s ∷ bad_now now ∷ []) (λ e. Err e) answer s t (GoesOnline firing n now answer s t)
+Changes firing s (Suspend answer) t = Unless (suspended s ∷ []) (λ e. Err e) answer s t (MarksEach firing CpuSuspend answer s t)
+Changes firing s (Resume answer) t = Unless (not_suspended s ∷ []) (λ e. Err e) answer s t (MarksEach firing CpuResume answer s t)
 Changes firing s (FireOne n now answer) t = ⊥
 Changes firing s (SoftInterrupt n level budget answer) t = ⊥
 

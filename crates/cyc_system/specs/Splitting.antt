@@ -32,6 +32,7 @@ pub record ComesBack {R : Type 0} (view : R → FiringView) (x y : CpuView R) : 
   pub removal : y.removal ≡ x.removal
   pub size : y.size ≡ x.size
   pub most : y.most ≡ x.most
+  pub suspended : y.suspended ≡ x.suspended
   pub lock : IsSameEnd (view x.lock) (view y.lock)
   pub low : IsSameEnd (view x.low) (view y.low)
 

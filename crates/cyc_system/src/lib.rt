@@ -16,6 +16,7 @@ mod moving;
 mod removing;
 mod reprogramming;
 mod splitting;
+mod suspending;
 mod system;
 
 pub use asking::CpuOrOmni;
