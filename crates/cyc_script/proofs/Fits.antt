@@ -13,14 +13,15 @@ use Rattle.cyc_script.specs.declared.cause.Cause.{Cause}
 use Rattle.cyc_script.specs.declared.cause.Cause.TheVariants.{NameTwice, NoName, TimeBack}
 use Rattle.cyc_script.specs.declared.context.Context.{Context}
 use Rattle.cyc_script.specs.declared.step.Step.{Step}
-use Rattle.cyc_script.specs.declared.step.Step.TheVariants.{Advance, Juggle, Offline, Online}
+use Rattle.cyc_script.specs.declared.step.Step.TheVariants.{Advance, Juggle, Offline, Online, Suspend, Resume}
 use Rattle.cyc_script.specs.Names.{number_of}
 use Rattle.cyc_script.specs.Parameters.{shaped, at_most, whole_in, name_of, level_in_value, soft_of, whole_of, skew_of}
 use Rattle.cyc_script.specs.Parameters.{unsigned_of, moment_of}
 use Rattle.cyc_script.specs.Steps.{Fits, Reads, accepted}
 use Rattle.cyc_script.specs.WellFormed.{name_fits, names_after, moment_fits, moment_after}
 use Rattle.cyc_script.specs.Words.{Form, introduces, refers, advances, nameless, ◌>>=◌, add_of, omni_of, bind_of, unbind_of}
-use Rattle.cyc_script.specs.Words.{reprogram_of, remove_of, advance_of, softint_of, only_cpu, form_of, form_of_items}
+use Rattle.cyc_script.specs.Words.{reprogram_of, remove_of, advance_of, softint_of, only_cpu, without_parameters, form_of}
+use Rattle.cyc_script.specs.Words.{form_of_items}
 use Rattle.cyc_script.proofs.WellFormed.{both}
 
 -- ---- forms
@@ -150,6 +151,18 @@ offline cpu n = record { name = refl; names = refl; untimed = record { fits = λ
 online : (cpu n : ℕ) → Keeps n (Online cpu)
 online cpu n = record { name = refl; names = refl; untimed = record { fits = λ now. refl; clock = λ now. refl } }
 
+-- a word without parameters
+alone : (parts : List Data) (step : Step) → ((n : ℕ) → Keeps n step) → AreSound (without_parameters step parts)
+unfolding without_parameters
+alone [] step keeps = keeps
+alone _ step keeps = tt
+
+suspend : (n : ℕ) → Keeps n Suspend
+suspend n = record { name = refl; names = refl; untimed = record { fits = λ now. refl; clock = λ now. refl } }
+
+resume : (n : ℕ) → Keeps n Resume
+resume n = record { name = refl; names = refl; untimed = record { fits = λ now. refl; clock = λ now. refl } }
+
 forms : (word : List ℕ) (parts : List Data) → AreSound (form_of word parts)
 unfolding form_of
 forms word parts =
@@ -163,7 +176,9 @@ forms word parts =
     (either (bytes_eq word (codes "softint")) _ _ (softints parts)
     (either (bytes_eq word (codes "juggle")) _ _ (cpus parts Juggle juggle)
     (either (bytes_eq word (codes "offline")) _ _ (cpus parts Offline offline)
-    (either (bytes_eq word (codes "online")) _ _ (cpus parts Online online) tt))))))))))
+    (either (bytes_eq word (codes "online")) _ _ (cpus parts Online online)
+    (either (bytes_eq word (codes "suspend")) _ _ (alone parts Suspend suspend)
+    (either (bytes_eq word (codes "resume")) _ _ (alone parts Resume resume) tt))))))))))))
 
 -- ---- items
 

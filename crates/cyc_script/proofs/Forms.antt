@@ -19,7 +19,7 @@ use Rattle.cyc_script.specs.Parameters.{name_of, level_in_value, skew_of, unsign
 use Rattle.cyc_script.specs.Parts.{data_of}
 use Rattle.cyc_script.specs.Steps.{Reads, accepted}
 use Rattle.cyc_script.specs.Words.{Form, introduces, refers, nameless, ◌>>=◌, add_of, omni_of, reprogram_of, reprogram_with}
-use Rattle.cyc_script.specs.Words.{cyclic_of, form_of, later_form_of, cpu_form_of}
+use Rattle.cyc_script.specs.Words.{cyclic_of, form_of, later_form_of, last_form_of}
 
 -- ---- how many parts there are
 
@@ -142,13 +142,13 @@ differs a b other = false_from_ne_true (bytes_eq a b) (λ e. other ((bytes_eq-De
 module _ (word : List ℕ) (parts : List Data) where
   pub later_form : ¬ (word ≡ codes "add") → ¬ (word ≡ codes "omni") → ¬ (word ≡ codes "bind") → ¬ (word ≡ codes "unbind")
       → form_of word parts ≡ later_form_of word parts
-  unfolding form_of later_form_of cpu_form_of
+  unfolding form_of later_form_of last_form_of
   later_form p q r s = rw (differs word _ p, differs word _ q, differs word _ r, differs word _ s) refl
 
-  pub cpu_form : ¬ (word ≡ codes "reprogram") → ¬ (word ≡ codes "remove") → ¬ (word ≡ codes "advance")
-      → ¬ (word ≡ codes "softint") → later_form_of word parts ≡ cpu_form_of word parts
+  pub last_form : ¬ (word ≡ codes "reprogram") → ¬ (word ≡ codes "remove") → ¬ (word ≡ codes "advance")
+      → ¬ (word ≡ codes "softint") → later_form_of word parts ≡ last_form_of word parts
   unfolding later_form_of
-  cpu_form p q r s = rw (differs word _ p, differs word _ q, differs word _ r, differs word _ s) refl
+  last_form p q r s = rw (differs word _ p, differs word _ q, differs word _ r, differs word _ s) refl
 
 pub nameless_read : (before : Context) (result : Result Step Cause) (form : Result Form Cause) → Gives nameless result form
     → Reads result before before form

@@ -20,7 +20,7 @@ use Rattle.cyc_script.specs.Parameters.{is_name, shaped, name_in, name_of, level
 use Rattle.cyc_script.specs.Parameters.{unsigned_of}
 use Rattle.cyc_script.specs.Steps.{accepted, first_context, numbered, step_of, steps_of}
 use Rattle.cyc_script.specs.Words.{Form, introduces, refers, advances, nameless, ◌>>=◌, add_of, omni_of, bind_of, unbind_of}
-use Rattle.cyc_script.specs.Words.{reprogram_of, remove_of, advance_of, softint_of, only_cpu, form_of, form_of_items}
+use Rattle.cyc_script.specs.Words.{reprogram_of, remove_of, advance_of, softint_of, only_cpu, without_parameters, form_of, form_of_items}
 use Rattle.cyc_script.specs.Words.{form_of_value, list_of}
 use Rattle.cyc_script.proofs.Numbers.{is_new}
 
@@ -134,6 +134,12 @@ softints _ = tt
 cpus : (parts : List Data) (step : ℕ → Step) → AreNamed (only_cpu parts >>= λ cpu. Ok (nameless (step cpu)))
 cpus parts step = and_then (only_cpu parts) _ λ cpu. tt
 
+-- a word without parameters
+alone : (parts : List Data) (step : Step) → AreNamed (without_parameters step parts)
+unfolding without_parameters
+alone [] step = tt
+alone _ step = tt
+
 forms : (word : List ℕ) (parts : List Data) → AreNamed (form_of word parts)
 unfolding form_of
 forms word parts =
@@ -147,7 +153,9 @@ forms word parts =
     (either (bytes_eq word (codes "softint")) _ _ (softints parts)
     (either (bytes_eq word (codes "juggle")) _ _ (cpus parts _)
     (either (bytes_eq word (codes "offline")) _ _ (cpus parts _)
-    (either (bytes_eq word (codes "online")) _ _ (cpus parts _) tt))))))))))
+    (either (bytes_eq word (codes "online")) _ _ (cpus parts _)
+    (either (bytes_eq word (codes "suspend")) _ _ (alone parts _)
+    (either (bytes_eq word (codes "resume")) _ _ (alone parts _) tt))))))))))))
 
 items : (parts : List Data) → AreNamed (form_of_items parts)
 unfolding form_of_items

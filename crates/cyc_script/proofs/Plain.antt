@@ -9,6 +9,8 @@ use Rattle.serde_json.specs.View.{items_of}
 use Rattle.cyc_types.specs.Series.{never}
 use Rattle.cyc_script.specs.declared.cause.Cause.{Cause}
 use Rattle.cyc_script.specs.declared.part.Part.{Part}
+use Rattle.cyc_script.specs.declared.step.Step.{Step}
+use Rattle.cyc_script.specs.declared.step.Step.TheVariants.{Suspend, Resume}
 use Rattle.cyc_script.specs.Parameters.{shaped, at_most, name_in, level_in, soft_in, whole_in, name_of, level_in_value, soft_of}
 use Rattle.cyc_script.specs.Parameters.{whole_of, skew_of, unsigned_of, moment_of}
 use Rattle.cyc_script.specs.Parts.{data_of, plain, plain_number}
@@ -16,7 +18,7 @@ use Rattle.cyc_script.specs.Script.{number_between}
 use Rattle.cyc_script.specs.Steps.{accepted, step_of}
 use Rattle.cyc_script.specs.Tokens.{ReadsAs}
 use Rattle.cyc_script.specs.Words.{◌>>=◌, add_of, omni_of, bind_of, unbind_of, reprogram_of, remove_of, advance_of, softint_of}
-use Rattle.cyc_script.specs.Words.{only_cpu, cpu_form_of, form_of, form_of_items, form_of_value}
+use Rattle.cyc_script.specs.Words.{only_cpu, without_parameters, form_of, form_of_items, form_of_value}
 use Rattle.cyc_script.proofs.Lists.{list_of_items_of}
 
 -- ---- one part
@@ -132,6 +134,11 @@ unfolding only_cpu
 cpus (a ∷ []) = unsigned a
 cpus _ = refl
 
+alone : (step : Step) (parts : List Data) → without_parameters step (map plain parts) ≡ without_parameters step parts
+unfolding without_parameters
+alone step [] = refl
+alone step (a ∷ parts) = refl
+
 forms : (word : List ℕ) (parts : List Data) → form_of word (map plain parts) ≡ form_of word parts
 unfolding form_of
 forms word parts = rw (
@@ -144,6 +151,8 @@ forms word parts = rw (
   advances parts,
   softints parts,
   cpus parts,
+  alone Suspend parts,
+  alone Resume parts,
 ) refl
 
 -- ---- all parts
@@ -160,7 +169,8 @@ plain_items (word ∷ parts) = ap (λ s. shaped s >>= λ w. form_of w (map plain
 
 -- no word has more than six parts with itself
 first_items : (parts : List Data) → form_of_items (take 7 parts) ≡ form_of_items parts
-unfolding form_of_items form_of cpu_form_of add_of omni_of bind_of unbind_of reprogram_of remove_of advance_of softint_of only_cpu
+unfolding form_of_items form_of add_of omni_of bind_of unbind_of reprogram_of remove_of advance_of softint_of only_cpu
+    without_parameters
 first_items (a ∷ b ∷ c ∷ d ∷ e ∷ f ∷ g ∷ more) = then_same (shaped (as_str a)) _ _ (λ w. refl)
 first_items _ = refl
 

@@ -7,7 +7,7 @@ use Rattle.std.proofs.lemmas.List.{at_drop_more}
 use Rattle.std.proofs.lemmas.List.Elements.{All-nil, All-cons}
 use Rattle.cyc_script.specs.declared.step.Step.{Step}
 use Rattle.cyc_script.specs.declared.step.Step.TheVariants.{Add, Omni, Bind, Unbind, Reprogram, Remove, Advance, Softint, Juggle}
-use Rattle.cyc_script.specs.declared.step.Step.TheVariants.{Offline, Online}
+use Rattle.cyc_script.specs.declared.step.Step.TheVariants.{Offline, Online, Suspend, Resume}
 use Rattle.cyc_script.specs.WellFormed.{names_after, names_after_all, name_fits, names_fit, moment_after, moment_after_all}
 use Rattle.cyc_script.specs.WellFormed.{moment_fits, moments_fit, IsWellFormed}
 
@@ -92,6 +92,8 @@ names_after_at_most names (Softint s) = omega arith
 names_after_at_most names (Juggle cpu) = omega arith
 names_after_at_most names (Offline cpu) = omega arith
 names_after_at_most names (Online cpu) = omega arith
+names_after_at_most names Suspend = omega arith
+names_after_at_most names Resume = omega arith
 
 pub names_after_at_least : (names : ℕ) (step : Step) → names ≤ names_after names step
 names_after_at_least names (Add a) = omega arith
@@ -105,6 +107,8 @@ names_after_at_least names (Softint s) = omega arith
 names_after_at_least names (Juggle cpu) = omega arith
 names_after_at_least names (Offline cpu) = omega arith
 names_after_at_least names (Online cpu) = omega arith
+names_after_at_least names Suspend = omega arith
+names_after_at_least names Resume = omega arith
 
 pub names_after_all_at_least : (names : ℕ) (steps : List Step) → names ≤ names_after_all names steps
 names_after_all_at_least names [] = omega arith
@@ -133,6 +137,8 @@ name_below names all (Softint s) e h = tt
 name_below names all (Juggle cpu) e h = tt
 name_below names all (Offline cpu) e h = tt
 name_below names all (Online cpu) e h = tt
+name_below names all Suspend e h = tt
+name_below names all Resume e h = tt
 
 names_below : (names all : ℕ) (steps : List Step) → names_fit names steps ≡ true → names_after_all names steps ≤ all
     → All (NameBelow all) steps

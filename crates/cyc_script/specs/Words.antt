@@ -1,4 +1,4 @@
--- The eleven words of a step, each with its parameters (our own format).
+-- The thirteen words of a step, each with its parameters (our own format).
 use Rattle.std.specs.Prelude.{ℕ, ℤ, List, [], ◌∷◌, codes, Option, Some, None, Result, Ok, Err, bytes_eq, if◌then◌else◌}
 use Rattle.serde_json.specs.Data.{Data, Items, no_items, item}
 use Rattle.serde_json.specs.Find.{as_str, as_array}
@@ -7,7 +7,7 @@ use Rattle.cyc_script.specs.declared.cause.Cause.{Cause}
 use Rattle.cyc_script.specs.declared.cause.Cause.TheVariants.{Shape}
 use Rattle.cyc_script.specs.declared.step.Step.{Step}
 use Rattle.cyc_script.specs.declared.step.Step.TheVariants.{Add, Omni, Bind, Unbind, Reprogram, Remove, Softint, Juggle, Offline}
-use Rattle.cyc_script.specs.declared.step.Step.TheVariants.{Online}
+use Rattle.cyc_script.specs.declared.step.Step.TheVariants.{Online, Suspend, Resume}
 use Rattle.cyc_script.specs.Parameters.{shaped, name_of, level_in_value, soft_of, whole_of, moment_of, skew_of, unsigned_of}
 
 -- a step whose name is still a text, and so a function of the name's number: it introduces a new name, refers to one that was
@@ -135,11 +135,18 @@ offline_of parts = only_cpu parts >>= λ cpu. Ok (nameless (Offline cpu))
 abbrev pub online_of : List Data → Result Form Cause
 online_of parts = only_cpu parts >>= λ cpu. Ok (nameless (Online cpu))
 
--- the form of a step of a word whose only parameter is a CPU
-unfoldable pub cpu_form_of : List ℕ → List Data → Result Form Cause
-cpu_form_of word parts = if bytes_eq word (codes "juggle") then juggle_of parts else
-    if bytes_eq word (codes "offline") then offline_of parts else
-    if bytes_eq word (codes "online") then online_of parts else Err Shape
+-- the form of a step without parameters
+unfoldable pub without_parameters : Step → List Data → Result Form Cause
+without_parameters step [] = Ok (nameless step)
+without_parameters step _ = Err Shape
+
+-- `suspend`
+abbrev pub suspend_of : List Data → Result Form Cause
+suspend_of parts = without_parameters Suspend parts
+
+-- `resume`
+abbrev pub resume_of : List Data → Result Form Cause
+resume_of parts = without_parameters Resume parts
 
 -- the form of a step of this word
 unfoldable pub form_of : List ℕ → List Data → Result Form Cause
@@ -153,14 +160,24 @@ form_of word parts = if bytes_eq word (codes "add") then add_of parts else
     if bytes_eq word (codes "softint") then softint_of parts else
     if bytes_eq word (codes "juggle") then juggle_of parts else
     if bytes_eq word (codes "offline") then offline_of parts else
-    if bytes_eq word (codes "online") then online_of parts else Err Shape
+    if bytes_eq word (codes "online") then online_of parts else
+    if bytes_eq word (codes "suspend") then suspend_of parts else
+    if bytes_eq word (codes "resume") then resume_of parts else Err Shape
+
+-- the same, where it is one of the last five words
+unfoldable pub last_form_of : List ℕ → List Data → Result Form Cause
+last_form_of word parts = if bytes_eq word (codes "juggle") then juggle_of parts else
+    if bytes_eq word (codes "offline") then offline_of parts else
+    if bytes_eq word (codes "online") then online_of parts else
+    if bytes_eq word (codes "suspend") then suspend_of parts else
+    if bytes_eq word (codes "resume") then resume_of parts else Err Shape
 
 -- the same, where it is none of the first four words
 unfoldable pub later_form_of : List ℕ → List Data → Result Form Cause
 later_form_of word parts = if bytes_eq word (codes "reprogram") then reprogram_of parts else
     if bytes_eq word (codes "remove") then remove_of parts else
     if bytes_eq word (codes "advance") then advance_of parts else
-    if bytes_eq word (codes "softint") then softint_of parts else cpu_form_of word parts
+    if bytes_eq word (codes "softint") then softint_of parts else last_form_of word parts
 
 -- the items of an array as a list
 abbrev pub list_of : Items → List Data

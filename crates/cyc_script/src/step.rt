@@ -87,4 +87,8 @@ pub enum Step {
     Offline(u32),
     /// Brings this CPU online (`cyclic_online`).
     Online(u32),
+    /// Suspends the system: no fire is made until it is resumed (`cyclic_suspend`).
+    Suspend,
+    /// Resumes the system (`cyclic_resume`).
+    Resume,
 }

@@ -1,4 +1,4 @@
-//! The eleven words of a step.
+//! The thirteen words of a step.
 
 ghost use Rattle.std.specs.Prelude.{◌≡◌, ℕ, ◌<◌, ◌^◌, length, map, option_map, IfOk};
 ghost use Rattle.serde_json.specs.Data.{array};
@@ -7,8 +7,8 @@ ghost use Rattle.cyc_script.specs.Answers.{Gives};
 ghost use Rattle.cyc_script.specs.Parts.{data_of};
 ghost use Rattle.cyc_script.specs.Steps.{Fits, Reads, step_of};
 ghost use Rattle.cyc_script.specs.Words.{add_of, omni_of, bind_of, unbind_of, reprogram_of, remove_of, advance_of, softint_of};
-ghost use Rattle.cyc_script.specs.Words.{cpu_form_of, cyclic_of, form_of, form_of_items, later_form_of, nameless, only_cpu};
-ghost use Rattle.cyc_script.specs.Words.{optional_cpu, reprogram_with};
+ghost use Rattle.cyc_script.specs.Words.{cyclic_of, form_of, form_of_items, last_form_of, later_form_of, nameless, only_cpu};
+ghost use Rattle.cyc_script.specs.Words.{optional_cpu, reprogram_with, without_parameters};
 
 use crate::cause::Cause;
 use crate::context::Context;
@@ -188,16 +188,29 @@ fn only_cpu(parts: &[Part<'_>]) -> Result<u32, Cause>
     }
 }
 
-/// The step of a word whose only parameter is a CPU.
-#[tactic(auto, unfolding(crate::specs::Words::cpu_form_of))]
+/// The step of a word without parameters.
+#[tactic(auto, unfolding(crate::specs::Words::without_parameters))]
+fn without_parameters(step: Step, parts: &[Part<'_>]) -> Result<Step, Cause>
+    ensures { Gives nameless result (without_parameters step (map data_of parts.now)) }
+{
+    match parts {
+        [] => Ok(step),
+        _ => Err(Cause::Shape),
+    }
+}
+
+/// The step of one of the last five words, whose only parameter is a CPU or which have none.
+#[tactic(auto, unfolding(crate::specs::Words::last_form_of))]
 #[inline(always)]
-fn step_of_cpu(word: &str, parts: &[Part<'_>]) -> Result<Step, Cause>
-    ensures { Gives nameless result (cpu_form_of word.now (map data_of parts.now)) }
+fn step_of_last_word(word: &str, parts: &[Part<'_>]) -> Result<Step, Cause>
+    ensures { Gives nameless result (last_form_of word.now (map data_of parts.now)) }
 {
     match word {
         "juggle" => Ok(Step::Juggle(only_cpu(parts)?)),
         "offline" => Ok(Step::Offline(only_cpu(parts)?)),
         "online" => Ok(Step::Online(only_cpu(parts)?)),
+        "suspend" => without_parameters(Step::Suspend, parts),
+        "resume" => without_parameters(Step::Resume, parts),
         _ => Err(Cause::Shape),
     }
 }
@@ -216,7 +229,7 @@ fn step_of_later_word(
         "remove" => remove(context, parts),
         "advance" => advance(context, parts),
         "softint" => softint(context, parts),
-        _ => step_of_cpu(word, parts),
+        _ => step_of_last_word(word, parts),
     }
 }
 

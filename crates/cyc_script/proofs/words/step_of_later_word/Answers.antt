@@ -1,5 +1,5 @@
 use Rattle.cyc_script.specs.Words.{later_form_of}
-use Rattle.cyc_script.proofs.Forms.{cpu_form, nameless_read}
+use Rattle.cyc_script.proofs.Forms.{last_form, nameless_read}
 use Rattle.cyc_script.proofs.words.step_of_later_word.Goals as goal
 
 pub returns-in-reprogram : goal.returns-in-reprogram
@@ -21,5 +21,5 @@ returns-in-softint c = rw c.in-softint.is c.softint.ensures
 pub returns-in_default : goal.returns-in_default
 returns-in_default c =
     let d = c.in_default in
-    rw (cpu_form c.args.word.now _ d.not-reprogram d.not-remove d.not-advance d.not-softint)
-    (nameless_read c.args.context.now c.step_of_cpu.result _ c.step_of_cpu.ensures)
+    rw (last_form c.args.word.now _ d.not-reprogram d.not-remove d.not-advance d.not-softint)
+    (nameless_read c.args.context.now c.step_of_last_word.result _ c.step_of_last_word.ensures)
