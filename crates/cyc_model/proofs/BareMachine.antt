@@ -10,7 +10,7 @@ use Rattle.cyc_types.specs.declared.refusal.Refusal.TheVariants.{BadWhen, NoCycl
 use Rattle.cyc_types.specs.declared.refusal.Refusal.TheVariants.{Pending}
 use Rattle.cyc_script.specs.declared.step.Step.{Step}
 use Rattle.cyc_script.specs.declared.step.Step.TheVariants.{Add, Omni, Bind, Unbind, Reprogram, Remove, Advance, Softint, Juggle}
-use Rattle.cyc_script.specs.declared.step.Step.TheVariants.{Offline as OfflineStep, Online}
+use Rattle.cyc_script.specs.declared.step.Step.TheVariants.{Offline as OfflineStep, Online, Suspend, Resume}
 use Rattle.cyc_model.specs.Cpu.{Cyclic, Cpu, cyclic_of, has_cyclic}
 use Rattle.cyc_model.specs.Questions.{plain, outstanding_here}
 use Rattle.cyc_model.specs.State.{State, Outcome, absent, cpu_of, kept_if, numbers_from, numbers, cpus_with, online_cpus}
@@ -163,3 +163,5 @@ module _ (relabel : ℕ → ℕ) where
   refusal_bare (OfflineStep n) s = juggle_refusal_bare n s
   refusal_bare (Online n) s = λ z. first_refusal (no_cpu_bare n s z ∷ ap (λ (c : Cpu). when c.online IsOnline) (at_bare n s) z
       ∷ bad_now s.clock ∷ no_room_for_all plain n (length (staying_bare s z)) (at_bare n s z) ∷ [])
+  refusal_bare Suspend s = refl
+  refusal_bare Resume s = refl

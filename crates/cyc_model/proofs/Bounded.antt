@@ -7,7 +7,7 @@ use Rattle.cyc_types.specs.declared.refusal.Refusal.{Refusal}
 use Rattle.cyc_text.specs.declared.lines.Counts.{Counts}
 use Rattle.cyc_script.specs.declared.step.Step.{Step}
 use Rattle.cyc_script.specs.declared.step.Step.TheVariants.{Add, Omni, Bind, Unbind, Reprogram, Remove, Advance, Softint, Juggle}
-use Rattle.cyc_script.specs.declared.step.Step.TheVariants.{Offline, Online}
+use Rattle.cyc_script.specs.declared.step.Step.TheVariants.{Offline, Online, Suspend, Resume}
 use Rattle.cyc_model.specs.Cpu.{Cyclic, Cpu, new_cpu}
 use Rattle.cyc_model.specs.Serving.{serve_here}
 use Rattle.cyc_model.specs.Questions.{plain}
@@ -23,7 +23,7 @@ use Rattle.cyc_model.specs.Script.{refusal_of, does, word, steps_from, start, te
 use Rattle.cyc_model.specs.Bounds.{CountsStaySmall, ScriptsStayBelow}
 use Rattle.cyc_model.proofs.Rising.{tally_found, of_found}
 use Rattle.cyc_model.proofs.Serves.{same_serve}
-use Rattle.cyc_model.proofs.Refusing.{before_never}
+use Rattle.cyc_model.proofs.Refusing.{fires_before}
 use Rattle.cyc_model.proofs.Numbers.{numbers_pass, numbers_few}
 use Rattle.cyc_model.proofs.Totals.{expired_in, expired_of}
 use Rattle.cyc_model.proofs.Spread.{Good}
@@ -38,9 +38,6 @@ use Rattle.cyc_model.proofs.Growing.{grows_on, grows_enter, grows_reprogram, gro
 pub record Grows (s t : State) : Type 0 where
   pub last : t.last_id ≤ s.last_id + 1
   pub expired : (id : ℕ) → expired_in id t ≤ expired_in id s + 16000000032
-
-grows_same : (s : State) → Grows s s
-grows_same s = record { last = omega arith; expired = λ id. omega arith }
 
 -- where no count changes
 grows_kept : (s t : State) → Still s t → ((id : ℕ) → counts_of id t ≡ counts_of id s) → Grows s t
@@ -95,7 +92,7 @@ module _ (texts : List (List ℕ)) (f : ℕ → ℕ) (step : ℕ) (s : State) (g
   grows_does (Advance now) why = record {
     last = let h = (still_fires now (online_cpus s) (record s { clock = now })).last in omega (arith, h);
     expired = λ id.
-        let h = (grows_fires now (online_cpus s) (record s { clock = now }) (good_clock now s g) (before_never now why)
+        let h = (grows_fires now (online_cpus s) (record s { clock = now }) (good_clock now s g) (fires_before now s why)
         (λ m has. (numbers_pass (λ (c : Cpu). c.online) m s has).0)).1 id in
         let n = numbers_few (λ (c : Cpu). c.online) 0 s.cpus in
         let before : expired_in id (record s { clock = now }) ≡ expired_in id s = refl in
@@ -122,13 +119,15 @@ module _ (texts : List (List ℕ)) (f : ℕ → ℕ) (step : ℕ) (s : State) (g
   grows_does (Online n) why =
       grows_kept s (does plain texts f step (Online n) s).state (still_online f step n s) (safe_does texts f step
       (Online n) s tt g why).counts
+  grows_does Suspend why = record { last = omega arith; expired = λ id. omega arith }
+  grows_does Resume why = record { last = omega arith; expired = λ id. omega arith }
 
   pub grows_word : (x : Step) → Grows s (word plain texts f step x s).state
   grows_word x = by (refusal_of plain x s) refl
     where
-      by : (o : Option Refusal) → refusal_of plain x s ≡ o → Grows s (unless o step (does plain texts f step x) s).state
+      by : (o : Option Refusal) → refusal_of plain x s ≡ o → Grows s (unless o step x (does plain texts f step x) s).state
       by None is = grows_does x is
-      by (Some why) is = grows_same s
+      by (Some why) is = record { last = omega arith; expired = λ id. omega arith }
 
 -- so many steps
 abbrev pub FewMore : ℕ → State → State → Type 0

@@ -35,7 +35,7 @@ use Rattle.cyc_model.proofs.Placing.{place_put_same, place_put_other}
 use Rattle.cyc_model.proofs.Base.{IsAt, IsGone, Goes, goes_append, goes_nothing, goes_from, goes_on, base_on, cpu_there}
 use Rattle.cyc_model.proofs.Base.{cpu_elsewhere}
 use Rattle.cyc_model.proofs.Numbers.{Has, numbers_pass, not_leaving}
-use Rattle.cyc_model.proofs.Refusing.{none_first, is_cpu, is_cyclic, is_single, not_omnipresent, before_never}
+use Rattle.cyc_model.proofs.Refusing.{none_first, is_cpu, is_cyclic, is_single, not_omnipresent, fires_before}
 use Rattle.cyc_model.proofs.Spread.{Good, SameView, view_refl, spread_view, is_there}
 
 -- the outcome of a word
@@ -106,15 +106,24 @@ well_fires now (n ∷ ns) s g before within =
     (λ g2. well_fires now ns (on n (fire_here n now) s).state g2 before
     (λ m has. subst (λ k. m < k) (sym one.0.tells.as_many) (within m (inr has))))
 
-pub good_clock : (now : ℕ) (s : State) → Good s → Good (record s { clock = now })
-good_clock now s g = record {
+-- neither the clock nor whether the system is suspended matters to the CPUs
+good_set : (now : ℕ) (suspended : Bool) (s : State) → Good s → Good (record s { clock = now; suspended = suspended })
+good_set now suspended s g = record {
   base = record { whole = g.base.whole; homes = g.base.homes; rise = g.base.rise; few = g.base.few; books = g.base.books };
   spread = record { some = g.spread.some; there = g.spread.there; home = g.spread.home; stands = g.spread.stands };
 }
 
-pub well_advance : (step now : ℕ) (s : State) → Good s → advance_refusal now ≡ None → Well (advance step now s) s
+pub good_clock : (now : ℕ) (s : State) → Good s → Good (record s { clock = now })
+good_clock now s g = good_set now s.suspended s g
+
+pub well_set : (now : ℕ) (suspended : Bool) (s : State) → Good s
+    → Well (nothing (record s { clock = now; suspended = suspended })) s
+well_set now suspended s g =
+    (goes_nothing s (record s { clock = now; suspended = suspended }) refl refl (λ id h. h), good_set now suspended s g)
+
+pub well_advance : (step now : ℕ) (s : State) → Good s → advance_refusal now s ≡ None → Well (advance step now s) s
 well_advance step now s g why =
-    let o = well_fires now (online_cpus s) (record s { clock = now }) (good_clock now s g) (before_never now why)
+    let o = well_fires now (online_cpus s) (record s { clock = now }) (good_clock now s g) (fires_before now s why)
     (λ m has. (numbers_pass (λ (c : Cpu). c.online) m s has).0) in
     (goes_from _ s (record s { clock = now }) _ o.0 refl refl (λ id h. h), o.1)
 

@@ -14,7 +14,7 @@ use Rattle.cyc_level.specs.Level.{SoftLevel, empty_level, count}
 use Rattle.cyc_types.specs.Expirations.{Expiration}
 use Rattle.cyc_script.specs.declared.step.Step.{Step}
 use Rattle.cyc_script.specs.declared.step.Step.TheVariants.{Add, Omni, Bind, Unbind, Reprogram, Remove, Advance, Softint, Juggle}
-use Rattle.cyc_script.specs.declared.step.Step.TheVariants.{Offline, Online}
+use Rattle.cyc_script.specs.declared.step.Step.TheVariants.{Offline, Online, Suspend, Resume}
 use Rattle.cyc_model.specs.Acts.{Act, At, Call, at_own, same_soft, events_at}
 use Rattle.cyc_model.specs.Cpu.{Cpu, handler_level_of}
 use Rattle.cyc_model.specs.Firing.{raised, expiry, expire_here, expire_all, due_here, fire_here}
@@ -163,10 +163,12 @@ fresh_does texts step (Softint i) s = shaped_fresh texts step (Softint i) s tt
 fresh_does texts step (Juggle n) s = shaped_fresh texts step (Juggle n) s tt
 fresh_does texts step (Offline n) s = shaped_fresh texts step (Offline n) s tt
 fresh_does texts step (Online n) s = shaped_fresh texts step (Online n) s tt
+fresh_does texts step Suspend s = omega arith
+fresh_does texts step Resume s = omega arith
 
 fresh_unless : (why : Option Refusal) (texts : List (List ℕ)) (step : ℕ) (x : Step) (s : State)
-    → Fresh s.admissions (unless why step (does plain texts own_number step x) s).acts
-    (unless why step (does plain texts own_number step x) s).state.admissions
+    → Fresh s.admissions (unless why step x (does plain texts own_number step x) s).acts
+    (unless why step x (does plain texts own_number step x) s).state.admissions
 fresh_unless None texts step x s = fresh_does texts step x s
 fresh_unless (Some why) texts step x s = omega arith
 

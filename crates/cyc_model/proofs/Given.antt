@@ -10,7 +10,7 @@ use Rattle.cyc_types.specs.Series.{never}
 use Rattle.cyc_level.specs.declared.Event.TheVariants.{Mark, Clear}
 use Rattle.cyc_script.specs.declared.step.Step.{Step}
 use Rattle.cyc_script.specs.declared.step.Step.TheVariants.{Add, Omni, Bind, Unbind, Reprogram, Remove, Advance, Softint, Juggle}
-use Rattle.cyc_script.specs.declared.step.Step.TheVariants.{Offline, Online}
+use Rattle.cyc_script.specs.declared.step.Step.TheVariants.{Offline, Online, Suspend, Resume}
 use Rattle.cyc_model.specs.Acts.{Act, At, Call, at_own}
 use Rattle.cyc_model.specs.Cpu.{Cyclic, Cpu, Here, cpu_after, happen, here, nothing_here, is_of, cyclic_of, others, new_cpu}
 use Rattle.cyc_model.specs.Cpu.{handler_level_of, with_moment}
@@ -423,17 +423,19 @@ module _ (least : ℕ) where
       let j = juggled q indexes n s in
       keeps_leaving q step n (single_ids n j.outcome.state) j (keeps_turns q indexes n (single_ids n s) s h)
   keeps_does q texts indexes step (Online n) s h = keeps_online indexes n (staying s) s (staying_rise s h) h
+  keeps_does q texts indexes step Suspend s h = record { many = h.many; rise = h.rise; cyclics = h.cyclics }
+  keeps_does q texts indexes step Resume s h = record { many = h.many; rise = h.rise; cyclics = h.cyclics }
 
-  keeps_unless : (why : Option Refusal) (step : ℕ) (f : State → Outcome) → Keeps f → Keeps (unless why step f)
-  keeps_unless (Some why) step f done s h = h
-  keeps_unless None step f done s h = done s h
+  keeps_unless : (why : Option Refusal) (step : ℕ) (x : Step) (f : State → Outcome) → Keeps f → Keeps (unless why step x f)
+  keeps_unless (Some why) step x f done s h = record { many = h.many; rise = h.rise; cyclics = h.cyclics }
+  keeps_unless None step x f done s h = done s h
 
   keeps_steps : (q : Questions) (texts : List (List ℕ)) (indexes : ℕ → ℕ) (step : ℕ) (xs : List Step)
       → Keeps (steps_from q texts indexes step xs)
   keeps_steps q texts indexes step [] s h = h
   keeps_steps q texts indexes step (x ∷ xs) s h =
       keeps_steps q texts indexes (step + 1) xs (word q texts indexes step x s).state
-      (keeps_unless (refusal_of q x s) step (does q texts indexes step x) (keeps_does q texts indexes step x) s h)
+      (keeps_unless (refusal_of q x s) step x (does q texts indexes step x) (keeps_does q texts indexes step x) s h)
 
 start_most : (n ceiling : ℕ) → AllAtMost 0 (replicate n (new_cpu ceiling))
 start_most zero ceiling = tt

@@ -4,7 +4,7 @@ use Rattle.std.proofs.Common.{arith}
 use Rattle.cyc_types.specs.declared.refusal.Refusal.{Refusal}
 use Rattle.cyc_script.specs.declared.step.Step.{Step}
 use Rattle.cyc_script.specs.declared.step.Step.TheVariants.{Add, Omni, Bind, Unbind, Reprogram, Remove, Advance, Softint, Juggle}
-use Rattle.cyc_script.specs.declared.step.Step.TheVariants.{Offline, Online}
+use Rattle.cyc_script.specs.declared.step.Step.TheVariants.{Offline, Online, Suspend, Resume}
 use Rattle.cyc_model.specs.Acts.{calls_of}
 use Rattle.cyc_model.specs.Cpu.{Cpu}
 use Rattle.cyc_model.specs.Firing.{fire_here}
@@ -118,12 +118,14 @@ module _ (texts : List (List ℕ)) (indexes : ℕ → ℕ) (step id : ℕ) (s : 
   gone_does (Juggle n) why = (safe_does texts indexes step (Juggle n) s tt g why).counts id
   gone_does (Offline n) why = (safe_does texts indexes step (Offline n) s tt g why).counts id
   gone_does (Online n) why = (safe_does texts indexes step (Online n) s tt g why).counts id
+  gone_does Suspend why = refl
+  gone_does Resume why = refl
 
   pub gone_word : (x : Step) → counts_of id (word plain texts indexes step x s).state ≡ counts_of id s
   gone_word x = by (refusal_of plain x s) refl
     where
       by : (o : Option Refusal) → refusal_of plain x s ≡ o
-          → counts_of id (unless o step (does plain texts indexes step x) s).state ≡ counts_of id s
+          → counts_of id (unless o step x (does plain texts indexes step x) s).state ≡ counts_of id s
       by None is = gone_does x is
       by (Some why) is = refl
 

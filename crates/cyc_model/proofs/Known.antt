@@ -5,7 +5,7 @@ use Rattle.std.specs.Prelude.{⊤, not, IsSome, is_some}
 use Rattle.std.specs.Option.{option_map}
 use Rattle.cyc_script.specs.declared.step.Step.{Step}
 use Rattle.cyc_script.specs.declared.step.Step.TheVariants.{Add, Omni, Bind, Unbind, Reprogram, Remove, Advance, Softint, Juggle}
-use Rattle.cyc_script.specs.declared.step.Step.TheVariants.{Offline, Online}
+use Rattle.cyc_script.specs.declared.step.Step.TheVariants.{Offline, Online, Suspend, Resume}
 use Rattle.cyc_model.specs.Firing.{fire_here}
 use Rattle.cyc_model.specs.Questions.{plain}
 use Rattle.cyc_model.specs.State.{State, Outcome, Placement, On, OnAll, Placed, on, each, online_cpus}
@@ -97,6 +97,8 @@ module _ (id : ℕ) where
       (Offline n) s tt g why) known
   stays_does texts indexes step (Online n) s is g why known =
       stays_moved s (does plain texts indexes step (Online n) s).state (safe_does texts indexes step (Online n) s tt g why) known
+  stays_does texts indexes step Suspend s is g why known = known
+  stays_does texts indexes step Resume s is g why known = known
 
   -- what is unknown after it was so before
   pub unknown_before : (texts : List (List ℕ)) (indexes : ℕ → ℕ) (step : ℕ) (x : Step) (s : State) → IsLasting x → Good s

@@ -2,6 +2,7 @@ pub mod Steps
 pub mod WorkedScripts
 pub mod WorkedCpus
 pub mod WorkedRules
+pub mod WorkedSuspensions
 pub mod Filled
 pub mod Events
 pub mod Agreement
@@ -51,3 +52,4 @@ pub mod Growing
 pub mod Known
 pub mod Bounded
 pub mod Gone
+pub mod Suspended

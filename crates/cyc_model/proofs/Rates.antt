@@ -21,7 +21,7 @@ use Rattle.cyc_level.proofs.Maps.{some_same, at_cases}
 use Rattle.cyc_types.specs.Expirations.{Expiration, times_of}
 use Rattle.cyc_script.specs.declared.step.Step.{Step}
 use Rattle.cyc_script.specs.declared.step.Step.TheVariants.{Add, Omni, Bind, Unbind, Reprogram, Remove, Advance, Softint, Juggle}
-use Rattle.cyc_script.specs.declared.step.Step.TheVariants.{Offline, Online}
+use Rattle.cyc_script.specs.declared.step.Step.TheVariants.{Offline, Online, Suspend, Resume}
 use Rattle.cyc_model.specs.Acts.{Act, At, Call, at_own, same_soft, events_at}
 use Rattle.cyc_model.specs.Cpu.{Cyclic, Cpu, handler_level_of}
 use Rattle.cyc_model.specs.Firing.{raised, expiry, expire_here, expire_all, due_here, fire_here}
@@ -32,7 +32,7 @@ use Rattle.cyc_model.specs.Script.{refusal_of, does, word, steps_from}
 use Rattle.cyc_model.proofs.Agreement.{AllActs}
 use Rattle.cyc_model.proofs.Rising.{found, times_cons, times_found, due_of_found}
 use Rattle.cyc_model.proofs.Fires.{one_of}
-use Rattle.cyc_model.proofs.Refusing.{before_never}
+use Rattle.cyc_model.proofs.Refusing.{fires_before}
 use Rattle.cyc_model.proofs.Growing.{few_due}
 use Rattle.cyc_model.proofs.Numbers.{Has, numbers_pass, numbers_few}
 use Rattle.cyc_model.proofs.Spread.{Good}
@@ -252,7 +252,7 @@ sends_does : (indexes : ℕ → ℕ) (texts : List (List ℕ)) (step : ℕ) (x :
     → (id : ℕ)
     → sends_in id (does plain texts indexes step x s).acts ≤ length s.cpus * (late + 2)
 sends_does indexes texts step (Advance now) s g why id =
-    let a = sends_fires id now (online_cpus s) (record s { clock = now }) (good_clock now s g) (before_never now why)
+    let a = sends_fires id now (online_cpus s) (record s { clock = now }) (good_clock now s g) (fires_before now s why)
     (λ m has. (numbers_pass (λ (c : Cpu). c.online) m s has).0) in
     let b = numbers_few (λ (c : Cpu). c.online) 0 s.cpus in omega (arith, a, b)
 sends_does indexes texts step (Add a) s g why id = let z = no_sends indexes texts step (Add a) s tt id in omega (arith, z)
@@ -268,12 +268,14 @@ sends_does indexes texts step (Softint i) s g why id = let z = no_sends indexes 
 sends_does indexes texts step (Juggle n) s g why id = let z = no_sends indexes texts step (Juggle n) s tt id in omega (arith, z)
 sends_does indexes texts step (Offline n) s g why id = let z = no_sends indexes texts step (Offline n) s tt id in omega (arith, z)
 sends_does indexes texts step (Online n) s g why id = let z = no_sends indexes texts step (Online n) s tt id in omega (arith, z)
+sends_does indexes texts step Suspend s g why id = omega arith
+sends_does indexes texts step Resume s g why id = omega arith
 
 sends_word : (indexes : ℕ → ℕ) (texts : List (List ℕ)) (step : ℕ) (x : Step) (s : State) → Good s → (id : ℕ)
     → sends_in id (word plain texts indexes step x s).acts ≤ length s.cpus * (late + 2)
 sends_word indexes texts step x s g id = by (refusal_of plain x s) refl
   where
-    by : (o : Option Refusal) → refusal_of plain x s ≡ o → sends_in id (unless o step (does plain texts indexes step x) s).acts
+    by : (o : Option Refusal) → refusal_of plain x s ≡ o → sends_in id (unless o step x (does plain texts indexes step x) s).acts
         ≤ length s.cpus * (late + 2)
     by None is = sends_does indexes texts step x s g is id
     by (Some why) is = omega arith

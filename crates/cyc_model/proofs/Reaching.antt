@@ -6,9 +6,10 @@ use Rattle.std.proofs.lemmas.List.Sums.{sum_by-cons}
 use Rattle.cyc_types.specs.declared.level.Soft.{Soft}
 use Rattle.cyc_types.specs.declared.level.Soft.TheVariants.{Low, Lock}
 use Rattle.cyc_types.specs.declared.refusal.Refusal.{Refusal}
+use Rattle.cyc_script.specs.WellFormed.{moment_after}
 use Rattle.cyc_script.specs.declared.step.Step.{Step}
 use Rattle.cyc_script.specs.declared.step.Step.TheVariants.{Add, Omni, Bind, Unbind, Reprogram, Remove, Advance, Softint, Juggle}
-use Rattle.cyc_script.specs.declared.step.Step.TheVariants.{Offline, Online}
+use Rattle.cyc_script.specs.declared.step.Step.TheVariants.{Offline, Online, Suspend, Resume}
 use Rattle.cyc_level.specs.Level.{SoftLevel, empty_level}
 use Rattle.cyc_level.proofs.Maps.{none_some}
 use Rattle.cyc_model.specs.Places.{home_at, placement_of}
@@ -16,7 +17,7 @@ use Rattle.cyc_model.specs.Cpu.{Cpu, new_cpu}
 use Rattle.cyc_model.specs.Questions.{plain, outstanding_here}
 use Rattle.cyc_model.specs.Serving.{level_at}
 use Rattle.cyc_model.specs.State.{State, On, OnAll, absent, cpu_of, numbers_from}
-use Rattle.cyc_model.specs.Refusals.{refusal, unless}
+use Rattle.cyc_model.specs.Refusals.{refusal, refused_at, unless}
 use Rattle.cyc_model.specs.Report.{expired_here, lost_here}
 use Rattle.cyc_model.specs.Script.{refusal_of, does, word, steps_from, start, text_in, run_on}
 use Rattle.cyc_model.specs.Kept.{IsMove, Kept, MovesLoseNothing, CyclicsAreAtHome}
@@ -26,11 +27,10 @@ use Rattle.cyc_model.proofs.Rising.{found}
 use Rattle.cyc_model.proofs.Fit.{Fit, empty_fit}
 use Rattle.cyc_model.proofs.Whole.{Whole}
 use Rattle.cyc_model.proofs.Stays.{none_and_some}
-use Rattle.cyc_model.proofs.Base.{goes_nothing}
 use Rattle.cyc_model.proofs.Spread.{Good, Stands}
-use Rattle.cyc_model.proofs.Calm.{Well, well_then, well_nothing, well_advance, well_reprogram, well_unbind}
+use Rattle.cyc_model.proofs.Calm.{Well, well_then, well_nothing, well_set, well_advance, well_reprogram, well_unbind}
 use Rattle.cyc_model.proofs.Enters.{well_add, well_omni}
-use Rattle.cyc_model.proofs.Travels.{kept_refl}
+use Rattle.cyc_model.proofs.Travels.{kept_clock}
 use Rattle.cyc_model.proofs.Juggling.{safe_bind, safe_juggle, safe_unbind}
 use Rattle.cyc_model.proofs.Answering.{well_remove, well_softint}
 use Rattle.cyc_model.proofs.Retiring.{safe_offline}
@@ -51,17 +51,19 @@ well_does texts indexes step (Softint i) s g why = well_softint texts step i s g
 well_does texts indexes step (Juggle n) s g why = let h = safe_juggle indexes step n s g why in (h.0, h.1)
 well_does texts indexes step (Offline n) s g why = let h = safe_offline indexes step n s g why in (h.0, h.1)
 well_does texts indexes step (Online n) s g why = let h = safe_online indexes step n s g why in (h.0, h.1)
+well_does texts indexes step Suspend s g why = let h = well_set s.clock true s g in (h.0, h.1)
+well_does texts indexes step Resume s g why = let h = well_set s.clock false s g in (h.0, h.1)
 
-refused_well : (why : Refusal) (step : ℕ) (s : State) → Good s → Well (refusal step why s) s
-refused_well why step s g = (goes_nothing s s refl refl (λ id h. h), g)
+refused_well : (why : Refusal) (step : ℕ) (x : Step) (s : State) → Good s → Well (refusal step why (refused_at x s)) s
+refused_well why step x s g = let h = well_set (moment_after s.clock x) s.suspended s g in (h.0, h.1)
 
 pub well_word : (texts : List (List ℕ)) (indexes : ℕ → ℕ) (step : ℕ) (x : Step) (s : State) → Good s
     → Well (word plain texts indexes step x s) s
 well_word texts indexes step x s g = by (refusal_of plain x s) refl
   where
-    by : (o : Option Refusal) → refusal_of plain x s ≡ o → Well (unless o step (does plain texts indexes step x) s) s
+    by : (o : Option Refusal) → refusal_of plain x s ≡ o → Well (unless o step x (does plain texts indexes step x) s) s
     by None is = well_does texts indexes step x s g is
-    by (Some why) is = refused_well why step s g
+    by (Some why) is = refused_well why step x s g
 
 pub well_steps : (texts : List (List ℕ)) (indexes : ℕ → ℕ) (step : ℕ) (xs : List Step) (s : State) → Good s
     → Well (steps_from plain texts indexes step xs s) s
@@ -172,6 +174,8 @@ safe_does texts indexes step (Softint i) s is g why = absurd is
 safe_does texts indexes step (Juggle n) s is g why = (safe_juggle indexes step n s g why).2
 safe_does texts indexes step (Offline n) s is g why = (safe_offline indexes step n s g why).2
 safe_does texts indexes step (Online n) s is g why = (safe_online indexes step n s g why).2
+safe_does texts indexes step Suspend s is g why = absurd is
+safe_does texts indexes step Resume s is g why = absurd is
 
 pub moves_lose_nothing : MovesLoseNothing
 moves_lose_nothing indexes cpus ceiling texts steps step x some is =
@@ -179,9 +183,9 @@ moves_lose_nothing indexes cpus ceiling texts steps step x some is =
     (refusal_of plain x (run_on indexes cpus ceiling texts steps).state) refl
   where
     by : (s : State) → Good s → (o : Option Refusal) → refusal_of plain x s ≡ o
-        → Kept s (unless o step (does plain texts indexes step x) s).state
+        → Kept s (unless o step x (does plain texts indexes step x) s).state
     by s g None e = safe_does texts indexes step x s is g e
-    by s g (Some why) e = kept_refl s
+    by s g (Some why) e = kept_clock (moment_after s.clock x) s
 
 pub cyclics_are_at_home : CyclicsAreAtHome
 cyclics_are_at_home indexes cpus ceiling texts steps id n bound some is =

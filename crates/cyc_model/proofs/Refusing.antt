@@ -6,7 +6,7 @@ use Rattle.cyc_types.specs.Limits.{cyclics as most_cyclics, last_id as greatest_
 use Rattle.cyc_types.specs.Series.{never}
 use Rattle.cyc_types.specs.declared.refusal.Refusal.{Refusal}
 use Rattle.cyc_types.specs.declared.refusal.Refusal.TheVariants.{Full, Expanding, IdsSpent, BadNow, NoCpu, Offline, NoCyclic}
-use Rattle.cyc_types.specs.declared.refusal.Refusal.TheVariants.{Omnipresent}
+use Rattle.cyc_types.specs.declared.refusal.Refusal.TheVariants.{Omnipresent, Suspended}
 use Rattle.cyc_model.specs.Cpu.{Cpu}
 use Rattle.cyc_model.specs.Moving.{must_grow}
 use Rattle.cyc_model.specs.Questions.{plain, has_followed}
@@ -15,6 +15,7 @@ use Rattle.cyc_model.specs.Places.{placement_of, is_unknown, is_leaving, is_omni
 use Rattle.cyc_types.specs.Reasons.{when, first_refusal, busy, only_if, bad_now}
 use Rattle.cyc_model.specs.Refusals.{no_room, no_cpu, offline_cpu, ids_spent}
 use Rattle.cyc_model.specs.Bind.{no_cyclic, omnipresent}
+use Rattle.cyc_model.specs.Advance.{advance_refusal}
 use Rattle.cyc_model.proofs.Moves.{CanGrow}
 
 -- none of several reasons holds
@@ -61,6 +62,14 @@ few_ids s h = leb-false greatest_id s.last_id (not_when (nat_le greatest_id s.la
 
 pub before_never : (now : ℕ) → bad_now now ≡ None → now < never
 before_never now h = leb-false never now (not_when (nat_le never now) BadNow h)
+
+-- an advance is accepted before never, where the system isn't suspended
+pub fires_before : (now : ℕ) (s : State) → advance_refusal now s ≡ None → now < never
+fires_before now s h =
+    let later = none_first (when s.suspended Suspended) (bad_now now ∷ []) h in before_never now (none_first (bad_now now) [] later.1).0
+
+pub not_suspended : (now : ℕ) (s : State) → advance_refusal now s ≡ None → s.suspended ≡ false
+not_suspended now s h = not_when s.suspended Suspended (none_first (when s.suspended Suspended) (bad_now now ∷ []) h).0
 
 pub is_cpu : (n : ℕ) (s : State) → no_cpu n s ≡ None → n < length s.cpus
 is_cpu n s h = leb-false (length s.cpus) n (not_when (nat_le (length s.cpus) n) NoCpu h)

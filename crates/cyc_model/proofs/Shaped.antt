@@ -2,13 +2,15 @@
 use Rattle.std.proofs.Common.{ℕ, ◌+◌, ◌==◌, Bool, true, false, cond, List, [], ◌∷◌, ◌++◌, length, Option, Some, None}
 use Rattle.std.specs.Prelude.{⊤}
 use Rattle.cyc_types.specs.declared.level.Level.{Level}
+use Rattle.cyc_types.specs.declared.level.Soft.{Soft}
+use Rattle.cyc_level.specs.Level.{SoftLevel}
 use Rattle.cyc_types.specs.declared.level.Level.TheVariants as level
 use Rattle.cyc_level.specs.declared.Event.{Event}
 use Rattle.cyc_level.specs.declared.Event.TheVariants.{Admit, Expire, Lose, Mark, Clear}
 use Rattle.cyc_script.specs.declared.step.Step.{Step}
 use Rattle.cyc_script.specs.declared.step.Step.TheVariants.{Add, Omni, Bind, Unbind, Reprogram, Remove, Advance, Softint, Juggle}
-use Rattle.cyc_script.specs.declared.step.Step.TheVariants.{Offline, Online}
-use Rattle.cyc_model.specs.Acts.{Act, at_own}
+use Rattle.cyc_script.specs.declared.step.Step.TheVariants.{Offline, Online, Suspend, Resume}
+use Rattle.cyc_model.specs.Acts.{Act, At, Call, at_own}
 use Rattle.cyc_model.specs.Cpu.{Cyclic, Cpu, Here, happen, handler_level_of, nothing_here, cyclic_of}
 use Rattle.cyc_model.specs.Serving.{level_at, serve}
 use Rattle.cyc_model.specs.Moving.{must_grow, bank_for, switch_here, widen_here, take_here, mark_here, clear_here}
@@ -41,13 +43,25 @@ abbrev pub IsNoFire : Step → Type 0
 IsNoFire (Advance now) = ⊥
 IsNoFire _ = ⊤
 
-idle_own : (n : ℕ) (k : Level) (e : Event) → IsIdle e → AllActs IsIdle (at_own n k e)
+-- each act is an event of which this holds
+abbrev pub AllEvents : (Event → Type 0) → List Act → Type 0
+AllEvents Q [] = ⊤
+AllEvents Q (At n soft e ∷ acts) = Q e × AllEvents Q acts
+AllEvents Q (Call id ∷ acts) = ⊥
+
+events_only : (Q : Event → Type 0) (acts : List Act) → AllEvents Q acts → AllActs Q acts
+events_only Q [] h = tt
+events_only Q (At n soft e ∷ acts) h = (h.0, events_only Q acts h.1)
+events_only Q (Call id ∷ acts) h = absurd h
+
+idle_own : (n : ℕ) (k : Level) (e : Event) → IsIdle e → AllEvents IsIdle (at_own n k e)
 idle_own n level.High e is = tt
 idle_own n level.Lock e is = (is, tt)
 idle_own n level.Low e is = (is, tt)
 
 -- P holds of acts between so many admissions before and after them
-module _ (indexes : ℕ → ℕ) (P : List Act → ℕ → ℕ → Type 0) (calm : (acts : List Act) (a : ℕ) → AllActs IsIdle acts → P acts a a)
+module _ (indexes : ℕ → ℕ) (P : List Act → ℕ → ℕ → Type 0) (calm : (acts : List Act) (a : ℕ) → AllEvents IsIdle acts → P acts a a)
+    (serves : (n : ℕ) (soft : Soft) (budget : ℕ) (l : SoftLevel) (a : ℕ) → P (serve n soft budget l).acts a a)
     (app : (xs ys : List Act) (a b c : ℕ) → P xs a b → P ys b c → P (xs ++ ys) a c)
     (admit : (n id a : ℕ) (k : Level) → P (at_own n k (Admit id (indexes a))) a (a + 1)) where
   abbrev Shaped : (State → Outcome) → Type 0
@@ -180,36 +194,47 @@ module _ (indexes : ℕ → ℕ) (P : List Act → ℕ → ℕ → Type 0) (calm
       by (On m bound) = none s.admissions
       by (OnAll e) = admit n p.id s.admissions e.level
 
-  pub shaped_does : (q : Questions) (texts : List (List ℕ)) (step : ℕ) (x : Step) (s : State) → IsNoFire x
+  pub acts_shaped : (q : Questions) (texts : List (List ℕ)) (step : ℕ) (x : Step) (s : State) → IsNoFire x
       → P (does q texts indexes step x s).acts s.admissions (does q texts indexes step x s).state.admissions
-  shaped_does q texts step (Add a) s is = shaped_enter (destination None s) (added a s)
+  acts_shaped q texts step (Add a) s is = shaped_enter (destination None s) (added a s)
       (given a.name (On (destination None s) false) s)
-  shaped_does q texts step (Omni a) s is =
+  acts_shaped q texts step (Omni a) s is =
       shaped_each (λ n t. enter indexes n (component (s.last_id + 1) n (everywhere a) t.clock) t)
       (λ n t. shaped_enter n (component (s.last_id + 1) n (everywhere a) t.clock) t) (online_cpus s)
       (given a.name (OnAll (everywhere a)) s)
-  shaped_does q texts step (Bind b) s is = shaped_bind (id_of b.name s) b.cpu s
-  shaped_does q texts step (Unbind name) s is = none s.admissions
-  shaped_does q texts step (Reprogram r) s is = none s.admissions
-  shaped_does q texts step (Remove name) s is =
+  acts_shaped q texts step (Bind b) s is = shaped_bind (id_of b.name s) b.cpu s
+  acts_shaped q texts step (Unbind name) s is = none s.admissions
+  acts_shaped q texts step (Reprogram r) s is = none s.admissions
+  acts_shaped q texts step (Remove name) s is =
       let id = id_of name s in let o = each (begin q id) (cpus_with id s) s in
       shaped_begun q step (text_in texts name) id (cpus_with id o.state) o s.admissions
       (shaped_each (begin q id) (shaped_begin q id) (cpus_with id s) s)
-  shaped_does q texts step (Advance now) s is = absurd is
-  shaped_does q texts step (Softint i) s is =
+  acts_shaped q texts step (Advance now) s is = absurd is
+  acts_shaped q texts step (Softint i) s is =
       let t = (interrupt step i s).state in
       app (interrupt step i s).acts (each (poll_id q texts step) (leaving_ids t) t).acts s.admissions s.admissions
       (each (poll_id q texts step) (leaving_ids t) t).state.admissions
-      (calm (serve i.cpu i.level i.budget (level_at i.level (cpu_of i.cpu s))).acts s.admissions
-      (acts_of_serve IsIdle tt tt tt i.cpu i.level i.budget (level_at i.level (cpu_of i.cpu s))))
+      (serves i.cpu i.level i.budget (level_at i.level (cpu_of i.cpu s)) s.admissions)
       (shaped_each (poll_id q texts step) (shaped_poll_id q texts step) (leaving_ids t) t)
-  shaped_does q texts step (Juggle n) s is = shaped_turns q n (single_ids n s) s
-  shaped_does q texts step (Offline n) s is =
+  acts_shaped q texts step (Juggle n) s is = shaped_turns q n (single_ids n s) s
+  acts_shaped q texts step (Offline n) s is =
       shaped_leaving q step n (single_ids n (juggled q indexes n s).outcome.state) (juggled q indexes n s) s.admissions
       (shaped_turns q n (single_ids n s) s)
-  shaped_does q texts step (Online n) s is =
+  acts_shaped q texts step (Online n) s is =
       shaped_then (on n (widen_here n (length (staying s))) s)
       (λ t. followed_by (each (return_of indexes n) (staying s) t) (on n (λ c. nothing_here (go_online c)))) s
       (widened n (length (staying s)) (cpu_of n s) s.admissions)
       (λ t. shaped_then (each (return_of indexes n) (staying s) t) (on n (λ c. nothing_here (go_online c))) t
       (shaped_each (return_of indexes n) (shaped_return n) (staying s) t) (λ u. none u.admissions))
+  acts_shaped q texts step Suspend s is = none s.admissions
+  acts_shaped q texts step Resume s is = none s.admissions
+
+-- the same, where the calls of a soft interrupt matter as little as its events
+pub shaped_does : (indexes : ℕ → ℕ) (P : List Act → ℕ → ℕ → Type 0)
+    (calm : (acts : List Act) (a : ℕ) → AllActs IsIdle acts → P acts a a)
+    (app : (xs ys : List Act) (a b c : ℕ) → P xs a b → P ys b c → P (xs ++ ys) a c)
+    (admit : (n id a : ℕ) (k : Level) → P (at_own n k (Admit id (indexes a))) a (a + 1))
+    (q : Questions) (texts : List (List ℕ)) (step : ℕ) (x : Step) (s : State) → IsNoFire x
+    → P (does q texts indexes step x s).acts s.admissions (does q texts indexes step x s).state.admissions
+shaped_does indexes P calm app admit = acts_shaped indexes P (λ acts a idle. calm acts a (events_only IsIdle acts idle))
+    (λ n soft budget l a. calm (serve n soft budget l).acts a (acts_of_serve IsIdle tt tt tt n soft budget l)) app admit

@@ -9,7 +9,7 @@ use Rattle.cyc_types.specs.declared.level.Soft.{Soft}
 use Rattle.cyc_types.specs.declared.level.Soft.TheVariants.{Low, Lock}
 use Rattle.cyc_script.specs.declared.step.Step.{Step}
 use Rattle.cyc_script.specs.declared.step.Step.TheVariants.{Add, Omni, Bind, Unbind, Reprogram, Remove, Advance, Softint, Juggle}
-use Rattle.cyc_script.specs.declared.step.Step.TheVariants.{Offline, Online}
+use Rattle.cyc_script.specs.declared.step.Step.TheVariants.{Offline, Online, Suspend, Resume}
 use Rattle.cyc_types.specs.declared.refusal.Refusal.{Refusal}
 use Rattle.cyc_model.specs.Acts.{Act, events_at, calls_of}
 use Rattle.cyc_model.specs.Cpu.{Cyclic, Cpu, Here, cyclic_of, new_cpu, nothing_here}
@@ -21,7 +21,7 @@ use Rattle.cyc_model.specs.State.{State, Outcome, Placement, On, OnAll, Placed, 
 use Rattle.cyc_model.specs.State.{cpu_of}
 use Rattle.cyc_model.specs.State.{absent, cpus_with, online_cpus, numbers}
 use Rattle.cyc_model.specs.Places.{id_of, keep_counts, given, put_at, home_of, is_bound, forgotten, without_ended}
-use Rattle.cyc_model.specs.Refusals.{unless, magnitude}
+use Rattle.cyc_model.specs.Refusals.{refused_at, unless, magnitude}
 use Rattle.cyc_model.specs.Add.{enter, added}
 use Rattle.cyc_model.specs.Omni.{enter_each, everywhere, component}
 use Rattle.cyc_model.specs.Bind.{bring, move, move_unless_there, bind_id}
@@ -369,17 +369,19 @@ tells_does q texts indexes step (Offline n) s =
     tells_leaving q step n (single_ids n (juggled q indexes n s).outcome.state) (juggled q indexes n s) s
     (tells_turns q indexes n (single_ids n s) s)
 tells_does q texts indexes step (Online n) s = tells_return_all indexes n (staying s) s
+tells_does q texts indexes step Suspend s = tells_alike s (record s { suspended = true }) (refl, refl)
+tells_does q texts indexes step Resume s = tells_alike s (record s { suspended = false }) (refl, refl)
 
-tells_unless : (why : Option Refusal) (step : ℕ) (f : State → Outcome) → Telling f → Telling (unless why step f)
-tells_unless (Some why) step f done s = tells_alike s s (refl, refl)
-tells_unless None step f done s = done s
+tells_unless : (why : Option Refusal) (step : ℕ) (x : Step) (f : State → Outcome) → Telling f → Telling (unless why step x f)
+tells_unless (Some why) step x f done s = tells_alike s (refused_at x s) (refl, refl)
+tells_unless None step x f done s = done s
 
 pub tells_steps : (q : Questions) (texts : List (List ℕ)) (indexes : ℕ → ℕ) (step : ℕ) (xs : List Step)
     → Telling (steps_from q texts indexes step xs)
 tells_steps q texts indexes step [] s = tells_alike s s (refl, refl)
 tells_steps q texts indexes step (x ∷ xs) s = tells_then (word q texts indexes step x s)
     (steps_from q texts indexes (step + 1) xs) s
-    (tells_unless (refusal_of q x s) step (does q texts indexes step x) (tells_does q texts indexes step x) s)
+    (tells_unless (refusal_of q x s) step x (does q texts indexes step x) (tells_does q texts indexes step x) s)
     (tells_steps q texts indexes (step + 1) xs)
 
 -- ---- the machine as it begins

@@ -47,6 +47,9 @@ counts_same a b c d e f g h p q r s =
 pub kept_refl : (s : State) → Kept s s
 kept_refl s = record { ids = refl; cyclics = λ id single. (single, refl); counts = λ id. refl }
 
+pub kept_clock : (now : ℕ) (s : State) → Kept s (record s { clock = now })
+kept_clock now s = record { ids = refl; cyclics = λ id single. (single, refl); counts = λ id. refl }
+
 pub kept_then : (s t u : State) → Kept s t → Kept t u → Kept s u
 kept_then s t u one two = record {
   ids = two.ids ∙ one.ids;

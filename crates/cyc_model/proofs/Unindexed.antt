@@ -9,7 +9,7 @@ use Rattle.cyc_types.specs.declared.refusal.Refusal.{Refusal}
 use Rattle.cyc_text.specs.Lines.{accepted, fired as fired_line, ran, kept, removed, reported}
 use Rattle.cyc_script.specs.declared.step.Step.{Step}
 use Rattle.cyc_script.specs.declared.step.Step.TheVariants.{Add, Omni, Bind, Unbind, Reprogram, Remove, Advance, Softint, Juggle}
-use Rattle.cyc_script.specs.declared.step.Step.TheVariants.{Offline as OfflineStep, Online}
+use Rattle.cyc_script.specs.declared.step.Step.TheVariants.{Offline as OfflineStep, Online, Suspend, Resume}
 use Rattle.cyc_script.specs.declared.step.Add.{Add as AddStep}
 use Rattle.cyc_script.specs.declared.step.Softint.{Softint as SoftintStep}
 use Rattle.cyc_model.specs.Cpu.{Cyclic, Cpu, Here, cyclic_of, new_cpu, nothing_here}
@@ -383,19 +383,21 @@ module _ (relabel : ℕ → ℕ) where
         ap (told (accepted step)) (return_all_bare n (staying s) s
         ∙ ap (λ (ps : List Placed). return_all (λ k. relabel (indexes k)) n ps ((bare relabel) s))
         (sym ((staying_bare relabel) s)))
+    does_bare texts step Suspend s = refl
+    does_bare texts step Resume s = refl
 
-    unless_bare : (why : Option Refusal) (step : ℕ) (f g : State → Outcome) → (IsBare relabel) f g
-        → (IsBare relabel) (unless why step f) (unless why step g)
-    unless_bare (Some why) step f g same s = refl
-    unless_bare None step f g same s = same s
+    unless_bare : (why : Option Refusal) (step : ℕ) (x : Step) (f g : State → Outcome) → (IsBare relabel) f g
+        → (IsBare relabel) (unless why step x f) (unless why step x g)
+    unless_bare (Some why) step x f g same s = refl
+    unless_bare None step x f g same s = same s
 
     word_bare : (texts : List (List ℕ)) (step : ℕ) (x : Step)
         → (IsBare relabel) (word plain texts indexes step x) (word plain texts (λ k. relabel (indexes k)) step x)
     word_bare texts step x s =
-        unless_bare (refusal_of plain x s) step (does plain texts indexes step x)
+        unless_bare (refusal_of plain x s) step x (does plain texts indexes step x)
         (does plain texts (λ k. relabel (indexes k)) step x)
         (does_bare texts step x) s
-        ∙ ap (λ (why : Option Refusal). unless why step (does plain texts (λ k. relabel (indexes k)) step x) ((bare relabel) s))
+        ∙ ap (λ (why : Option Refusal). unless why step x (does plain texts (λ k. relabel (indexes k)) step x) ((bare relabel) s))
         (sym ((refusal_bare relabel) x s))
 
     pub steps_bare : (texts : List (List ℕ)) (step : ℕ) (xs : List Step)

@@ -1,11 +1,12 @@
--- advance: the clock is set, and every online CPU fires (cyclic_fire).
-use Rattle.std.specs.Prelude.{ℕ, List, length, sum_by, Option}
+-- advance: the clock is set, and every online CPU fires (cyclic_fire). Where it is refused the clock is set all the same.
+use Rattle.std.specs.Prelude.{ℕ, List, [], ◌∷◌, length, sum_by, Option}
 use Rattle.cyc_types.specs.declared.refusal.Refusal.{Refusal}
+use Rattle.cyc_types.specs.declared.refusal.Refusal.TheVariants.{Suspended}
 use Rattle.cyc_text.specs.Lines.{fired}
 use Rattle.cyc_model.specs.Acts.{losses_in}
 use Rattle.cyc_model.specs.Firing.{due_here, fire_here}
 use Rattle.cyc_model.specs.State.{State, Outcome, cpu_of, on, each, told, online_cpus}
-use Rattle.cyc_types.specs.Reasons.{bad_now}
+use Rattle.cyc_types.specs.Reasons.{first_refusal, when, bad_now}
 
 -- the expirations of all online CPUs
 abbrev pub due_on : ℕ → List ℕ → State → ℕ
@@ -14,8 +15,8 @@ due_on now ns s = sum_by (λ n. length (due_here now (cpu_of n s))) ns
 abbrev pub with_fired_line : ℕ → ℕ → Outcome → Outcome
 with_fired_line step expired o = told (fired step expired (losses_in o.acts)) o
 
-abbrev pub advance_refusal : ℕ → Option Refusal
-advance_refusal now = bad_now now
+abbrev pub advance_refusal : ℕ → State → Option Refusal
+advance_refusal now s = first_refusal (when s.suspended Suspended ∷ bad_now now ∷ [])
 
 abbrev pub advance : ℕ → ℕ → State → Outcome
 advance step now s = with_fired_line step (due_on now (online_cpus s) s)

@@ -17,6 +17,8 @@ pub mod Softint
 pub mod Juggle
 pub mod Offline
 pub mod Online
+pub mod Suspend
+pub mod Resume
 pub mod Report
 pub mod Script
 pub mod Laws
@@ -27,3 +29,4 @@ pub mod Kept
 pub mod Enabled
 pub mod Numbers
 pub mod Bounds
+pub mod Suspended

@@ -7,6 +7,8 @@ use Rattle.cyc_types.specs.declared.refusal.Refusal.TheVariants.{BadWhen, BadInt
 use Rattle.cyc_types.specs.declared.refusal.Refusal.TheVariants.{LastCpu}
 use Rattle.cyc_types.specs.Refusals.{number_of}
 use Rattle.cyc_text.specs.Lines.{refused}
+use Rattle.cyc_script.specs.declared.step.Step.{Step}
+use Rattle.cyc_script.specs.WellFormed.{moment_after}
 use Rattle.cyc_model.specs.Cpu.{Cpu}
 use Rattle.cyc_model.specs.Moving.{must_grow}
 use Rattle.cyc_model.specs.Questions.{Questions}
@@ -42,11 +44,14 @@ abbrev pub magnitude : ℤ → ℕ
 magnitude (pos n) = n
 magnitude (negsuc n) = 0
 
--- a step that is refused does nothing
+-- a step that is refused does nothing, but that an `advance` sets the clock
+abbrev pub refused_at : Step → State → State
+refused_at x s = record s { clock = moment_after s.clock x }
+
 abbrev pub refusal : ℕ → Refusal → State → Outcome
 refusal step why s = told (refused step (number_of why)) (nothing s)
 
 -- a step that may be refused
-abbrev pub unless : Option Refusal → ℕ → (State → Outcome) → State → Outcome
-unless (Some why) step does s = refusal step why s
-unless None step does s = does s
+abbrev pub unless : Option Refusal → ℕ → Step → (State → Outcome) → State → Outcome
+unless (Some why) step x does s = refusal step why (refused_at x s)
+unless None step x does s = does s

@@ -1,9 +1,9 @@
 -- A whole script: its words, its lines and its report.
-use Rattle.std.specs.Prelude.{ℕ, ◌+◌, List, [], ◌∷◌, ◌++◌, length, map, replicate, slice_index_or, string_bytes, Option}
+use Rattle.std.specs.Prelude.{ℕ, ◌+◌, List, [], ◌∷◌, ◌++◌, length, map, replicate, slice_index_or, string_bytes, false, Option}
 use Rattle.cyc_types.specs.declared.refusal.Refusal.{Refusal}
 use Rattle.cyc_script.specs.declared.step.Step.{Step}
 use Rattle.cyc_script.specs.declared.step.Step.TheVariants.{Add, Omni, Bind, Unbind, Reprogram, Remove, Advance, Softint, Juggle}
-use Rattle.cyc_script.specs.declared.step.Step.TheVariants.{Offline, Online}
+use Rattle.cyc_script.specs.declared.step.Step.TheVariants.{Offline, Online, Suspend, Resume}
 use Rattle.cyc_script.specs.declared.script.Script.{Script}
 use Rattle.cyc_model.specs.Cpu.{new_cpu}
 use Rattle.cyc_model.specs.Questions.{Questions, plain}
@@ -19,6 +19,8 @@ use Rattle.cyc_model.specs.Softint.{softint_refusal, softint}
 use Rattle.cyc_model.specs.Juggle.{juggle_refusal, juggle}
 use Rattle.cyc_model.specs.Offline.{offline_refusal, offline}
 use Rattle.cyc_model.specs.Online.{online_refusal, online}
+use Rattle.cyc_model.specs.Suspend.{suspend_refusal, suspend}
+use Rattle.cyc_model.specs.Resume.{resume_refusal, resume}
 use Rattle.cyc_model.specs.Report.{reports}
 
 -- the text of a name
@@ -33,11 +35,13 @@ refusal_of q (Bind b) s = bind_refusal q b s
 refusal_of q (Unbind name) s = unbind_refusal name s
 refusal_of q (Reprogram r) s = reprogram_refusal r s
 refusal_of q (Remove name) s = remove_refusal q name s
-refusal_of q (Advance now) s = advance_refusal now
+refusal_of q (Advance now) s = advance_refusal now s
 refusal_of q (Softint i) s = softint_refusal i s
 refusal_of q (Juggle n) s = juggle_refusal q n s
 refusal_of q (Offline n) s = offline_refusal q n s
 refusal_of q (Online n) s = online_refusal q n s
+refusal_of q Suspend s = suspend_refusal s
+refusal_of q Resume s = resume_refusal s
 
 -- and what each does where it isn't: names have these texts, and the k-th cyclic that is put on a CPU gets the k-th index
 abbrev pub does : Questions → List (List ℕ) → (ℕ → ℕ) → ℕ → Step → State → Outcome
@@ -52,10 +56,12 @@ does q texts indexes step (Softint i) s = softint q texts step i s
 does q texts indexes step (Juggle n) s = juggle q indexes step n s
 does q texts indexes step (Offline n) s = offline q indexes step n s
 does q texts indexes step (Online n) s = online indexes step n s
+does q texts indexes step Suspend s = suspend step s
+does q texts indexes step Resume s = resume step s
 
 -- one step
 abbrev pub word : Questions → List (List ℕ) → (ℕ → ℕ) → ℕ → Step → State → Outcome
-word q texts indexes step x s = unless (refusal_of q x s) step (does q texts indexes step x) s
+word q texts indexes step x s = unless (refusal_of q x s) step x (does q texts indexes step x) s
 
 -- the steps from this number on
 abbrev pub steps_from : Questions → List (List ℕ) → (ℕ → ℕ) → ℕ → List Step → State → Outcome
@@ -69,6 +75,7 @@ steps_from q texts indexes step (x ∷ xs) s =
 abbrev pub start : ℕ → ℕ → ℕ → State
 start cpus ceiling names = record {
   clock = 0;
+  suspended = false;
   last_id = 0;
   admissions = 0;
   cpus = replicate cpus (new_cpu ceiling);

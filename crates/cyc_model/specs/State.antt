@@ -29,6 +29,8 @@ pub record Ended : Type 0 where
 -- the machine
 pub record State : Type 0 where
   pub clock : ℕ
+  -- no fire is made until a resume
+  pub suspended : Bool
   -- the id that was given last
   pub last_id : ℕ
   -- how many cyclics were put on a CPU so far: each took an index

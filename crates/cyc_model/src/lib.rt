@@ -2,7 +2,7 @@
 //!
 //! The definition stands in `specs/`: what a call does on one CPU (`Firing`, `Serving`, `Moving`), what it must ask first
 //! (`Questions`), the machine (`State`, `Places`), why a call is refused (`Refusals`), one file for each word of a script (`Add`
-//! to `Online`), and the whole (`Script`, `Report`). It has no heap, no ring and no thread in it.
+//! to `Resume`), and the whole (`Script`, `Report`). It has no heap, no ring and no thread in it.
 //!
 //! A step comes to its lines, to one list of acts in the order of time, and to the machine after it. The functions here do
 //! nothing: each one's contract is a law.
@@ -19,10 +19,12 @@ ghost use Rattle.cyc_model.specs.Numbers.{ReportsAddUp, RemovesTellCalls, PollsT
 ghost use Rattle.cyc_model.specs.Numbers.{RemovedCountsStay};
 ghost use Rattle.cyc_model.specs.Bounds.{CountsStaySmall, ScriptsStayBelow};
 ghost use Rattle.cyc_model.specs.Enabled.{EventsAreEnabled, IndexesAreFound};
+ghost use Rattle.cyc_model.specs.Suspended.{SuspendSuspends, NothingExpiresSuspended};
 ghost use Rattle.cyc_level.specs.Lawful.{Lawful};
 ghost use Rattle.cyc_types.specs.declared.level.Soft.{Soft};
 
-/// A step that is refused changes nothing and its line has the number of the refusal; any other does what its word does.
+/// A step that is refused changes nothing, but that an `advance` sets the clock, and its line has the number of the refusal; any
+/// other does what its word does.
 pub fn refused_or_done()
     ensures { RefusedOrDone }
 {}
@@ -126,4 +128,11 @@ pub fn counts_stay_small()
 pub fn moves_lose_nothing()
     ensures kept { MovesLoseNothing }
     ensures home { CyclicsAreAtHome }
+{}
+
+/// From a `suspend` that is accepted to the next `resume` no step makes an expiration, and none calls a handler of high level,
+/// whatever the steps are: each call is one of a soft interrupt. The system stays suspended.
+pub fn nothing_expires_suspended()
+    ensures suspends { SuspendSuspends }
+    ensures still { NothingExpiresSuspended }
 {}

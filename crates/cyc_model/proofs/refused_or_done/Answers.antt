@@ -5,6 +5,6 @@ use Rattle.cyc_model.proofs.refused_or_done.Goals as goal
 
 pub returns : goal.returns
 returns c = λ q texts indexes step x s. (
-  λ why e. ap (λ o. unless o step (does q texts indexes step x) s) e,
-  λ e. ap (λ o. unless o step (does q texts indexes step x) s) e,
+  λ why e. ap (λ o. unless o step x (does q texts indexes step x) s) e,
+  λ e. ap (λ o. unless o step x (does q texts indexes step x) s) e,
 )
