@@ -6,7 +6,7 @@ use Rattle.std.proofs.lemmas.List.Sums.{sum_by-cons}
 use Rattle.cyc_text.specs.declared.lines.Counts.{Counts}
 use Rattle.cyc_script.specs.declared.step.Step.{Step}
 use Rattle.cyc_script.specs.declared.step.Step.TheVariants.{Add, Omni, Bind, Unbind, Reprogram, Remove, Advance, Softint, Juggle}
-use Rattle.cyc_script.specs.declared.step.Step.TheVariants.{Offline, Online}
+use Rattle.cyc_script.specs.declared.step.Step.TheVariants.{Offline, Online, Suspend, Resume}
 use Rattle.cyc_model.specs.Cpu.{Cyclic, Cpu, Here}
 use Rattle.cyc_model.specs.Moving.{put_in, widen_here, place_here, enter_here}
 use Rattle.cyc_model.specs.Moving.{reprogram_here}
@@ -96,3 +96,5 @@ module _ (texts : List (List ℕ)) (f : ℕ → ℕ) (step : ℕ) (s : State) (g
   calm_expired (Juggle n) is why = ap (λ (c : Counts). c.expired) ((safe_does texts f step (Juggle n) s tt g why).counts id)
   calm_expired (Offline n) is why = ap (λ (c : Counts). c.expired) ((safe_does texts f step (Offline n) s tt g why).counts id)
   calm_expired (Online n) is why = ap (λ (c : Counts). c.expired) ((safe_does texts f step (Online n) s tt g why).counts id)
+  calm_expired Suspend is why = refl
+  calm_expired Resume is why = refl

@@ -9,7 +9,7 @@ use Rattle.cyc_types.specs.Series.{never}
 use Rattle.cyc_script.specs.declared.step.Omni.{Omni as OmniStep}
 use Rattle.cyc_script.specs.declared.step.Step.{Step}
 use Rattle.cyc_script.specs.declared.step.Step.TheVariants.{Add, Omni, Bind, Unbind, Reprogram, Remove, Advance, Softint, Juggle}
-use Rattle.cyc_script.specs.declared.step.Step.TheVariants.{Offline, Online}
+use Rattle.cyc_script.specs.declared.step.Step.TheVariants.{Offline, Online, Suspend, Resume}
 use Rattle.cyc_model.specs.Cpu.{Cpu, nothing_here}
 use Rattle.cyc_model.specs.Firing.{fire_here}
 use Rattle.cyc_model.specs.Questions.{plain}
@@ -83,6 +83,8 @@ module _ (texts : List (List ℕ)) (f : ℕ → ℕ) (step id : ℕ) (e : Everyw
       (left_juggled id f n s all)
   spread_does (Offline n) why other is = absurd is
   spread_does (Online n) why other is = absurd is
+  spread_does Suspend why other is = fixed Suspend why other tt
+  spread_does Resume why other is = fixed Resume why other tt
 
   -- ---- a CPU goes offline, or does not, or comes back
 

@@ -8,7 +8,7 @@ use Rattle.cyc_types.specs.declared.refusal.Refusal.TheVariants.{BadWhen, NoCycl
 use Rattle.cyc_types.specs.Series.{first}
 use Rattle.cyc_script.specs.declared.step.Step.{Step}
 use Rattle.cyc_script.specs.declared.step.Step.TheVariants.{Add, Omni, Bind, Unbind, Reprogram, Remove, Advance, Softint, Juggle}
-use Rattle.cyc_script.specs.declared.step.Step.TheVariants.{Offline, Online}
+use Rattle.cyc_script.specs.declared.step.Step.TheVariants.{Offline, Online, Suspend, Resume}
 use Rattle.cyc_script.specs.declared.step.Reprogram.{Reprogram as ReprogramStep}
 use Rattle.cyc_model.specs.Cpu.{Cpu, has_cyclic}
 use Rattle.cyc_model.specs.Moving.{reprogram_here}
@@ -16,7 +16,7 @@ use Rattle.cyc_model.specs.Questions.{plain}
 use Rattle.cyc_model.specs.State.{State, OnAll, cpu_of, on, online_cpus, cpus_with}
 use Rattle.cyc_model.specs.Places.{id_of, placement_of, is_unknown, is_omnipresent, is_everywhere, given}
 use Rattle.cyc_types.specs.Reasons.{when, first_refusal}
-use Rattle.cyc_model.specs.Refusals.{magnitude, no_cpu, offline_cpu}
+use Rattle.cyc_model.specs.Refusals.{magnitude, no_cpu, offline_cpu, refused_at}
 use Rattle.cyc_model.specs.Bind.{no_cyclic, omnipresent}
 use Rattle.cyc_model.specs.Omni.{everywhere}
 use Rattle.cyc_model.specs.Remove.{busy_on_each}
@@ -27,7 +27,7 @@ use Rattle.cyc_model.proofs.Placing.{place_known}
 use Rattle.cyc_model.proofs.Reaching.{well_does}
 use Rattle.cyc_model.proofs.Totals.{expired_in}
 use Rattle.cyc_model.proofs.Numbers.{numbers_rise, numbers_pass}
-use Rattle.cyc_model.proofs.Refusing.{none_first, not_when, not_not, is_cyclic, not_omnipresent, before_never}
+use Rattle.cyc_model.proofs.Refusing.{none_first, not_when, not_not, is_cyclic, not_omnipresent, fires_before}
 use Rattle.cyc_model.proofs.Calm.{good_clock}
 use Rattle.cyc_model.proofs.Still.{still_bind, still_fires, still_enters, still_juggle, still_offline, still_online}
 use Rattle.cyc_model.proofs.Still.{still_remove, still_softint}
@@ -186,7 +186,7 @@ module _ (texts : List (List ℕ)) (f : ℕ → ℕ) (step name : ℕ) (s : Stat
       by : (course : Course) → Follows name s course expired
           → Follows name (after (Advance now)) (next_of now course) (expired + due_of now course)
       by Idle k =
-          let before = before_never now why in
+          let before = fires_before now s why in
           let e = (all_fired (id_of name s) now before 0 (online_cpus s) (record s { clock = now }) (good_clock now s h.good)
           (numbers_rise (λ (c : Cpu). c.online) 0 s.cpus) (λ m has. (numbers_pass (λ (c : Cpu). c.online) m s has).0)).expired in
           let z = sum_none (due_at (id_of name s) now before (record s { clock = now })) (online_cpus s)
@@ -197,11 +197,11 @@ module _ (texts : List (List ℕ)) (f : ℕ → ℕ) (step name : ℕ) (s : Stat
           (stopped_does texts f step (id_of name s) (Advance now) s h.good why k.course_is)
           (omega (arith, e, z, was, start))
       by (Single m v) k =
-          let q = runs_fired (id_of name s) m v now s h.good (before_never now why) k.course_is in
+          let q = runs_fired (id_of name s) m v now s h.good (fires_before now s why) k.course_is in
           to (after (Advance now)) (next_of now (Single m v)) (expired + due_of now (Single m v)) same q.0
           (q.1 ∙ ap (λ n. n + due_of now (Single m v)) k.expired_is)
       by (OnEach v ms) k =
-          let q = spread_fired texts f step (id_of name s) v ms s h.good k.course_is now (before_never now why)
+          let q = spread_fired texts f step (id_of name s) v ms s h.good k.course_is now (fires_before now s why)
           (well_does texts f step (Advance now) s h.good why).0.tells.as_many in
           to (after (Advance now)) (next_of now (OnEach v ms)) (expired + due_of now (OnEach v ms)) same q.0
           (q.1 ∙ ap (λ n. n + due_of now (OnEach v ms)) k.expired_is)
@@ -317,6 +317,8 @@ module _ (texts : List (List ℕ)) (f : ℕ → ℕ) (step name : ℕ) (s : Stat
       (still_id (after (Offline n)) (still_offline f step n s).names)
       (course_off n why (not-true (cpu_of n (after (Offline n))).online done) u.course c.course_is)
       (calm_expired texts f step s h.good id (Offline n) tt why ∙ c.expired_is)
+  follows_does Suspend why done in_ u ups c = passes Suspend why tt tt tt refl u.course u.expired c
+  follows_does Resume why done in_ u ups c = passes Resume why tt tt tt refl u.course u.expired c
   follows_does (Online n) why done in_ u ups c =
       to (after (Online n)) (with_component n (λ e. Some (component_first n e s.clock)) u.course) u.expired
       (still_id (after (Online n)) (still_online f step n s).names) (course_on n why u.course c.course_is)
@@ -325,13 +327,12 @@ module _ (texts : List (List ℕ)) (f : ℕ → ℕ) (step name : ℕ) (s : Stat
   -- a step that was not refused, and not done, is an `offline` that left its CPU online
   pub undone : (x : Step) → refusal_of plain x s ≡ None → is_done x (after x) ≡ false → (u : Told)
       → Ups u.online s → Follows name s u.course u.expired
-      → Follows name (after x) u.course u.expired × ((after x).clock ≡ s.clock) × Ups u.online (after x)
+      → Follows name (after x) u.course u.expired × Ups u.online (after x)
   undone (Offline n) why left u ups c =
       let on_ = not_not (cpu_of n (after (Offline n))).online left in (
         to (after (Offline n)) u.course u.expired (still_id (after (Offline n)) (still_offline f step n s).names)
             (course_left n why on_ u.course c.course_is)
             (calm_expired texts f step s h.good id (Offline n) tt why ∙ c.expired_is),
-        (still_offline f step n s).clock,
         ups_left texts f step s h.good n why on_ u.online ups,
       )
   undone (Add a) why left u ups c = absurd (let wrong : true ≡ false = left in cc)
@@ -344,6 +345,8 @@ module _ (texts : List (List ℕ)) (f : ℕ → ℕ) (step name : ℕ) (s : Stat
   undone (Softint i) why left u ups c = absurd (let wrong : true ≡ false = left in cc)
   undone (Juggle n) why left u ups c = absurd (let wrong : true ≡ false = left in cc)
   undone (Online n) why left u ups c = absurd (let wrong : true ≡ false = left in cc)
+  undone Suspend why left u ups c = absurd (let wrong : true ≡ false = left in cc)
+  undone Resume why left u ups c = absurd (let wrong : true ≡ false = left in cc)
 
   pub clock_does : (x : Step) → (after x).clock ≡ clock_after x s.clock
   clock_does (Add a) = refl
@@ -358,3 +361,22 @@ module _ (texts : List (List ℕ)) (f : ℕ → ℕ) (step name : ℕ) (s : Stat
   clock_does (Juggle n) = (still_juggle f step n s).clock
   clock_does (Offline n) = (still_offline f step n s).clock
   clock_does (Online n) = (still_online f step n s).clock
+  clock_does Suspend = refl
+  clock_does Resume = refl
+
+-- after a step that is refused
+pub follows_refused : (x : Step) (name : ℕ) (s : State) (course : Course) (expired : ℕ) → Follows name s course expired
+    → Follows name (refused_at x s) course expired
+follows_refused x name s course expired c = record { course_is = by course c.course_is; expired_is = c.expired_is }
+  where
+    by : (course : Course) → IsCourse (id_of name s) course s → IsCourse (id_of name s) course (refused_at x s)
+    by Idle k = k
+    by (Single moment interval) k = record {
+      stays = k.stays;
+      single = k.single;
+      it = k.it;
+      here = k.here;
+      moment_is = k.moment_is;
+      interval_is = k.interval_is;
+    }
+    by (OnEach e moments) k = record { stays = k.stays; place = k.place; long = k.long; here = k.here }

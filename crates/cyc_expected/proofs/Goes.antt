@@ -7,7 +7,7 @@ use Rattle.std.proofs.lemmas.List.{get_or-set_same}
 use Rattle.cyc_types.specs.Series.{never, first, due, next}
 use Rattle.cyc_script.specs.declared.step.Step.{Step}
 use Rattle.cyc_script.specs.declared.step.Step.TheVariants.{Add, Omni, Bind, Unbind, Reprogram, Remove, Advance, Softint, Juggle}
-use Rattle.cyc_script.specs.declared.step.Step.TheVariants.{Offline, Online}
+use Rattle.cyc_script.specs.declared.step.Step.TheVariants.{Offline, Online, Suspend, Resume}
 use Rattle.cyc_script.specs.declared.step.Add.{Add as AddStep}
 use Rattle.cyc_model.specs.Cpu.{Cyclic, Cpu}
 use Rattle.cyc_model.specs.Firing.{fire_here}
@@ -149,6 +149,8 @@ module _ (texts : List (List ℕ)) (f : ℕ → ℕ) (step id : ℕ) where
   left_does (Juggle n) s is fixed low shut = absurd fixed
   left_does (Offline n) s is fixed low shut = absurd fixed
   left_does (Online n) s is fixed low shut = absurd fixed
+  left_does Suspend s is fixed low shut = record { found_ = refl; shut = λ no. no; place = refl }
+  left_does Resume s is fixed low shut = record { found_ = refl; shut = λ no. no; place = refl }
 
 module _ (texts : List (List ℕ)) (f : ℕ → ℕ) (step id moment interval : ℕ) where
   abbrev Runs : State → Type 0
@@ -183,6 +185,8 @@ module _ (texts : List (List ℕ)) (f : ℕ → ℕ) (step id moment interval : 
       (safe_does texts f step (Offline n) s tt g why) (keeps_offline f step n s) r
   runs_does (Online n) s g why is r = runs_kept s (does plain texts f step (Online n) s).state
       (safe_does texts f step (Online n) s tt g why) (keeps_online f step n s) r
+  runs_does Suspend s g why is r = runs_left Suspend s g is tt r
+  runs_does Resume s g why is r = runs_left Resume s g is tt r
 
 -- ---- its own words
 

@@ -9,7 +9,7 @@ use Rattle.cyc_types.specs.Refusals.{number_of}
 use Rattle.cyc_text.specs.Lines.{accepted}
 use Rattle.cyc_script.specs.declared.step.Step.{Step}
 use Rattle.cyc_script.specs.declared.step.Step.TheVariants.{Add, Omni, Bind, Unbind, Reprogram, Remove, Advance, Softint, Juggle}
-use Rattle.cyc_script.specs.declared.step.Step.TheVariants.{Offline, Online}
+use Rattle.cyc_script.specs.declared.step.Step.TheVariants.{Offline, Online, Suspend, Resume}
 use Rattle.cyc_model.specs.Cpu.{Cpu, Cyclic, cyclic_of}
 use Rattle.cyc_model.specs.Moving.{take_here}
 use Rattle.cyc_model.specs.Places.{keep_counts}
@@ -83,8 +83,8 @@ module _ (texts : List (List ℕ)) (f : ℕ → ℕ) (step : ℕ) (s : State) (g
   tells_at b how line is t = subst (λ c. Tells c line) is t
 
   not_met : (x : Step) (o : Option Refusal) → refusal_of plain x s ≡ o
-      → (not (is_some o) && is_done x (unless o step (does plain texts f step x) s).state) ≡ false
-      → TellsRefusal step (unless o step (does plain texts f step x) s).line
+      → (not (is_some o) && is_done x (unless o step x (does plain texts f step x) s).state) ≡ false
+      → TellsRefusal step (unless o step x (does plain texts f step x) s).line
   not_met x (Some r) why is = inl (number_of r, refl)
   not_met (Offline n) None why is = tells_at _ false (offline plain f step n s).line is (offline_tells n why)
   not_met (Add a) None why is = absurd (let wrong : true ≡ false = is in cc)
@@ -97,10 +97,12 @@ module _ (texts : List (List ℕ)) (f : ℕ → ℕ) (step : ℕ) (s : State) (g
   not_met (Softint i) None why is = absurd (let wrong : true ≡ false = is in cc)
   not_met (Juggle n) None why is = absurd (let wrong : true ≡ false = is in cc)
   not_met (Online n) None why is = absurd (let wrong : true ≡ false = is in cc)
+  not_met Suspend None why is = absurd (let wrong : true ≡ false = is in cc)
+  not_met Resume None why is = absurd (let wrong : true ≡ false = is in cc)
 
   offline_met : (n : ℕ) (o : Option Refusal) → refusal_of plain (Offline n) s ≡ o
-      → (not (is_some o) && is_done (Offline n) (unless o step (does plain texts f step (Offline n)) s).state) ≡ true
-      → (unless o step (does plain texts f step (Offline n)) s).line ≡ accepted step
+      → (not (is_some o) && is_done (Offline n) (unless o step (Offline n) (does plain texts f step (Offline n)) s).state) ≡ true
+      → (unless o step (Offline n) (does plain texts f step (Offline n)) s).line ≡ accepted step
   offline_met n (Some r) why is = absurd (let wrong : false ≡ true = is in cc)
   offline_met n None why is = tells_at _ true (offline plain f step n s).line is (offline_tells n why)
 

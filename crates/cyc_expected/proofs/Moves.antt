@@ -1,9 +1,9 @@
 -- Moves change nothing of what is told.
-use Rattle.std.proofs.Common.{◌≡◌, ◌∙◌, ℕ, Bool, true, false, cond, inl, inr, List, [], ◌∷◌, refl, sym, ap, subst}
+use Rattle.std.proofs.Common.{◌≡◌, ◌∙◌, ℕ, Bool, true, false, cond, inl, inr, List, [], ◌∷◌, refl, sym, subst}
 use Rattle.cyc_script.specs.declared.step.Step.{Step}
 use Rattle.cyc_script.specs.declared.step.Step.TheVariants.{Add, Omni, Bind, Unbind, Reprogram, Remove, Advance, Softint, Juggle}
-use Rattle.cyc_script.specs.declared.step.Step.TheVariants.{Offline, Online}
-use Rattle.cyc_expected.specs.Course.{Event, Told, told_after, told_by}
+use Rattle.cyc_script.specs.declared.step.Step.TheVariants.{Offline, Online, Suspend, Resume}
+use Rattle.cyc_expected.specs.Course.{Told, told_after, told_by}
 use Rattle.cyc_expected.specs.Expected.{Met, event_of, clock_after, events_of}
 use Rattle.cyc_expected.specs.Calm.{OnlyMoves, AgreeButMoves}
 
@@ -11,14 +11,14 @@ module _ (name : ℕ) where
   -- what is told after one step, and the others
   abbrev one : Step → Bool → List Met → ℕ → Told → Told
   one x true ms clock t = told_by (events_of name (clock_after x clock) ms) (told_after (event_of name clock x) t)
-  one x false ms clock t = told_by (events_of name clock ms) t
+  one x false ms clock t = told_by (events_of name (clock_after x clock) ms) t
 
   first_of_all : (m : Met) (ms : List Met) (clock : ℕ) (t : Told)
       → told_by (events_of name clock (m ∷ ms)) t ≡ one m.step m.accepted ms clock t
   first_of_all m ms clock t = by m.accepted
     where
       by : (b : Bool) → told_by (cond b (event_of name clock m.step ∷ events_of name (clock_after m.step clock) ms)
-          (events_of name clock ms)) t ≡ one m.step b ms clock t
+          (events_of name (clock_after m.step clock) ms)) t ≡ one m.step b ms clock t
       by true = refl
       by false = refl
 
@@ -40,13 +40,15 @@ module _ (name : ℕ) where
   moves_pass (Advance a) b ms clock t o = absurd o
   moves_pass (Offline a) b ms clock t o = absurd o
   moves_pass (Online a) b ms clock t o = absurd o
+  moves_pass Suspend b ms clock t o = absurd o
+  moves_pass Resume b ms clock t o = absurd o
 
   -- the same step, before runs that tell the same
   one_same : (x : Step) (b : Bool) (xs ys : List Met)
       → ((clock : ℕ) (t : Told) → told_by (events_of name clock xs) t ≡ told_by (events_of name clock ys) t)
       → (clock : ℕ) (t : Told) → one x b xs clock t ≡ one x b ys clock t
   one_same x true xs ys same clock t = same (clock_after x clock) (told_after (event_of name clock x) t)
-  one_same x false xs ys same clock t = same clock t
+  one_same x false xs ys same clock t = same (clock_after x clock) t
 
   pub same_told : (xs ys : List Met) → AgreeButMoves xs ys → (clock : ℕ) (t : Told)
       → told_by (events_of name clock xs) t ≡ told_by (events_of name clock ys) t

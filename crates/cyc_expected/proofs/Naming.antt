@@ -6,22 +6,23 @@ use Rattle.std.specs.Option.{option_map}
 use Rattle.std.proofs.lemmas.List.{get_or-set_same, get_or-set_other}
 use mathlib.Core.Logic.{dite}
 use native.Mathlib.Decide.{ℕ_discrete}
-use Rattle.cyc_script.specs.WellFormed.{names_fit, name_fits, names_after, names_after_all}
+use Rattle.cyc_script.specs.WellFormed.{names_fit, name_fits, names_after, names_after_all, moment_after}
 use Rattle.cyc_script.specs.declared.step.Step.{Step}
 use Rattle.cyc_script.specs.declared.step.Step.TheVariants.{Add, Omni, Bind, Unbind, Reprogram, Remove, Advance, Softint, Juggle}
-use Rattle.cyc_script.specs.declared.step.Step.TheVariants.{Offline, Online}
+use Rattle.cyc_script.specs.declared.step.Step.TheVariants.{Offline, Online, Suspend, Resume}
 use Rattle.cyc_model.specs.Cpu.{Cpu}
 use Rattle.cyc_model.specs.Questions.{plain}
 use Rattle.cyc_model.specs.State.{State, OnAll, Placed, online_cpus}
 use Rattle.cyc_model.specs.Places.{id_of, placement_of, given}
 use Rattle.cyc_model.specs.Omni.{everywhere}
+use Rattle.cyc_model.specs.Refusals.{refused_at}
 use Rattle.cyc_model.specs.Script.{refusal_of, does, text_in}
 use Rattle.cyc_model.proofs.Rising.{due_of_found}
 use Rattle.cyc_model.proofs.Placing.{entry_above}
 use Rattle.cyc_model.proofs.Totals.{expired_in}
 use Rattle.cyc_model.proofs.Base.{gone_away}
 use Rattle.cyc_model.proofs.Numbers.{numbers_rise, numbers_pass}
-use Rattle.cyc_model.proofs.Refusing.{before_never}
+use Rattle.cyc_model.proofs.Refusing.{fires_before}
 use Rattle.cyc_model.proofs.Spread.{Good}
 use Rattle.cyc_model.proofs.Calm.{good_clock}
 use Rattle.cyc_model.proofs.Still.{Still, still_bind, still_unbind, still_fires, still_enters, still_juggle}
@@ -65,6 +66,8 @@ all_within names m (x ∷ xs) fit le =
     one (Juggle n) is most = (most, tt)
     one (Offline n) is most = (most, tt)
     one (Online n) is most = (most, tt)
+    one Suspend is most = (most, tt)
+    one Resume is most = (most, tt)
 
 length_set : (ns : List ℕ) (k v : ℕ) → length (slice_set ns k v) ≡ length ns
 length_set [] k v = refl
@@ -133,23 +136,28 @@ module _ (texts : List (List ℕ)) (f : ℕ → ℕ) (step : ℕ) (s : State) (h
       (λ id. calm_expired texts f step s h.good id (Omni a) tt why)
   ready_does (Bind b) in_ why = calm_ready (Bind b) tt why (still_bind f step b s)
   ready_does (Unbind name) in_ why = calm_ready (Unbind name) tt why (still_unbind step name s)
-  ready_does (Reprogram r) in_ why = calm_ready (Reprogram r) tt why (record { clock = refl; names = refl; last = refl })
+  ready_does (Reprogram r) in_ why = calm_ready (Reprogram r) tt why
+      (record { clock = refl; suspended = refl; names = refl; last = refl })
   ready_does (Remove name) in_ why = calm_ready (Remove name) tt why (still_remove step (text_in texts name) name s)
   ready_does (Advance now) in_ why =
       let r = record s { clock = now } in
       let k = still_fires now (online_cpus s) r in
       still_ready (after (Advance now)) (well_does texts f step (Advance now) s h.good why).1 k.names k.last
-      (λ id above. let e = (all_fired id now (before_never now why) 0 (online_cpus s) r (good_clock now s h.good)
+      (λ id above. let e = (all_fired id now (fires_before now s why) 0 (online_cpus s) r (good_clock now s h.good)
       (numbers_rise (λ (c : Cpu). c.online) 0 s.cpus) (λ m has. (numbers_pass (λ (c : Cpu). c.online) m s has).0)).expired in
       let none : placement_of id s ≡ None = ap (option_map (λ (p : Placed). p.place))
       (entry_above 0 s.last_id id s.placed h.good.base.rise above) in
-      let z = sum_none (due_at id now (before_never now why) r) (online_cpus s)
+      let z = sum_none (due_at id now (fires_before now s why) r) (online_cpus s)
       (λ m has. ap (due_of_found now) (gone_away None s h.good.base id none m)) in
       let same : expired_in id r ≡ expired_in id s = refl in omega (arith, e, z, same))
   ready_does (Softint i) in_ why = calm_ready (Softint i) tt why (still_softint texts step i s)
   ready_does (Juggle n) in_ why = calm_ready (Juggle n) tt why (still_juggle f step n s)
   ready_does (Offline n) in_ why = calm_ready (Offline n) tt why (still_offline f step n s)
   ready_does (Online n) in_ why = calm_ready (Online n) tt why (still_online f step n s)
+  ready_does Suspend in_ why =
+      still_ready (after Suspend) (well_does texts f step Suspend s h.good why).1 refl refl (λ id above. refl)
+  ready_does Resume in_ why =
+      still_ready (after Resume) (well_does texts f step Resume s h.good why).1 refl refl (λ id above. refl)
 
   pub names_last : (x : Step) → length (after x).names ≡ length s.names
   names_last (Add a) = length_set s.names a.name (s.last_id + 1)
@@ -166,3 +174,14 @@ module _ (texts : List (List ℕ)) (f : ℕ → ℕ) (step : ℕ) (s : State) (h
   names_last (Juggle n) = ap length (still_juggle f step n s).names
   names_last (Offline n) = ap length (still_offline f step n s).names
   names_last (Online n) = ap length (still_online f step n s).names
+  names_last Suspend = refl
+  names_last Resume = refl
+
+-- after a step that is refused
+pub ready_refused : (x : Step) (s : State) → Ready s → Ready (refused_at x s)
+ready_refused x s h = record {
+  good = good_clock (moment_after s.clock x) s h.good;
+  low = h.low;
+  apart = h.apart;
+  fresh = h.fresh;
+}

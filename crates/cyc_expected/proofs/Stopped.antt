@@ -7,7 +7,7 @@ use native.Mathlib.Decide.{ℕ_discrete}
 use Rattle.cyc_types.specs.Series.{never, due}
 use Rattle.cyc_script.specs.declared.step.Step.{Step}
 use Rattle.cyc_script.specs.declared.step.Step.TheVariants.{Add, Omni, Bind, Unbind, Reprogram, Remove, Advance, Softint, Juggle}
-use Rattle.cyc_script.specs.declared.step.Step.TheVariants.{Offline, Online}
+use Rattle.cyc_script.specs.declared.step.Step.TheVariants.{Offline, Online, Suspend, Resume}
 use Rattle.cyc_model.specs.Cpu.{Cyclic, Cpu}
 use Rattle.cyc_model.specs.Moving.{reprogram_here}
 use Rattle.cyc_model.specs.Serving.{serve_here}
@@ -26,7 +26,7 @@ use Rattle.cyc_model.proofs.Placing.{place_forgotten, place_known}
 use Rattle.cyc_model.proofs.Serves.{same_serve}
 use Rattle.cyc_model.proofs.Base.{IsAt, IsGone, gone_away}
 use Rattle.cyc_model.proofs.Numbers.{numbers_rise, numbers_pass, not_leaving}
-use Rattle.cyc_model.proofs.Refusing.{before_never}
+use Rattle.cyc_model.proofs.Refusing.{fires_before}
 use Rattle.cyc_model.proofs.Spread.{Good}
 use Rattle.cyc_model.proofs.Calm.{good_clock, well_interrupt}
 use Rattle.cyc_model.proofs.Removing.{Removing, first_with}
@@ -163,7 +163,7 @@ module _ (texts : List (List ℕ)) (f : ℕ → ℕ) (step : ℕ) (id : ℕ) whe
   leaving_does (Advance now) s g why leaves =
       let r = record s { clock = now } in
       let k = leaving_where id s leaves in
-      let h = all_fired id now (before_never now why) 0 (online_cpus s) r (good_clock now s g)
+      let h = all_fired id now (fires_before now s why) 0 (online_cpus s) r (good_clock now s g)
       (numbers_rise (λ (c : Cpu). c.online) 0 s.cpus) (λ m has. (numbers_pass (λ (c : Cpu). c.online) m s has).0) in
       inr (leaving_by id k.0 (does plain texts f step (Advance now) s).state (h.removal k.0 ∙ k.1))
   leaving_does (Softint i) s g why leaves =
@@ -177,6 +177,8 @@ module _ (texts : List (List ℕ)) (f : ℕ → ℕ) (step : ℕ) (id : ℕ) whe
       open_kept s (does plain texts f step (Offline n) s).state (keeps_offline f step n s) leaves
   leaving_does (Online n) s g why leaves =
       open_kept s (does plain texts f step (Online n) s).state (keeps_online f step n s) leaves
+  leaving_does Suspend s g why leaves = inr leaves
+  leaving_does Resume s g why leaves = inr leaves
 
   pub stopped_does : (x : Step) (s : State) (g : Good s) → refusal_of plain x s ≡ None → Stopped id s
       → Stopped id (does plain texts f step x s).state

@@ -9,7 +9,7 @@ use native.Mathlib.Decide.{ℕ_discrete}
 use Rattle.cyc_level.specs.declared.Event.TheVariants.{Mark, Clear}
 use Rattle.cyc_script.specs.declared.step.Step.{Step}
 use Rattle.cyc_script.specs.declared.step.Step.TheVariants.{Add, Omni, Bind, Unbind, Reprogram, Remove, Advance, Softint, Juggle}
-use Rattle.cyc_script.specs.declared.step.Step.TheVariants.{Offline, Online}
+use Rattle.cyc_script.specs.declared.step.Step.TheVariants.{Offline, Online, Suspend, Resume}
 use Rattle.cyc_model.specs.Acts.{at_own}
 use Rattle.cyc_model.specs.Cpu.{Cpu, others, handler_level_of}
 use Rattle.cyc_model.specs.Moving.{mark_here, clear_here, reprogram_here}
@@ -31,7 +31,7 @@ use Rattle.cyc_model.proofs.Rising.{found}
 use Rattle.cyc_model.proofs.Whole.{same_happen}
 use Rattle.cyc_model.proofs.Serves.{same_serve}
 use Rattle.cyc_model.proofs.Numbers.{numbers_rise, numbers_pass}
-use Rattle.cyc_model.proofs.Refusing.{none_first, is_cpu, is_online, before_never}
+use Rattle.cyc_model.proofs.Refusing.{none_first, is_cpu, is_online, fires_before}
 use Rattle.cyc_model.proofs.Spread.{Good}
 use Rattle.cyc_model.proofs.Calm.{good_clock}
 use Rattle.cyc_model.proofs.Reaching.{well_does}
@@ -116,7 +116,7 @@ module _ (texts : List (List ℕ)) (f : ℕ → ℕ) (step : ℕ) (s : State) (g
       let o = each (begin plain j) (cpus_with j s) s in
       seen_at online_of s (after (Remove name)) (online_removed step (text_in texts name) j o (cpus_with j o.state)
       ∙ each_same online_of (begin plain j) (online_begin j) (cpus_with j s) s) m
-  stays_up (Advance now) why is m = (all_fired 0 now (before_never now why) 0 (online_cpus s) (record s { clock = now })
+  stays_up (Advance now) why is m = (all_fired 0 now (fires_before now s why) 0 (online_cpus s) (record s { clock = now })
       (good_clock now s g) (numbers_rise (λ (c : Cpu). c.online) 0 s.cpus)
       (λ k has. (numbers_pass (λ (c : Cpu). c.online) k s has).0)).online m
   stays_up (Softint i) why is m =
@@ -128,6 +128,8 @@ module _ (texts : List (List ℕ)) (f : ℕ → ℕ) (step : ℕ) (s : State) (g
   stays_up (Juggle n) why is m = seen_at online_of s (after (Juggle n)) (keeps_juggle online_of online_alike f step n s) m
   stays_up (Offline n) why is m = absurd is
   stays_up (Online n) why is m = absurd is
+  stays_up Suspend why is m = refl
+  stays_up Resume why is m = refl
 
   still_up : (n m : ℕ) → m ≢ n → (cpu_of m (after (Offline n))).online ≡ (cpu_of m s).online
   still_up n m far = ap (λ (c : Cpu). c.online) (offline_elsewhere f step n s m far)
@@ -192,6 +194,8 @@ module _ (texts : List (List ℕ)) (f : ℕ → ℕ) (step : ℕ) (s : State) (g
       ups_one u.online n true (after (Online n)) within (long (Online n) why) h
       (λ m far. ap (λ (c : Cpu). c.online) (online_elsewhere f step n s m far))
       (ap (λ (c : Cpu). c.online) (online_there f step n s within))
+  ups_does name Suspend why done u h = here Suspend why tt u.online h
+  ups_does name Resume why done u h = here Resume why tt u.online h
 
   -- where an `offline` left its CPU online
   pub ups_left : (n : ℕ) → refusal_of plain (Offline n) s ≡ None → (cpu_of n (after (Offline n))).online ≡ true

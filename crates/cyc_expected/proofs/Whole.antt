@@ -9,7 +9,7 @@ use Rattle.cyc_model.specs.Questions.{plain}
 use Rattle.cyc_model.specs.State.{State, numbers_from, absent}
 use Rattle.cyc_model.specs.Cpu.{new_cpu}
 use Rattle.cyc_model.specs.Places.{id_of}
-use Rattle.cyc_model.specs.Refusals.{unless}
+use Rattle.cyc_model.specs.Refusals.{refused_at, unless}
 use Rattle.cyc_model.specs.Report.{expired_here}
 use Rattle.cyc_model.specs.Script.{refusal_of, does, steps_from, start, run_of, names_of}
 use Rattle.cyc_model.proofs.Totals.{expired_in}
@@ -18,9 +18,9 @@ use Rattle.cyc_expected.specs.Course.{Told, Idle, told_after, told_by, untold}
 use Rattle.cyc_expected.specs.Expected.{event_of, events_of, clock_after}
 use Rattle.cyc_expected.specs.Way.{is_done, way_from}
 use Rattle.cyc_expected.specs.Expired.{ExpiredAsExpected}
-use Rattle.cyc_expected.proofs.Naming.{Ready, ready_does, names_last, AllWithin, all_within}
+use Rattle.cyc_expected.proofs.Naming.{Ready, ready_does, ready_refused, names_last, AllWithin, all_within}
 use Rattle.cyc_expected.proofs.Ups.{Ups, ups_does}
-use Rattle.cyc_expected.proofs.Follows.{Follows, follows_does, undone, clock_does}
+use Rattle.cyc_expected.proofs.Follows.{Follows, follows_does, follows_refused, undone, clock_does}
 
 module _ (texts : List (List ℕ)) (f : ℕ → ℕ) (name : ℕ) where
   -- the machine that these steps leave, and what is told of them
@@ -48,7 +48,8 @@ module _ (texts : List (List ℕ)) (f : ℕ → ℕ) (name : ℕ) where
           → left (step + 1) xs (does plain texts f step x s).state
           ≡ (told_by (cond b (event_of name s.clock x ∷ events_of name (clock_after x s.clock)
           (way_from f texts (step + 1) xs (does plain texts f step x s).state))
-          (events_of name s.clock (way_from f texts (step + 1) xs (does plain texts f step x s).state))) u).expired
+          (events_of name (clock_after x s.clock)
+          (way_from f texts (step + 1) xs (does plain texts f step x s).state))) u).expired
       done rest true why is =
           let t = (does plain texts f step x s).state in
           let v = told_after (event_of name s.clock x) u in
@@ -61,18 +62,20 @@ module _ (texts : List (List ℕ)) (f : ℕ → ℕ) (name : ℕ) where
           let t = (does plain texts f step x s).state in
           let k = undone texts f step name s h x why is u ups c in
           rest t u (ready_does texts f step s h x in_.0 why)
-          (subst (λ n. AllWithin n xs) (sym (names_last texts f step s h x)) in_.1) k.2 k.0
-          ∙ ap (λ clock. told (step + 1) xs clock t u) k.1
+          (subst (λ n. AllWithin n xs) (sym (names_last texts f step s h x)) in_.1) k.1 k.0
+          ∙ ap (λ clock. told (step + 1) xs clock t u) (clock_does texts f step name s h x)
 
       by : Rest (step + 1) xs → (o : Option Refusal) → refusal_of plain x s ≡ o
-          → left (step + 1) xs (unless o step (does plain texts f step x) s).state
-          ≡ (told_by (cond (not (is_some o) && is_done x (unless o step (does plain texts f step x) s).state)
+          → left (step + 1) xs (unless o step x (does plain texts f step x) s).state
+          ≡ (told_by (cond (not (is_some o) && is_done x (unless o step x (does plain texts f step x) s).state)
           (event_of name s.clock x ∷ events_of name (clock_after x s.clock)
-          (way_from f texts (step + 1) xs (unless o step (does plain texts f step x) s).state))
-          (events_of name s.clock (way_from f texts (step + 1) xs (unless o step (does plain texts f step x) s).state)))
+          (way_from f texts (step + 1) xs (unless o step x (does plain texts f step x) s).state))
+          (events_of name (clock_after x s.clock)
+          (way_from f texts (step + 1) xs (unless o step x (does plain texts f step x) s).state)))
           u).expired
       by rest None why = done rest (is_done x (does plain texts f step x s).state) why refl
-      by rest (Some r) why = rest s u h in_.1 ups c
+      by rest (Some r) why = rest (refused_at x s) u (ready_refused x s h) in_.1 (record { long = ups.long; up = ups.up })
+          (follows_refused x name s u.course u.expired c)
 
 -- ---- the machine as it begins
 

@@ -1,10 +1,10 @@
 -- The definition, computed on worked scripts.
-use Rattle.std.proofs.Common.{◌≡◌, ℕ, Bool, true, false, Some, None, List, [], ◌∷◌, map, refl}
-use Rattle.std.specs.Prelude.{pos, ℤ}
+use Rattle.std.proofs.Common.{◌≡◌, true, false, List, [], ◌∷◌, map, refl}
+use Rattle.std.specs.Prelude.{pos}
 use Rattle.cyc_types.specs.declared.level.Level.TheVariants as level
 use Rattle.cyc_script.specs.declared.step.Step.{Step}
-use Rattle.cyc_script.specs.declared.step.Step.TheVariants.{Remove, Advance, Juggle, Offline, Online}
-use Rattle.cyc_model.proofs.Steps.{add, omni, bind, reprogram, reprogram_on}
+use Rattle.cyc_script.specs.declared.step.Step.TheVariants.{Remove, Advance, Juggle, Offline, Online, Suspend, Resume}
+use Rattle.cyc_model.proofs.Steps.{add, omni, reprogram, reprogram_on}
 use Rattle.cyc_expected.specs.Expected.{Met, expected}
 
 -- an accepted step, and a refused one
@@ -67,3 +67,13 @@ a_component_is_set = refl
 refused_steps_are_nothing : expected 1 (ok (add level.High 0 10 10) ∷ no (reprogram 0 (pos 1000)) ∷ no (Remove 0) ∷
     ok (Advance 20) ∷ []) 0 ≡ 2
 refused_steps_are_nothing = refl
+
+-- one that is refused sets the clock all the same: a start of 0 is aligned to 30
+a_refused_advance_sets_the_clock : expected 1 (ok Suspend ∷ no (Advance 25) ∷ ok (add level.High 0 0 10) ∷ ok Resume ∷
+    ok (Advance 30) ∷ []) 0 ≡ 1
+a_refused_advance_sets_the_clock = refl
+
+-- the next one that is accepted makes all that is due by then
+one_fire_makes_all_that_was_due : expected 1 (ok (add level.High 0 10 10) ∷ ok Suspend ∷ no (Advance 35) ∷ no Suspend ∷
+    ok Resume ∷ no Resume ∷ ok (Advance 36) ∷ []) 0 ≡ 3
+one_fire_makes_all_that_was_due = refl

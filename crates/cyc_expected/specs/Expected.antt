@@ -1,8 +1,9 @@
 -- The expirations of a name that a script makes, told from its words alone, and from which of them were accepted.
-use Rattle.std.specs.Prelude.{ℕ, ◌==◌, Bool, true, false, if◌then◌else◌, List, [], ◌∷◌, ◌++◌, Option, Some, None}
+use Rattle.std.specs.Prelude.{ℕ, ◌==◌, Bool, if◌then◌else◌, List, [], ◌∷◌, Option, Some, None}
 use Rattle.cyc_script.specs.declared.step.Step.{Step}
 use Rattle.cyc_script.specs.declared.step.Step.TheVariants.{Add, Omni, Bind, Unbind, Reprogram, Remove, Advance, Softint, Juggle}
-use Rattle.cyc_script.specs.declared.step.Step.TheVariants.{Offline, Online}
+use Rattle.cyc_script.specs.declared.step.Step.TheVariants.{Offline, Online, Suspend, Resume}
+use Rattle.cyc_script.specs.WellFormed.{moment_after}
 use Rattle.cyc_model.specs.Refusals.{magnitude}
 use Rattle.cyc_model.specs.Omni.{everywhere}
 use Rattle.cyc_expected.specs.Course.{Event, Begins, BeginsOnAll, IsSet, IsSetOn, Ends, Fires, Leaves, Returns, Passes, untold}
@@ -31,18 +32,19 @@ event_of name clock (Bind b) = Passes
 event_of name clock (Unbind own) = Passes
 event_of name clock (Softint i) = Passes
 event_of name clock (Juggle n) = Passes
+event_of name clock Suspend = Passes
+event_of name clock Resume = Passes
 
--- the clock after an accepted step
+-- the clock after a step, accepted or not
 abbrev pub clock_after : Step → ℕ → ℕ
-clock_after (Advance now) clock = now
-clock_after step clock = clock
+clock_after step clock = moment_after clock step
 
--- what the accepted steps are to it, in order; a step that was refused is nothing
+-- what the accepted steps are to it, in order; a step that was refused is nothing, but that an `advance` sets the clock
 abbrev pub events_of : ℕ → ℕ → List Met → List Event
 events_of name clock [] = []
 events_of name clock (m ∷ ms) = if m.accepted
     then event_of name clock m.step ∷ events_of name (clock_after m.step clock) ms
-    else events_of name clock ms
+    else events_of name (clock_after m.step clock) ms
 
 -- the expirations of a name in a script over so many CPUs, whose steps were met so: none before its `add` or `omni`, then
 -- those that are due at each `advance`, until its `remove` is accepted
