@@ -66,7 +66,8 @@ before_never now h = leb-false never now (not_when (nat_le never now) BadNow h)
 -- an advance is accepted before never, where the system isn't suspended
 pub fires_before : (now : ℕ) (s : State) → advance_refusal now s ≡ None → now < never
 fires_before now s h =
-    let later = none_first (when s.suspended Suspended) (bad_now now ∷ []) h in before_never now (none_first (bad_now now) [] later.1).0
+    let later = none_first (when s.suspended Suspended) (bad_now now ∷ []) h in
+    before_never now (none_first (bad_now now) [] later.1).0
 
 pub not_suspended : (now : ℕ) (s : State) → advance_refusal now s ≡ None → s.suspended ≡ false
 not_suspended now s h = not_when s.suspended Suspended (none_first (when s.suspended Suspended) (bad_now now ∷ []) h).0

@@ -25,8 +25,8 @@ use Rattle.cyc_model.specs.Suspended.{IsNoExpiration, FinishFollows, NoneExpires
 use Rattle.cyc_model.specs.Suspended.{NothingExpiresSuspended}
 use Rattle.cyc_model.proofs.Refusing.{not_suspended}
 use Rattle.cyc_model.proofs.Shaped.{IsIdle, IsNoFire, AllEvents, acts_shaped}
-use Rattle.cyc_model.proofs.Still.{still_bind, still_unbind, still_enters, juggle_still, offline_still, still_online, remove_still}
-use Rattle.cyc_model.proofs.Still.{softint_still}
+use Rattle.cyc_model.proofs.Still.{still_bind, still_unbind, still_enters, juggle_still, offline_still, still_online}
+use Rattle.cyc_model.proofs.Still.{remove_still, softint_still}
 
 -- ---- the acts
 

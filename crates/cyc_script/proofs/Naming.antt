@@ -20,8 +20,8 @@ use Rattle.cyc_script.specs.Parameters.{is_name, shaped, name_in, name_of, level
 use Rattle.cyc_script.specs.Parameters.{unsigned_of}
 use Rattle.cyc_script.specs.Steps.{accepted, first_context, numbered, step_of, steps_of}
 use Rattle.cyc_script.specs.Words.{Form, introduces, refers, advances, nameless, ◌>>=◌, add_of, omni_of, bind_of, unbind_of}
-use Rattle.cyc_script.specs.Words.{reprogram_of, remove_of, advance_of, softint_of, only_cpu, without_parameters, form_of, form_of_items}
-use Rattle.cyc_script.specs.Words.{form_of_value, list_of}
+use Rattle.cyc_script.specs.Words.{reprogram_of, remove_of, advance_of, softint_of, only_cpu, without_parameters, form_of}
+use Rattle.cyc_script.specs.Words.{form_of_items, form_of_value, list_of}
 use Rattle.cyc_script.proofs.Numbers.{is_new}
 
 -- ---- one name more
