@@ -19,7 +19,7 @@ use Rattle.cyc_cpu.specs.Removal.{Waits}
 use Rattle.cyc_cpu.specs.Moving.{Inquires, WhyNotTaken}
 use Rattle.cyc_cpu.specs.Soft.{raise_tables, Interrupts}
 use Rattle.cyc_cpu.specs.Calls.{CpuCall, Fire, SoftInterrupt, Add, Place, Reprogram, AskPending, AskTotals, AskRoom, Reserve}
-use Rattle.cyc_cpu.specs.Calls.{Widen, BeginRemove, PollRemove, TakeNow, AskSettled, Changes, Does}
+use Rattle.cyc_cpu.specs.Calls.{Widen, BeginRemove, PollRemove, TakeNow, AskSettled, Suspend, Resume, Changes, Does}
 use Rattle.cyc_model.specs.Acts.{at_own, calls_of}
 use Rattle.cyc_model.specs.Cpu.{Cyclic, Cpu, here, nothing_here, then_here, handler_level_of}
 use Rattle.cyc_model.specs.Moving.{bank_for, must_grow, switch_here, widen_here, place_here, enter_here, take_here, mark_here}
@@ -56,6 +56,9 @@ waited : (online : Bool) (id : ℕ) (v w : CpuView Tables) → Waits raise_table
 waited online id v w p = shown_same online v w p.cyclics p.kept.size p.kept.removal
     (waiting_level (same_level Lock p.cyclic.timer.level) id v.lock w.lock p.goes.0)
     (waiting_level (same_level Low p.cyclic.timer.level) id v.low w.low p.goes.1)
+
+marked : (online mark : Bool) (v w : CpuView Tables) → w ≡ record v { suspended = mark } → shown_cpu online w ≡ shown_cpu online v
+marked online mark v w is = ap (shown_cpu online) is
 
 same : (online : Bool) (v w : CpuView Tables) → w ≡ v → shown_cpu online w ≡ shown_cpu online v
 same online v w is = ap (shown_cpu online) is
@@ -293,6 +296,18 @@ is_here handler n online (AskSettled true) s t rising rises goes (d, calls) = re
 is_here handler n online (AskSettled false) s t rising rises goes (d, calls) = record {
   index = 0;
   cpu = inquired online s.cpu t.cpu d.0;
+  free = λ soft. tt;
+  called = λ q. nothing handler.count s.calls t.calls q calls;
+}
+is_here handler n online Suspend s t rising rises goes (d, calls) = record {
+  index = 0;
+  cpu = marked online true s.cpu t.cpu d;
+  free = λ soft. tt;
+  called = λ q. nothing handler.count s.calls t.calls q calls;
+}
+is_here handler n online Resume s t rising rises goes (d, calls) = record {
+  index = 0;
+  cpu = marked online false s.cpu t.cpu d;
   free = λ soft. tt;
   called = λ q. nothing handler.count s.calls t.calls q calls;
 }

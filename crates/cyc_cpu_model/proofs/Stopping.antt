@@ -1,10 +1,10 @@
 -- A fire and a soft interrupt that were stopped keep what is tied.
-use Rattle.std.proofs.Common.{◌≡◌, ℕ, Bool, true, false, List, [], ◌∷◌, ◌++◌, map, Option, Some, None, IsSome, inl, inr, refl, ap}
+use Rattle.std.proofs.Common.{ℕ, Bool, true, false, List, [], ◌∷◌, ◌++◌, map, inl, inr, ap}
 use Rattle.std.proofs.Common.{sym, ◌∙◌, subst}
-use Rattle.std.specs.Prelude.{⊤, ◌==◌, Ok, Err}
+use Rattle.std.specs.Prelude.{⊤, ◌==◌, Err}
 use Rattle.std.specs.List.{FoldsTo}
 use Rattle.cyc_types.specs.declared.Calls.{Ghosts as Calls}
-use Rattle.cyc_types.specs.Draining.{DrainCall, Takes, Finishes, hand_after}
+use Rattle.cyc_types.specs.Draining.{DrainCall, Takes, Finishes}
 use Rattle.cyc_types.specs.Runs.{DrainGoes}
 use Rattle.cyc_types.specs.Levels.{at_level}
 use Rattle.cyc_types.specs.declared.level.Level.TheVariants.{High}
@@ -16,15 +16,13 @@ use Rattle.cyc_level.specs.Level.{SoftLevel}
 use Rattle.cyc_core.specs.Tables.{Tables, level_of}
 use Rattle.cyc_core.specs.DrainingSide.{Drains, take_events}
 use Rattle.cyc_core.specs.Reached.{Happens}
-use Rattle.cyc_types.specs.Expirations.{Expiration, expirations}
-use Rattle.cyc_timers.specs.Rows.{timers as timed}
+use Rattle.cyc_types.specs.Expirations.{Expiration}
 use Rattle.cyc_timers.specs.declared.fire.FireRefused.{FireRefused}
 use Rattle.cyc_soft.specs.declared.SoftRefused.{SoftRefused}
-use Rattle.cyc_soft.specs.Serving.{Served, way_of, look_of, hand_left}
 use Rattle.cyc_cpu.specs.Cpu.{CpuView, Running, HasRisingIds}
 use Rattle.cyc_cpu.specs.Soft.{raise_tables, drain_tables, end_at, SoftKept, Interrupts}
-use Rattle.cyc_cpu.specs.Calls.{CpuCall, Fire, SoftInterrupt, Does, Stopped}
-use Rattle.cyc_model.specs.Cpu.{Cyclic, handler_level_of}
+use Rattle.cyc_cpu.specs.Calls.{CpuCall, Fire, SoftInterrupt, Does}
+use Rattle.cyc_model.specs.Cpu.{Cyclic}
 use Rattle.cyc_model.specs.Serving.{level_at}
 use Rattle.cyc_cpu_model.specs.Shown.{shown, shown_cpu}
 use Rattle.cyc_cpu_model.specs.Tied.{HasOwn, IsTied}

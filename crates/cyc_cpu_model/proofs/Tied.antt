@@ -102,6 +102,8 @@ rises handler (PollRemove None) s t goes (inr (id, is_open, waits), calls) risin
 rises handler (TakeNow id (Ok got)) s t goes ((still, (x, counts, is, polled, leaves)), calls) rising =
     subst HasRisingIds (sym leaves.cyclics) (rises_left s.cpu.cyclics leaves.place rising)
 rises handler (TakeNow id (Err e)) s t goes (d, calls) rising = not_taken id e s.cpu t.cpu d rising
+rises handler Suspend s t goes (d, calls) rising = same_cyclics s.cpu t.cpu (ap (λ (x : CpuView Tables). x.cyclics) d) rising
+rises handler Resume s t goes (d, calls) rising = same_cyclics s.cpu t.cpu (ap (λ (x : CpuView Tables). x.cyclics) d) rising
 rises handler (AskSettled true) s t goes (d, calls) rising = same_cyclics s.cpu t.cpu d.0.cyclics rising
 rises handler (AskSettled false) s t goes (d, calls) rising = same_cyclics s.cpu t.cpu d.0.cyclics rising
 
