@@ -21,6 +21,7 @@ use Rattle.cyc_cpu_laws.proofs.Stills.{changes_still}
 use Rattle.cyc_agreement.specs.Cpus.{CpusView, IsCpu, ChangesAt}
 use Rattle.cyc_agreement.proofs.CpuSpots.{one_cpu, cpu_there, cpu_after}
 use Rattle.cyc_system.specs.System.{RunningSystem}
+use Rattle.cyc_system.specs.Calls.{Suspend, Resume}
 use Rattle.cyc_system.specs.Calls.{SystemCall, Changes, Does, Add, AddOmni, Bind, BeginRemove, PollRemove, AskTotals, Reprogram}
 use Rattle.cyc_system.specs.Calls.{ReprogramOn, Juggle, Offline, Online, FireOne, SoftInterrupt}
 use Rattle.cyc_system_laws.specs.Parts.{CpusCall, OnCpu, SetOnline, DoesPart}
@@ -135,6 +136,8 @@ module _ {C R : Type 0} (handler : Calls C) (firing : Raise R)
   call_calms s t (BeginRemove own answer) not d = quietly s t (BeginRemove own answer) d.0
   call_calms s t (PollRemove own answer) not d = quietly s t (PollRemove own answer) d.0
   call_calms s t (AskTotals own answer) not d = quietly s t (AskTotals own answer) d.0
+  call_calms s t (Suspend answer) not d = quietly s t (Suspend answer) d.0
+  call_calms s t (Resume answer) not d = quietly s t (Resume answer) d.0
   call_calms s t (Reprogram own moment answer) not d = quietly s t (Reprogram own moment answer) d.0
   call_calms s t (ReprogramOn own m moment answer) not d = quietly s t (ReprogramOn own m moment answer) d.0
   call_calms s t (Juggle m answer) not d = quietly s t (Juggle m answer) d.0

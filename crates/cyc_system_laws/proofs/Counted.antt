@@ -78,7 +78,7 @@ module _ {R : Type 0} (firing : Raise R) (g : Sent
   abbrev pub all_of : SystemView R → ℕ
   all_of s = on_cpus f id s.cpus + in_records s.records
 
-  idly : (way : List CallOn) (s t : SystemView R) → AreIdle way → OnlyWorks firing way s t → all_of t ≡ all_of s
+  pub idly : (way : List CallOn) (s t : SystemView R) → AreIdle way → OnlyWorks firing way s t → all_of t ≡ all_of s
   idly way s t idle (works, records, last) = let a = idle_same f id firing way s.cpus t.cpus idle works in
       let b = ap in_records records in omega (arith, a, b)
 

@@ -1,4 +1,7 @@
 -- The counts of an id over all CPUs and all stays, over any call.
+use Rattle.cyc_agreement.specs.Suspending.{on_each}
+use Rattle.cyc_cpu.specs.Calls.{Suspend as CpuSuspend, Resume as CpuResume}
+use Rattle.cyc_system_laws.proofs.Idle.{idle_each}
 use Rattle.std.proofs.Common.{◌≡◌, ◌∙◌, ℕ, ◌+◌, ◌<◌, ◌⊎◌, inl, inr, Bool, true, false, Option, Some, None, Result, Ok, Err, List}
 use Rattle.std.proofs.Common.{[], ◌∷◌, length, refl, sym, ap, subst, arith}
 use Rattle.std.specs.Prelude.{sum_by, nat_le}
@@ -27,10 +30,10 @@ use Rattle.cyc_system.proofs.Receipts.{begun_kept, poll_kept}
 use Rattle.cyc_system.specs.Juggling.{single_ids, last_cpu}
 use Rattle.cyc_system.specs.Online.{online_cpu}
 use Rattle.cyc_system.specs.Calls.{SystemCall, Changes, Add, AddOmni, Bind, BeginRemove, PollRemove, AskTotals, Reprogram}
-use Rattle.cyc_system.specs.Calls.{ReprogramOn, Juggle, Offline, Online, FireOne, SoftInterrupt}
+use Rattle.cyc_system.specs.Calls.{ReprogramOn, Juggle, Offline, Online, FireOne, SoftInterrupt, Suspend, Resume}
 use Rattle.cyc_system_laws.specs.Keeping.{EndsRemoval, over_stays}
 use Rattle.cyc_system_laws.specs.Sound.{IsSound}
-use Rattle.cyc_system_laws.proofs.Counted.{all_of, binds_same, unbinds_same, reprograms_same, adds_same, omni_same, turns_same}
+use Rattle.cyc_system_laws.proofs.Counted.{all_of, idly, binds_same, unbinds_same, reprograms_same, adds_same, omni_same, turns_same}
 use Rattle.cyc_system_laws.proofs.Counted.{turns_sixteen, leaves_same, online_same}
 use Rattle.cyc_system_laws.proofs.Found.{stays_found, records_found, untouched_stays}
 
@@ -144,5 +147,11 @@ module _ {R : Type 0} (firing : Raise R) (g : Sent
       by_sums s t a b (refused_or _ _ answer s t _ d
       (λ clear k. online_same firing g nil adds id n now answer s t
       (low n s (online_cpu n s ∷ bad_now now ∷ []) a clear) a.fit.sixteen k))
+  counts_same s t (Suspend answer) a b d open_still = by_sums s t a b
+      (refused_or _ _ answer s t _ d (λ clear k. idly firing g nil adds id (on_each CpuSuspend (length s.cpus.cpus)) s t
+      (idle_each CpuSuspend (length s.cpus.cpus) tt) k.1))
+  counts_same s t (Resume answer) a b d open_still = by_sums s t a b
+      (refused_or _ _ answer s t _ d (λ clear k. idly firing g nil adds id (on_each CpuResume (length s.cpus.cpus)) s t
+      (idle_each CpuResume (length s.cpus.cpus) tt) k.1))
   counts_same s t (FireOne n now answer) a b d open_still = absurd d
   counts_same s t (SoftInterrupt n level budget answer) a b d open_still = absurd d

@@ -9,6 +9,7 @@ use Rattle.cyc_timers.specs.Rows.{Cyclic}
 use Rattle.cyc_cpu.specs.declared.moving.Taken.{Taken}
 use Rattle.cyc_cpu.specs.Cpu.{CpuView, with_moment, cyclic_with}
 use Rattle.cyc_cpu.specs.Moving.{IsTaken}
+use Rattle.cyc_cpu.specs.Calls.{Suspend, Resume}
 use Rattle.cyc_cpu.specs.Calls.{CpuCall, Changes, Place, TakeNow, Reprogram, AskPending, AskTotals, AskRoom, Reserve, Widen}
 use Rattle.cyc_system.specs.Cpus.{CpusView, CallOn, DoesAt, Works}
 use Rattle.cyc_system.proofs.Lists.{eq_true}
@@ -44,6 +45,8 @@ module _ (f : Taken → ℕ) (id : ℕ) where
   Fixed (AskRoom more answer) = Unit {0}
   Fixed (Reserve more answer) = Unit {0}
   Fixed (Widen more) = Unit {0}
+  Fixed Suspend = Unit {0}
+  Fixed Resume = Unit {0}
   Fixed call = ⊥
 
   abbrev pub brought : CpuCall → ℕ
@@ -112,6 +115,8 @@ module _ (f : Taken → ℕ) (id : ℕ) where
     flow x y (Reserve more (Ok done)) fixed d = stay_here x y d.0.cyclics
     flow x y (Reserve more (Err e)) fixed d = stay_here x y d.0.cyclics
     flow x y (Widen more) fixed d = stay_here x y d.1.cyclics
+    flow x y Suspend fixed d = stay_here x y (ap (λ (z : CpuView R). z.cyclics) d)
+    flow x y Resume fixed d = stay_here x y (ap (λ (z : CpuView R). z.cyclics) d)
     flow x y call fixed d = absurd fixed
 
     pub flow_at : (v w : CpusView R) (c : CallOn) → Fixed c.call → DoesAt firing v c w

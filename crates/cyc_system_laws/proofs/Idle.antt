@@ -1,8 +1,10 @@
 -- Calls that bring nothing to a CPU, and take nothing.
-use Rattle.std.proofs.Common.{◌≡◌, ℕ, Some, Ok, Err, List, [], ◌∷◌, ◌++◌, map, refl, sym, ap, arith}
+use Rattle.cyc_agreement.specs.Suspending.{on_each}
+use Rattle.std.proofs.Common.{zero, suc, ◌≡◌, ℕ, Some, Ok, Err, List, [], ◌∷◌, ◌++◌, map, refl, sym, ap, arith}
 use Rattle.cyc_types.specs.declared.Raise.{Ghosts as Raise}
 use Rattle.cyc_types.specs.declared.refusal.Refusal.{Refusal}
 use Rattle.cyc_cpu.specs.declared.moving.Taken.{Taken}
+use Rattle.cyc_cpu.specs.Calls.{Suspend, Resume}
 use Rattle.cyc_cpu.specs.Calls.{CpuCall, AskPending, AskTotals, AskRoom, Reserve, Widen}
 use Rattle.cyc_system.specs.Cpus.{CpusView, CallOn, on, Works}
 use Rattle.cyc_system.specs.Reserving.{rooms, reserves, ReservesEach}
@@ -18,6 +20,8 @@ IsIdle (AskTotals own answer) = Unit {0}
 IsIdle (AskRoom more answer) = Unit {0}
 IsIdle (Reserve more answer) = Unit {0}
 IsIdle (Widen more) = Unit {0}
+IsIdle Suspend = Unit {0}
+IsIdle Resume = Unit {0}
 IsIdle call = ⊥
 
 abbrev pub AreIdle : List CallOn → Type 0
@@ -40,6 +44,10 @@ pub idle_quiet : (n : ℕ) (ids : List ℕ) → AreIdle (quiet n ids)
 idle_quiet n [] = tt
 idle_quiet n (x ∷ xs) = (tt, idle_quiet n xs)
 
+pub idle_each : (call : CpuCall) (n : ℕ) → IsIdle call → AreIdle (on_each call n)
+idle_each call zero idle = tt
+idle_each call (suc n) idle = idle_on (on_each call n) (on n call ∷ []) (idle_each call n idle) (idle, tt)
+
 pub idle_asked : (own : ℕ) (way : List Counted) → AreIdle (map (asked own) way)
 idle_asked own [] = tt
 idle_asked own (a ∷ way) = (tt, idle_asked own way)
@@ -51,6 +59,8 @@ module _ (f : Taken → ℕ) (id : ℕ) where
   idle_fixed (AskRoom more answer) idle = (tt, refl, refl)
   idle_fixed (Reserve more answer) idle = (tt, refl, refl)
   idle_fixed (Widen more) idle = (tt, refl, refl)
+  idle_fixed Suspend idle = (tt, refl, refl)
+  idle_fixed Resume idle = (tt, refl, refl)
   idle_fixed call idle = absurd idle
 
   module _ {R : Type 0} (firing : Raise R) where

@@ -1,4 +1,7 @@
 -- The stays of an id are the same after any call that doesn't touch them.
+use Rattle.cyc_agreement.specs.Suspending.{on_each}
+use Rattle.cyc_cpu.specs.Calls.{Suspend as CpuSuspend, Resume as CpuResume}
+use Rattle.cyc_system_laws.proofs.Idle.{idle_each}
 use Rattle.std.proofs.Common.{◌≡◌, ◌≢◌, ◌∙◌, ◌==◌, ℕ, suc, ◌+◌, ◌⊎◌, inl, inr, Bool, true, false, cond, Option, Some, None}
 use Rattle.std.proofs.Common.{Result, Ok, Err, List, [], ◌∷◌, ◌++◌, length, filter, refl, sym, ap, subst, arith}
 use Rattle.std.specs.Prelude.{not}
@@ -34,7 +37,7 @@ use Rattle.cyc_system.specs.GoingOffline.{quiet, Retires, Leaves}
 use Rattle.cyc_system.specs.Omni.{AddsOmni, entering_each}
 use Rattle.cyc_system.specs.Online.{GoesOnline, staying, is_staying, returns, return_at}
 use Rattle.cyc_system.specs.Calls.{SystemCall, Changes, Add, AddOmni, Bind, BeginRemove, PollRemove, AskTotals, Reprogram}
-use Rattle.cyc_system.specs.Calls.{ReprogramOn, Juggle, Offline, Online, FireOne, SoftInterrupt}
+use Rattle.cyc_system.specs.Calls.{ReprogramOn, Juggle, Offline, Online, FireOne, SoftInterrupt, Suspend, Resume}
 use Rattle.cyc_system_laws.specs.Sound.{IsSound}
 use Rattle.cyc_system_laws.specs.Keeping.{over_stays, TouchesStays}
 use Rattle.cyc_system_laws.proofs.Flow.{AllFixed, all_brought, all_taken, on_cpus, flows, flow_at}
@@ -247,5 +250,9 @@ module _ {R : Type 0} (firing : Raise R) (f : Taken → ℕ) (id : ℕ) where
       ∙ turns_stay n (single_ids n s) report s moved moves)))
   stays_kept s t (Online n now answer) a b d ne = by_sums s t a b
       (refused_or _ _ answer s t _ d (λ k. online_stays n now answer s t a.fit.rising ne k))
+  stays_kept s t (Suspend answer) a b d ne = by_sums s t a b (refused_or _ _ answer s t _ d
+      (λ k. idle_same f id firing (on_each CpuSuspend (length s.cpus.cpus)) s.cpus t.cpus (idle_each CpuSuspend (length s.cpus.cpus) tt) k.1.0))
+  stays_kept s t (Resume answer) a b d ne = by_sums s t a b (refused_or _ _ answer s t _ d
+      (λ k. idle_same f id firing (on_each CpuResume (length s.cpus.cpus)) s.cpus t.cpus (idle_each CpuResume (length s.cpus.cpus) tt) k.1.0))
   stays_kept s t (FireOne n now answer) a b d ne = absurd d
   stays_kept s t (SoftInterrupt n level budget answer) a b d ne = absurd d

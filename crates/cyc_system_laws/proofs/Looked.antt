@@ -39,7 +39,7 @@ use Rattle.cyc_system.specs.GoingOffline.{Retires, Leaves}
 use Rattle.cyc_system.specs.Omni.{AddsOmni}
 use Rattle.cyc_system.specs.Online.{GoesOnline, is_staying, after_return}
 use Rattle.cyc_system.specs.Calls.{SystemCall, Changes, Add, AddOmni, Bind, BeginRemove, PollRemove, AskTotals, Reprogram}
-use Rattle.cyc_system.specs.Calls.{ReprogramOn, Juggle, Offline, Online, FireOne, SoftInterrupt}
+use Rattle.cyc_system.specs.Calls.{ReprogramOn, Juggle, Offline, Online, FireOne, SoftInterrupt, Suspend, Resume}
 use Rattle.cyc_system_laws.specs.Keeping.{TouchesRecord}
 
 -- a change that neither the test nor the measure sees
@@ -239,5 +239,7 @@ module _ {R B : Type 0} (firing : Raise R) (h : Record → B) (none : B)
       (λ k. (let (report, moved, moves, rest) = k in leaves_look n report answer moved t rest
       ∙ turns_look n (single_ids n s) report s moved rising moves))
   look_kept s t (Online n now answer) rising d other = refused_or _ _ answer s t _ d (λ k. online_look n now answer s t k)
+  look_kept s t (Suspend answer) rising d other = refused_or _ _ answer s t _ d (λ k. looked_same s t k.1.1)
+  look_kept s t (Resume answer) rising d other = refused_or _ _ answer s t _ d (λ k. looked_same s t k.1.1)
   look_kept s t (FireOne n now answer) rising d other = absurd d
   look_kept s t (SoftInterrupt n level budget answer) rising d other = absurd d

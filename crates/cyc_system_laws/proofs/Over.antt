@@ -32,6 +32,7 @@ use Rattle.cyc_system.specs.Polling.{Polled, PollsOn, PollsRemoval}
 use Rattle.cyc_system.specs.RemovalLaws.{IsForgotten}
 use Rattle.cyc_system.proofs.Forgetting.{was_there, begins_forgotten, polls_forgotten}
 use Rattle.cyc_system.proofs.Folds.{folds_keep}
+use Rattle.cyc_system.specs.Calls.{Suspend, Resume}
 use Rattle.cyc_system.specs.Calls.{SystemCall, Changes, Does, Add, AddOmni, Bind, BeginRemove, PollRemove, AskTotals, Reprogram}
 use Rattle.cyc_system.specs.Calls.{ReprogramOn, Juggle, Offline, Online, FireOne, SoftInterrupt}
 use Rattle.cyc_system_laws.specs.Gone.{IsOver}
@@ -114,6 +115,8 @@ module _ {C R : Type 0} (handler : Calls C) (firing : Raise R)
   does_away s t (BeginRemove own answer) d a = quietly s t (BeginRemove own answer) d a
   does_away s t (PollRemove own answer) d a = quietly s t (PollRemove own answer) d a
   does_away s t (AskTotals own answer) d a = quietly s t (AskTotals own answer) d a
+  does_away s t (Suspend answer) d a = quietly s t (Suspend answer) d a
+  does_away s t (Resume answer) d a = quietly s t (Resume answer) d a
   does_away s t (Reprogram own moment answer) d a = quietly s t (Reprogram own moment answer) d a
   does_away s t (ReprogramOn own n moment answer) d a = quietly s t (ReprogramOn own n moment answer) d a
   does_away s t (Juggle n answer) d a = quietly s t (Juggle n answer) d a

@@ -1,4 +1,6 @@
 -- Each call of a system is made of calls on its CPUs.
+use Rattle.cyc_agreement.specs.Suspending.{on_each}
+use Rattle.cyc_cpu.specs.Calls.{Suspend as CpuSuspend, Resume as CpuResume}
 use Rattle.std.proofs.Common.{◌≡◌, ◌≢◌, ◌∙◌, ℕ, zero, suc, ◌≤◌, ◌⊎◌, inl, inr, Bool, true, false, cond, All, Option, Some, None}
 use Rattle.std.proofs.Common.{Result, Ok, Err, List, [], ◌∷◌, ◌++◌, length, map, get_or, slice_set, refl, sym, ap, subst, arith}
 use Rattle.std.specs.Prelude.{filter, remove}
@@ -45,7 +47,7 @@ use Rattle.cyc_system.specs.GoingOffline.{quiet, Retires, Leaves}
 use Rattle.cyc_system.specs.Omni.{AddsOmni, entering_each}
 use Rattle.cyc_system.specs.Online.{GoesOnline, staying, is_staying, returns, return_at, after_return}
 use Rattle.cyc_system.specs.Calls.{SystemCall, Changes, Add, AddOmni, Bind, BeginRemove, PollRemove, AskTotals, Reprogram}
-use Rattle.cyc_system.specs.Calls.{ReprogramOn, Juggle, Offline, Online, FireOne, SoftInterrupt}
+use Rattle.cyc_system.specs.Calls.{ReprogramOn, Juggle, Offline, Online, FireOne, SoftInterrupt, Suspend, Resume}
 use Rattle.cyc_system_laws.specs.Parts.{OnCpu, SetOnline, DoesPart, IsWithout, IsMadeOf}
 
 -- ---- records without an id
@@ -113,6 +115,10 @@ Outs id (c ∷ way) = PutsNot id c.call × Outs id way
 outs_on : (id : ℕ) (xs ys : List CallOn) → Outs id xs → Outs id ys → Outs id (xs ++ ys)
 outs_on id [] ys a b = b
 outs_on id (x ∷ xs) ys a b = (a.0, outs_on id xs ys a.1 b)
+
+outs_each : (id : ℕ) (call : CpuCall) (n : ℕ) → PutsNot id call → Outs id (on_each call n)
+outs_each id call zero puts = tt
+outs_each id call (suc n) puts = outs_on id (on_each call n) (on n call ∷ []) (outs_each id call n puts) (puts, tt)
 
 outs_rooms : (id more : ℕ) (ns : List ℕ) → Outs id (rooms more ns)
 outs_rooms id more [] = tt
@@ -467,5 +473,9 @@ module _ {R : Type 0} (firing : Raise R) where
       (λ g. (let (report, moved, moves, rest) = g in
       made_then s moved t (turns n (single_ids n s) report s moved moves) (leaves n report answer moved t rest)))
   made_of s t (Online n now answer) d = refused_or _ _ answer s t _ d (λ g. made_returns n now answer s t g)
+  made_of s t (Suspend answer) d = refused_or _ _ answer s t _ d
+      (λ g. made_only s t (on_each CpuSuspend (length s.cpus.cpus)) (λ q. outs_each q CpuSuspend (length s.cpus.cpus) tt) (g.1))
+  made_of s t (Resume answer) d = refused_or _ _ answer s t _ d
+      (λ g. made_only s t (on_each CpuResume (length s.cpus.cpus)) (λ q. outs_each q CpuResume (length s.cpus.cpus) tt) (g.1))
   made_of s t (FireOne n now answer) d = absurd d
   made_of s t (SoftInterrupt n level budget answer) d = absurd d

@@ -12,7 +12,7 @@ use Rattle.cyc_system_laws.specs.Moved.{OnlyAsked}
 
 module _ {R : Type 0} where
   same_cpu : (x : CpuView R) → SameCpu x x
-  same_cpu x = record { removal = refl; size = refl; room = refl; most = refl }
+  same_cpu x = record { removal = refl; size = refl; room = refl; most = refl; suspended = refl }
 
   cpu_on : (x y z : CpuView R) → SameCpu x y → SameCpu y z → SameCpu x z
   cpu_on x y z a b = record {
@@ -21,6 +21,8 @@ module _ {R : Type 0} where
     room = b.room ∙ a.room;
     most = b.most
         ∙ a.most;
+    suspended = b.suspended
+        ∙ a.suspended;
   }
 
   not_asked : (v : CpusView R) → OnlyAsked v v
