@@ -210,6 +210,8 @@ module _ {C R : Type 0} (handler : Calls C)
   step_even s t (Make (PollRemove own (Ok None))) d a b ready none = quietly s t (PollRemove own (Ok None)) a b d (λ x. x)
   step_even s t (Make (PollRemove own (Err e))) d a b ready none = quietly s t (PollRemove own (Err e)) a b d (λ x. x)
   step_even s t (Make (AskTotals own answer)) d a b ready none = quietly s t (AskTotals own answer) a b d (λ x. x)
+  step_even s t (Make (Suspend answer)) d a b ready none = quietly s t (Suspend answer) a b d (λ x. x)
+  step_even s t (Make (Resume answer)) d a b ready none = quietly s t (Resume answer) a b d (λ x. x)
   step_even s t (Make (Reprogram own moment answer)) d a b ready none = quietly s t (Reprogram own moment answer) a b d (λ x. x)
   step_even s t (Make (ReprogramOn own n moment answer)) d a b ready none = quietly s t (ReprogramOn own n moment answer) a b d
       (λ x. x)
@@ -358,6 +360,8 @@ module _ {C R : Type 0} (handler : Calls C)
   step_over s t (Make (BeginRemove own answer)) (d, e) a ready o = over_changed s t (BeginRemove own answer) (d, refl) d e o
   step_over s t (Make (PollRemove own answer)) (d, e) a ready o = over_changed s t (PollRemove own answer) (d, refl) d e o
   step_over s t (Make (AskTotals own answer)) (d, e) a ready o = over_changed s t (AskTotals own answer) (d, refl) d e o
+  step_over s t (Make (Suspend answer)) (d, e) a ready o = over_changed s t (Suspend answer) (d, refl) d e o
+  step_over s t (Make (Resume answer)) (d, e) a ready o = over_changed s t (Resume answer) (d, refl) d e o
   step_over s t (Make (Reprogram own moment answer)) (d, e) a ready o =
       over_changed s t (Reprogram own moment answer) (d, refl) d e o
   step_over s t (Make (ReprogramOn own n moment answer)) (d, e) a ready o = over_changed s t
@@ -436,6 +440,8 @@ module _ {C R : Type 0} (handler : Calls C)
   ends s u (Make (AddOmni level when skew now answer)) r d a e = absurd (none_some e)
   ends s u (Make (Bind own cpu answer)) r d a e = absurd (none_some e)
   ends s u (Make (AskTotals own answer)) r d a e = absurd (none_some e)
+  ends s u (Make (Suspend answer)) r d a e = absurd (none_some e)
+  ends s u (Make (Resume answer)) r d a e = absurd (none_some e)
   ends s u (Make (Reprogram own moment answer)) r d a e = absurd (none_some e)
   ends s u (Make (ReprogramOn own n moment answer)) r d a e = absurd (none_some e)
   ends s u (Make (Juggle n answer)) r d a e = absurd (none_some e)

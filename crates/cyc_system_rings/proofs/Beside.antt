@@ -162,6 +162,8 @@ module _ {R : Type 0} (firing : Raise R) where
   open_needs s (BeginRemove own answer) plain = absurd plain
   open_needs s (PollRemove own answer) plain = absurd plain
   open_needs s (AskTotals own answer) plain = tt
+  open_needs s (Suspend answer) plain = tt
+  open_needs s (Resume answer) plain = tt
   open_needs s (Reprogram own moment (Ok done)) plain = λ a b n. tt
   open_needs s (Reprogram own moment (Err e)) plain = tt
   open_needs s (ReprogramOn own n moment (Ok done)) plain = λ a b. tt
@@ -193,6 +195,8 @@ module _ {R : Type 0} (firing : Raise R) where
       (open_kept s t (AddOmni level when skew now (Err e)) plain d).1 n
   removals_same s t (Bind own cpu answer) plain d n = (open_kept s t (Bind own cpu answer) plain d).1 n
   removals_same s t (AskTotals own answer) plain d n = (open_kept s t (AskTotals own answer) plain d).1 n
+  removals_same s t (Suspend answer) plain d n = (open_kept s t (Suspend answer) plain d).1 n
+  removals_same s t (Resume answer) plain d n = (open_kept s t (Resume answer) plain d).1 n
   removals_same s t (Reprogram own moment answer) plain d n = (open_kept s t (Reprogram own moment answer) plain d).1 n
   removals_same s t (ReprogramOn own m moment answer) plain d n = (open_kept s t (ReprogramOn own m moment answer) plain d).1 n
   removals_same s t (Juggle m answer) plain d n = (open_kept s t (Juggle m answer) plain d).1 n
@@ -256,6 +260,8 @@ module _ {R : Type 0} (firing : Raise R) where
   online_after s t (AddOmni level when skew now (Err e)) d = (open_kept s t (AddOmni level when skew now (Err e)) tt d).0
   online_after s t (Bind own cpu answer) d = (open_kept s t (Bind own cpu answer) tt d).0
   online_after s t (AskTotals own answer) d = (open_kept s t (AskTotals own answer) tt d).0
+  online_after s t (Suspend answer) d = (open_kept s t (Suspend answer) tt d).0
+  online_after s t (Resume answer) d = (open_kept s t (Resume answer) tt d).0
   online_after s t (Reprogram own moment answer) d = (open_kept s t (Reprogram own moment answer) tt d).0
   online_after s t (ReprogramOn own m moment answer) d = (open_kept s t (ReprogramOn own m moment answer) tt d).0
   online_after s t (Juggle m answer) d = (open_kept s t (Juggle m answer) tt d).0
@@ -364,6 +370,8 @@ module _ {R : Type 0} (firing : Raise R) where
     here_same s t (AddOmni level when skew now (Err e)) d needs = here_kept s t (AddOmni level when skew now (Err e)) d needs
     here_same s t (Bind own cpu answer) d needs = here_kept s t (Bind own cpu answer) d needs
     here_same s t (AskTotals own answer) d needs = here_kept s t (AskTotals own answer) d needs
+    here_same s t (Suspend answer) d needs = here_kept s t (Suspend answer) d needs
+    here_same s t (Resume answer) d needs = here_kept s t (Resume answer) d needs
     here_same s t (Reprogram own moment answer) d needs = here_kept s t (Reprogram own moment answer) d needs
     here_same s t (ReprogramOn own n moment answer) d needs = here_kept s t (ReprogramOn own n moment answer) d needs
     here_same s t (Juggle n answer) d needs = here_kept s t (Juggle n answer) d needs

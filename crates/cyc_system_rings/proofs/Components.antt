@@ -296,6 +296,10 @@ module _ {C R : Type 0} (handler : Calls C) (firing : Raise R) (id : ℕ) where
       (as_before s t (refused_poll handler firing id own why s t d)) h
   make_each s t (AskTotals own answer) told a b d keeps h = as_told told told s t refl
       (λ i ms e. each_kept firing id i ms e s t (AskTotals own answer) a b d (λ x. x) (λ x. x) (λ x. x)) h
+  make_each s t (Suspend answer) told a b d keeps h = as_told told told s t refl
+      (λ i ms e. each_kept firing id i ms e s t (Suspend answer) a b d (λ x. x) (λ x. x) (λ x. x)) h
+  make_each s t (Resume answer) told a b d keeps h = as_told told told s t refl
+      (λ i ms e. each_kept firing id i ms e s t (Resume answer) a b d (λ x. x) (λ x. x) (λ x. x)) h
   make_each s t (Reprogram own moment (Ok done)) told a b d keeps h =
       let ne : own ≢ id = λ same. set_single own moment s t d
       (subst (λ (j : ℕ). is_omnipresent j s ≡ true) (sym same) h.so.omni) in

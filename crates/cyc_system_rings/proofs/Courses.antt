@@ -134,6 +134,10 @@ module _ {C R : Type 0} (handler : Calls C) (firing : Raise R) (id : ℕ) where
       idle_same s t (refused_poll handler firing id own why s t d) quiet
   idle_call ups x s t (AskTotals own answer) a b d ends same quiet =
       quiet_plain firing id s t (AskTotals own answer) a tt d (λ x. x) quiet
+  idle_call ups x s t (Suspend answer) a b d ends same quiet =
+      quiet_plain firing id s t (Suspend answer) a tt d (λ x. x) quiet
+  idle_call ups x s t (Resume answer) a b d ends same quiet =
+      quiet_plain firing id s t (Resume answer) a tt d (λ x. x) quiet
   idle_call ups x s t (Reprogram own moment (Ok done)) a b d ends same quiet =
       let q = quiet_plain firing id s t (Reprogram own moment (Ok done)) a tt d (λ x. x) quiet in
       either (IsAt t) (own == id) (IsSet moment) (idle ups x) q q
@@ -213,6 +217,10 @@ module _ {C R : Type 0} (handler : Calls C) (firing : Raise R) (id : ℕ) where
         (still_same s t (refused_poll handler firing id own why s t d) still)
     single_call (AskTotals own answer) d ends = goes_on (AskTotals own answer) d tt
         (still_plain s t (AskTotals own answer) tt d still)
+    single_call (Suspend answer) d ends = goes_on (Suspend answer) d tt
+        (still_plain s t (Suspend answer) tt d still)
+    single_call (Resume answer) d ends = goes_on (Resume answer) d tt
+        (still_plain s t (Resume answer) tt d still)
     single_call (Reprogram own m answer) d ends = goes_on (Reprogram own m answer) d tt
         (still_plain s t (Reprogram own m answer) tt d still)
     single_call (ReprogramOn own n m answer) d ends = goes_on (ReprogramOn own n m answer) d tt

@@ -374,6 +374,8 @@ module _ (level : Level) (id : ℕ) where
     changes_elsewhere s t (PollRemove own answer) a b d not o =
         so s t (polls_here own answer s t d) (polled_read own answer s t a d o) o
     changes_elsewhere s t (AskTotals own answer) a b d not o = quietly s t (AskTotals own answer) a b d (λ x. x) (λ x. x) o
+    changes_elsewhere s t (Suspend answer) a b d not o = quietly s t (Suspend answer) a b d (λ x. x) (λ x. x) o
+    changes_elsewhere s t (Resume answer) a b d not o = quietly s t (Resume answer) a b d (λ x. x) (λ x. x) o
     changes_elsewhere s t (Reprogram own moment answer) a b d not o = so s t
         (refused_or _ _ answer s t _ d (λ k. moments_here s t own k.0 moment a b k.2.1))
         (looked s t (Reprogram own moment answer) a d (λ x. x) o) o

@@ -99,6 +99,8 @@ module _ {C R : Type 0} (handler : Calls C)
       (PollRemove own (Ok None)) d))
   each_call (PollRemove own (Err why)) d ends = as_before (refused_poll handler firing id own why s t d)
   each_call (AskTotals own answer) d ends = keeps (AskTotals own answer) tt d (λ x. x) (λ m. tt)
+  each_call (Suspend answer) d ends = keeps (Suspend answer) tt d (λ x. x) (λ m. tt)
+  each_call (Resume answer) d ends = keeps (Resume answer) tt d (λ x. x) (λ m. tt)
   each_call (Reprogram own moment (Ok done)) d ends =
       let ne : own ≢ id = λ e. set_single handler firing id own moment s t d
       (subst (λ (j : ℕ). is_omnipresent j s ≡ true) (sym e) (spread_omni firing id when skew ms s h)) in

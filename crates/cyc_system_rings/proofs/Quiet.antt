@@ -132,6 +132,8 @@ module _ {R : Type 0} (firing : Raise R) (id : ℕ) where
   needs m s (BeginRemove own answer) a quiet plain other = absurd plain
   needs m s (PollRemove own answer) a quiet plain other = absurd plain
   needs m s (AskTotals own answer) a quiet plain other = tt
+  needs m s (Suspend answer) a quiet plain other = tt
+  needs m s (Resume answer) a quiet plain other = tt
   needs m s (Reprogram own moment (Ok done)) a quiet plain other = λ clear single n e. refused_own own s a quiet clear
   needs m s (Reprogram own moment (Err e)) a quiet plain other = tt
   needs m s (ReprogramOn own n moment (Ok done)) a quiet plain other = λ clear component e. refused_own own s a quiet clear

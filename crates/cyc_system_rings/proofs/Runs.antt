@@ -277,6 +277,10 @@ module _ {C R : Type 0} (handler : Calls C) (firing : Raise R) (id : ℕ) where
       (as_it_was s t (refused_poll own why s t d)) h
   make_told s t (AskTotals own answer) told a b d keeps h = same_told told told s t refl
       (λ m i e. single_kept firing id m i e s t (AskTotals own answer) a b d (λ x. x) (λ x. x) (λ x. x)) h
+  make_told s t (Suspend answer) told a b d keeps h = same_told told told s t refl
+      (λ m i e. single_kept firing id m i e s t (Suspend answer) a b d (λ x. x) (λ x. x) (λ x. x)) h
+  make_told s t (Resume answer) told a b d keeps h = same_told told told s t refl
+      (λ m i e. single_kept firing id m i e s t (Resume answer) a b d (λ x. x) (λ x. x) (λ x. x)) h
   make_told s t (Reprogram own moment (Ok done)) told a b d keeps h = dite (ℕ_discrete own id)
       (λ same. subst (λ (x : Told). IsTold x t) (sym (its_own own (IsSet moment) told same)) (record {
         moment = moment;

@@ -159,6 +159,8 @@ module _ {R : Type 0} (firing : Raise R) (id : ℕ) where
     needs m (BeginRemove own answer) plain other away = absurd plain
     needs m (PollRemove own answer) plain other away = absurd plain
     needs m (AskTotals own answer) plain other away = tt
+    needs m (Suspend answer) plain other away = tt
+    needs m (Resume answer) plain other away = tt
     needs m (Reprogram own moment (Ok done)) plain other away = λ clear single n e. not_single own single
     needs m (Reprogram own moment (Err e)) plain other away = tt
     needs m (ReprogramOn own n moment (Ok done)) plain other away = λ clear component e same. away same e

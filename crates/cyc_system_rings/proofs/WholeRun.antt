@@ -97,6 +97,8 @@ module _ {C R : Type 0} (handler : Calls C) (firing : Raise R) (id : ℕ) where
   online_made (BeginRemove own (Err e)) told = refl
   online_made (PollRemove own answer) told = refl
   online_made (AskTotals own answer) told = refl
+  online_made (Suspend answer) told = refl
+  online_made (Resume answer) told = refl
   online_made (Reprogram own moment (Ok done)) told =
       either (λ u. u.online ≡ told.online) (own == id) (IsSet moment) told refl refl
   online_made (Reprogram own moment (Err e)) told = refl
@@ -141,6 +143,8 @@ module _ {C R : Type 0} (handler : Calls C) (firing : Raise R) (id : ℕ) where
   expired_made (BeginRemove own (Err why)) s t told a b d same e = same ∙ e
   expired_made (PollRemove own answer) s t told a b d same e = same ∙ e
   expired_made (AskTotals own answer) s t told a b d same e = same ∙ e
+  expired_made (Suspend answer) s t told a b d same e = same ∙ e
+  expired_made (Resume answer) s t told a b d same e = same ∙ e
   expired_made (Reprogram own moment (Ok done)) s t told a b d same e =
       same ∙ (e ∙ sym (either (λ u. u.expired ≡ told.expired) (own == id) (IsSet moment) told refl refl))
   expired_made (Reprogram own moment (Err why)) s t told a b d same e = same ∙ e

@@ -31,6 +31,7 @@ use Rattle.cyc_system_laws.specs.Counts.{all_expired, all_lost, AreLawful}
 use Rattle.cyc_system_laws.proofs.Forgetting.{begins_forgotten, polls_forgotten}
 use Rattle.cyc_system_laws.proofs.Sums.{sum_none}
 use Rattle.cyc_system_laws.specs.SystemCalls.{SystemCall, Changes, Does, Add, AddOmni, Bind, BeginRemove, PollRemove, AskTotals}
+use Rattle.cyc_system_laws.specs.SystemCalls.{Suspend, Resume}
 use Rattle.cyc_system_laws.specs.SystemCalls.{Reprogram}
 use Rattle.cyc_system_laws.specs.SystemCalls.{ReprogramOn, Juggle, Offline, Online, FireOne, SoftInterrupt}
 use Rattle.cyc_system_laws.specs.Gone.{AreLevelsLawful}
@@ -243,6 +244,10 @@ module _ {C : Type 0} (handler : Calls C) (id : ℕ) where
       (grown s t (PollRemove own answer) a b open_still d).1
   one_balances s t (AskTotals own answer) a b h open_still d = balances_quiet s t (AskTotals own answer) d
       (grown s t (AskTotals own answer) a b open_still d).1
+  one_balances s t (Suspend answer) a b h open_still d = balances_quiet s t (Suspend answer) d
+      (grown s t (Suspend answer) a b open_still d).1
+  one_balances s t (Resume answer) a b h open_still d = balances_quiet s t (Resume answer) d
+      (grown s t (Resume answer) a b open_still d).1
   one_balances s t (Reprogram own moment answer) a b h open_still d = balances_quiet s t (Reprogram own moment answer) d
       (grown s t (Reprogram own moment answer) a b open_still d).1
   one_balances s t (ReprogramOn own n moment answer) a b h open_still d = balances_quiet s t (ReprogramOn own n moment answer) d
@@ -292,6 +297,10 @@ module _ {C : Type 0} (handler : Calls C) (id : ℕ) where
       (quietly id s.system t.system (PollRemove own answer) d.0).lawful h
   one_lawful s t (AskTotals own answer) a h d =
       (quietly id s.system t.system (AskTotals own answer) d.0).lawful h
+  one_lawful s t (Suspend answer) a h d =
+      (quietly id s.system t.system (Suspend answer) d.0).lawful h
+  one_lawful s t (Resume answer) a h d =
+      (quietly id s.system t.system (Resume answer) d.0).lawful h
   one_lawful s t (Reprogram own moment answer) a h d =
       (quietly id s.system t.system (Reprogram own moment answer) d.0).lawful h
   one_lawful s t (ReprogramOn own n moment answer) a h d =

@@ -30,7 +30,7 @@ use Rattle.cyc_agreement.specs.Cpus.{CpusView, IsCpu, ChangesAt}
 use Rattle.cyc_agreement.proofs.CpuSpots.{get_set_same, get_set_other}
 use Rattle.cyc_system_laws.specs.System.{SystemView, RunningSystem}
 use Rattle.cyc_system_laws.specs.SystemCalls.{SystemCall, Changes, Does, no_fire, Add, AddOmni, Bind, BeginRemove, PollRemove}
-use Rattle.cyc_system_laws.specs.SystemCalls.{AskTotals}
+use Rattle.cyc_system_laws.specs.SystemCalls.{AskTotals, Suspend, Resume}
 use Rattle.cyc_system_laws.specs.SystemCalls.{Reprogram, ReprogramOn, Juggle, Offline, Online, FireOne, SoftInterrupt}
 use Rattle.cyc_system_laws.specs.Parts.{CpusCall, OnCpu, SetOnline, DoesPart}
 use Rattle.cyc_system_laws.proofs.Over.{at_one}
@@ -219,6 +219,8 @@ module _ {C : Type 0} (handler : Calls C) (id : ℕ) where
   kept_on n s t (BeginRemove own answer) d not = (quietly id s.system t.system (BeginRemove own answer) d.0).each n
   kept_on n s t (PollRemove own answer) d not = (quietly id s.system t.system (PollRemove own answer) d.0).each n
   kept_on n s t (AskTotals own answer) d not = (quietly id s.system t.system (AskTotals own answer) d.0).each n
+  kept_on n s t (Suspend answer) d not = (quietly id s.system t.system (Suspend answer) d.0).each n
+  kept_on n s t (Resume answer) d not = (quietly id s.system t.system (Resume answer) d.0).each n
   kept_on n s t (Reprogram own moment answer) d not = (quietly id s.system t.system (Reprogram own moment answer) d.0).each n
   kept_on n s t (ReprogramOn own m moment answer) d not =
       (quietly id s.system t.system (ReprogramOn own m moment answer) d.0).each n

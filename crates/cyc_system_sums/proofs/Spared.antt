@@ -37,6 +37,7 @@ use Rattle.cyc_system_laws.proofs.Recording.{found}
 use Rattle.cyc_system_laws.specs.Counts.{all_expired, all_lost}
 use Rattle.cyc_system_laws.proofs.Sums.{sum_none, one_of_sum}
 use Rattle.cyc_system_laws.specs.SystemCalls.{SystemCall, Changes, Does, Add, AddOmni, Bind, BeginRemove, PollRemove, AskTotals}
+use Rattle.cyc_system_laws.specs.SystemCalls.{Suspend, Resume}
 use Rattle.cyc_system_laws.specs.SystemCalls.{Reprogram}
 use Rattle.cyc_system_laws.specs.SystemCalls.{ReprogramOn, Juggle, Offline, Online, FireOne, SoftInterrupt}
 use Rattle.cyc_system_laws.specs.Sound.{IsSound}
@@ -156,6 +157,8 @@ module _ {C R : Type 0} (handler : Calls C) (firing : Raise R)
   ceilings s t (BeginRemove own answer) a d = quietly s t (BeginRemove own answer) d.0
   ceilings s t (PollRemove own answer) a d = quietly s t (PollRemove own answer) d.0
   ceilings s t (AskTotals own answer) a d = quietly s t (AskTotals own answer) d.0
+  ceilings s t (Suspend answer) a d = quietly s t (Suspend answer) d.0
+  ceilings s t (Resume answer) a d = quietly s t (Resume answer) d.0
   ceilings s t (Reprogram own moment answer) a d = quietly s t (Reprogram own moment answer) d.0
   ceilings s t (ReprogramOn own n moment answer) a d = quietly s t (ReprogramOn own n moment answer) d.0
   ceilings s t (Juggle n answer) a d = quietly s t (Juggle n answer) d.0
@@ -270,6 +273,8 @@ module _ {C R : Type 0} (handler : Calls C) (firing : Raise R)
   one_spares s t (PollRemove own answer) a b open_still d none under = still s t
       (PollRemove own answer) a b open_still d refl none
   one_spares s t (AskTotals own answer) a b open_still d none under = still s t (AskTotals own answer) a b open_still d refl none
+  one_spares s t (Suspend answer) a b open_still d none under = still s t (Suspend answer) a b open_still d refl none
+  one_spares s t (Resume answer) a b open_still d none under = still s t (Resume answer) a b open_still d refl none
   one_spares s t (Reprogram own moment answer) a b open_still d none under = still s t
       (Reprogram own moment answer) a b open_still d refl none
   one_spares s t (ReprogramOn own n moment answer) a b open_still d none under = still s t

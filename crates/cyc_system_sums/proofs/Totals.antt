@@ -29,6 +29,7 @@ use Rattle.cyc_system_laws.specs.System.{SystemView, RunningSystem}
 use Rattle.cyc_system_laws.proofs.Recording.{found}
 use Rattle.cyc_system_laws.specs.Counts.{all_expired, all_lost}
 use Rattle.cyc_system_laws.specs.SystemCalls.{SystemCall, Changes, Does, Add, AddOmni, Bind, BeginRemove, PollRemove, AskTotals}
+use Rattle.cyc_system_laws.specs.SystemCalls.{Suspend, Resume}
 use Rattle.cyc_system_laws.specs.SystemCalls.{Reprogram}
 use Rattle.cyc_system_laws.specs.SystemCalls.{ReprogramOn, Juggle, Offline, Online, FireOne, SoftInterrupt, no_fire}
 use Rattle.cyc_system_laws.specs.Sound.{IsSound}
@@ -177,6 +178,8 @@ module _ {C R : Type 0} (handler : Calls C) (firing : Raise R)
   one_grows s t (BeginRemove own answer) a b open_still d = quietly s t (BeginRemove own answer) a b d.0 open_still
   one_grows s t (PollRemove own answer) a b open_still d = quietly s t (PollRemove own answer) a b d.0 open_still
   one_grows s t (AskTotals own answer) a b open_still d = quietly s t (AskTotals own answer) a b d.0 open_still
+  one_grows s t (Suspend answer) a b open_still d = quietly s t (Suspend answer) a b d.0 open_still
+  one_grows s t (Resume answer) a b open_still d = quietly s t (Resume answer) a b d.0 open_still
   one_grows s t (Reprogram own moment answer) a b open_still d = quietly s t (Reprogram own moment answer) a b d.0 open_still
   one_grows s t (ReprogramOn own n moment answer) a b open_still d = quietly s t
       (ReprogramOn own n moment answer) a b d.0 open_still
