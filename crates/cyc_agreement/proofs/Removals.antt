@@ -46,7 +46,7 @@ steady_on [] ys h k = k
 steady_on (x ∷ xs) ys h k = (h.0, steady_on xs ys h.1 k)
 
 module _ {R : Type 0} (firing : Raise R) where
-  removal_kept : (x y : CpuView R) (call : CpuCall) → IsSteady call → Changes firing x call y → y.removal ≡ x.removal
+  pub removal_kept : (x y : CpuView R) (call : CpuCall) → IsSteady call → Changes firing x call y → y.removal ≡ x.removal
   removal_kept x y (Place id level interval moment carried) h d = d.1.kept.removal
   removal_kept x y (Reprogram id moment (Ok done)) h (k, c, is, named, still, e) = ap (λ (v : CpuView R). v.removal) e
   removal_kept x y (Reprogram id moment (Err e)) h d = ap (λ (v : CpuView R). v.removal) d.2

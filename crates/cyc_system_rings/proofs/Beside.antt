@@ -1,4 +1,5 @@
 -- What a call of a system keeps of each CPU: the removal that is open there, and the cyclic of an id that it doesn't touch.
+use Rattle.cyc_cpu.specs.Calls.{Suspend as CpuSuspend, Resume as CpuResume}
 use Rattle.std.proofs.Common.{◌≡◌, ◌≢◌, ◌∙◌, ◌==◌, ℕ, zero, suc, inl, inr, Bool, true, false, cond, find, filter, Option}
 use Rattle.std.proofs.Common.{Some, None, Result, Ok, Err, List, [], ◌∷◌, map, slice_set, refl, sym, ap}
 use Rattle.std.specs.Prelude.{is_some, not, ◌||◌}
@@ -22,7 +23,7 @@ use Rattle.cyc_agreement.specs.Cpus.{CpusView, CallOn, DoesAt}
 use Rattle.cyc_agreement.proofs.CpuSpots.{get_set_other}
 use Rattle.cyc_system_laws.proofs.Lists.{among, any_at, eq_true, true_eq, false_ne}
 use Rattle.cyc_system_laws.proofs.Recording.{found}
-use Rattle.cyc_system_workers.proofs.Removals.{IsSteady, removals_kept}
+use Rattle.cyc_system_workers.proofs.Removals.{removal_kept, IsSteady}
 use Rattle.cyc_system_laws.proofs.Spots.{none_some, same_some}
 use Rattle.cyc_system_laws.proofs.Who.{kept_at}
 use Rattle.cyc_system_laws.proofs.Folds.{find_set, find_remove, folds_keep}
@@ -35,6 +36,7 @@ use Rattle.cyc_system_laws.specs.Polling.{Polled, PollsOn, PollsRemoval}
 use Rattle.cyc_system_laws.specs.SystemRemoval.{SystemRemoval}
 use Rattle.cyc_system_laws.specs.SystemRemoval.TheVariants as over
 use Rattle.cyc_system_laws.specs.SystemCalls.{SystemCall, Changes, Add, AddOmni, Bind, BeginRemove, PollRemove, AskTotals}
+use Rattle.cyc_system_laws.specs.SystemCalls.{Suspend, Resume}
 use Rattle.cyc_system_laws.specs.SystemCalls.{Reprogram}
 use Rattle.cyc_system_laws.specs.SystemCalls.{ReprogramOn, Juggle, Offline, Online, FireOne, SoftInterrupt}
 use Rattle.cyc_system_laws.proofs.Idle.{IsIdle}
@@ -128,26 +130,41 @@ module _ {R : Type 0} (firing : Raise R) where
   open_then : (u v w : CpusView R) → SameOpen u v → SameOpen v w → SameOpen u w
   open_then u v w a b = (b.0 ∙ a.0, λ n. b.1 n ∙ a.1 n)
 
-  open_one : (v w : CpusView R) (c : CallOn) → IsSteady c.call → DoesAt firing v c w → SameOpen v w
-  open_one v w c steady d = (
+  -- a call that neither begins nor ends a removal
+  abbrev KeepsOpen : CpuCall → Type 0
+  KeepsOpen CpuSuspend = Unit {0}
+  KeepsOpen CpuResume = Unit {0}
+  KeepsOpen call = IsSteady call
+
+  open_kept_by : (x y : CpuView R) (call : CpuCall) → KeepsOpen call → CpuChanges firing x call y → y.removal ≡ x.removal
+  open_kept_by x y CpuSuspend keeps d = ap (λ (z : CpuView R). z.removal) d
+  open_kept_by x y CpuResume keeps d = ap (λ (z : CpuView R). z.removal) d
+  open_kept_by x y call keeps d = removal_kept firing x y call keeps d
+
+  open_one : (v w : CpusView R) (c : CallOn) → KeepsOpen c.call → DoesAt firing v c w → SameOpen v w
+  open_one v w c keeps d = (
     ap (λ (u : CpusView R). u.online) d.rest,
-    removals_kept firing v w (c ∷ []) (steady, tt) (w, d, refl),
+    λ n. ap (λ (u : CpusView R). removal_on n u) d.rest
+        ∙ kept_at v c.cpu d.before d.after d.here (λ o. option_and_then (λ (z : CpuView R). z.removal) o)
+        (open_kept_by d.before d.after c.call keeps d.change) n,
   )
 
-  steady_idle : (call : CpuCall) → IsIdle call → IsSteady call
+  steady_idle : (call : CpuCall) → IsIdle call → KeepsOpen call
   steady_idle (AskPending own answer) idle = tt
   steady_idle (CpuAskTotals own answer) idle = tt
   steady_idle (AskRoom more answer) idle = tt
   steady_idle (Reserve more answer) idle = tt
   steady_idle (Widen more) idle = tt
+  steady_idle CpuSuspend idle = tt
+  steady_idle CpuResume idle = tt
   steady_idle call idle = absurd idle
 
   abbrev OpenNeeds : SystemCall → SystemView R → Type 0
-  OpenNeeds call s = Needs firing SameOpen (λ v. (refl, λ n. refl)) open_then (λ (c : CallOn). IsSteady c.call) open_one
+  OpenNeeds call s = Needs firing SameOpen (λ v. (refl, λ n. refl)) open_then (λ (c : CallOn). KeepsOpen c.call) open_one
       (λ c. steady_idle c.call) call s
 
   abbrev OpenMay : ℕ → Type 0
-  OpenMay own = May firing SameOpen (λ v. (refl, λ n. refl)) open_then (λ (c : CallOn). IsSteady c.call) open_one
+  OpenMay own = May firing SameOpen (λ v. (refl, λ n. refl)) open_then (λ (c : CallOn). KeepsOpen c.call) open_one
       (λ c. steady_idle c.call) own
 
   open_may : (own : ℕ) → OpenMay own
@@ -177,10 +194,10 @@ module _ {R : Type 0} (firing : Raise R) where
   open_needs s (SoftInterrupt n level budget answer) plain = tt
 
   open_kept : (s t : SystemView R) (call : SystemCall) → IsPlain call → Changes firing s call t
-      → Keeps firing SameOpen (λ v. (refl, λ n. refl)) open_then (λ (c : CallOn). IsSteady c.call) open_one
+      → Keeps firing SameOpen (λ v. (refl, λ n. refl)) open_then (λ (c : CallOn). KeepsOpen c.call) open_one
       (λ c. steady_idle c.call) call s t
   open_kept s t call plain d = kept firing SameOpen (λ v. (refl, λ n. refl)) open_then
-      (λ (c : CallOn). IsSteady c.call) open_one (λ c. steady_idle c.call) s t call d (open_needs s call plain)
+      (λ (c : CallOn). KeepsOpen c.call) open_one (λ c. steady_idle c.call) s t call d (open_needs s call plain)
 
   -- each CPU has the removal open that it had
   pub removals_same : (s t : SystemView R) (call : SystemCall) → IsPlain call → Changes firing s call t → (n : ℕ)
@@ -287,6 +304,8 @@ module _ {R : Type 0} (firing : Raise R) where
     IsOfOther (AskRoom more answer) = Unit {0}
     IsOfOther (Reserve more answer) = Unit {0}
     IsOfOther (Widen more) = Unit {0}
+    IsOfOther CpuSuspend = Unit {0}
+    IsOfOther CpuResume = Unit {0}
     IsOfOther call = ⊥
 
     abbrev pub IsBeside : CallOn → Type 0
@@ -321,6 +340,8 @@ module _ {R : Type 0} (firing : Raise R) where
     other_kept x y (Reserve more (Ok done)) ne d = same_list x y d.0.cyclics
     other_kept x y (Reserve more (Err e)) ne d = same_list x y d.0.cyclics
     other_kept x y (Widen more) ne d = same_list x y d.1.cyclics
+    other_kept x y CpuSuspend ne d = same_list x y (ap (λ (z : CpuView R). z.cyclics) d)
+    other_kept x y CpuResume ne d = same_list x y (ap (λ (z : CpuView R). z.cyclics) d)
     other_kept x y call ne d = absurd ne
 
     pub here_one : (v w : CpusView R) (c : CallOn) → IsBeside c → DoesAt firing v c w → SameHere v w
@@ -337,6 +358,8 @@ module _ {R : Type 0} (firing : Raise R) where
     here_idle (AskRoom more answer) idle = tt
     here_idle (Reserve more answer) idle = tt
     here_idle (Widen more) idle = tt
+    here_idle CpuSuspend idle = tt
+    here_idle CpuResume idle = tt
     here_idle call idle = absurd idle
 
     -- what a call needs, to keep the cyclic of the id on the CPU

@@ -35,6 +35,7 @@ use Rattle.cyc_system_workers.specs.Refusals.{no_cyclic, omnipresent}
 use Rattle.cyc_agreement.specs.Omni.{entering_each, component_first as cpu_first}
 use Rattle.cyc_agreement.specs.Online.{staying}
 use Rattle.cyc_system_laws.specs.SystemCalls.{SystemCall, Changes, Add, AddOmni, Bind, BeginRemove, PollRemove, AskTotals}
+use Rattle.cyc_system_laws.specs.SystemCalls.{Suspend, Resume}
 use Rattle.cyc_system_laws.specs.SystemCalls.{Reprogram}
 use Rattle.cyc_system_laws.specs.SystemCalls.{ReprogramOn, Juggle, Offline, Online, FireOne, SoftInterrupt}
 use Rattle.cyc_system_workers.specs.declared.side.SystemSide.{SystemSide}

@@ -44,7 +44,7 @@ use Rattle.cyc_agreement.specs.GoingOffline.{quiet, Retires, Leaves}
 use Rattle.cyc_agreement.specs.Omni.{entering_each}
 use Rattle.cyc_agreement.specs.Online.{GoesOnline, staying, is_staying, returns, return_at}
 use Rattle.cyc_system_laws.specs.SystemCalls.{SystemCall, Changes, Add, AddOmni, Bind, BeginRemove, PollRemove}
-use Rattle.cyc_system_laws.specs.SystemCalls.{AskTotals, Reprogram}
+use Rattle.cyc_system_laws.specs.SystemCalls.{AskTotals, Suspend, Resume, Reprogram}
 use Rattle.cyc_system_laws.specs.SystemCalls.{ReprogramOn, Juggle, Offline, Online, FireOne, SoftInterrupt}
 use Rattle.cyc_system_laws.proofs.Lists.{eq_true, false_ne}
 use Rattle.cyc_system_laws.proofs.Recording.{found, record_here, record_none}

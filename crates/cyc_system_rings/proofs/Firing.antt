@@ -55,6 +55,7 @@ module _ {C R : Type 0} (handler : Calls C) (firing : Raise R) (id : ℕ) where
     ids = ap (λ (r : Running C R). ids_of r.cpu) e;
     removal = ap (λ (r : Running C R). r.cpu.removal) e;
     most = ap (λ (r : Running C R). r.cpu.most) e;
+    suspended = ap (λ (r : Running C R). r.cpu.suspended) e;
   }
 
   -- a CPU after an advance was this before it

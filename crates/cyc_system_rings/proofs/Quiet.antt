@@ -37,6 +37,7 @@ use Rattle.cyc_system_laws.specs.Removing.{Begun, BeginsOn, BeginsRemoval, cpus_
 use Rattle.cyc_system_laws.specs.Polling.{Polled, PollsOn, PollsRemoval}
 use Rattle.cyc_system_laws.specs.SystemRemoval.TheVariants as over
 use Rattle.cyc_system_laws.specs.SystemCalls.{SystemCall, Changes, Add, AddOmni, Bind, BeginRemove, PollRemove, AskTotals}
+use Rattle.cyc_system_laws.specs.SystemCalls.{Suspend, Resume}
 use Rattle.cyc_system_laws.specs.SystemCalls.{Reprogram}
 use Rattle.cyc_system_laws.specs.SystemCalls.{ReprogramOn, Juggle, Offline, Online, FireOne, SoftInterrupt}
 use Rattle.cyc_system_laws.specs.Sound.{IsSound}

@@ -11,7 +11,6 @@ use Rattle.cyc_types.specs.Runs.{Goes, raised_by, lost_by}
 use Rattle.cyc_types.specs.declared.level.Soft.{Soft}
 use Rattle.cyc_types.specs.declared.level.Soft.TheVariants.{Low, Lock}
 use Rattle.cyc_cpu.specs.Cpu.{CpuView}
-use Rattle.cyc_cpu.specs.Calls.{Suspend, Resume}
 use Rattle.cyc_cpu.specs.Calls.{CpuCall, Changes as CpuChanges, AskSettled}
 use Rattle.cyc_system_laws.proofs.Stills.{still_raises, changes_still}
 use Rattle.cyc_agreement.specs.Cpus.{CpusView}
@@ -172,8 +171,6 @@ module _ {R : Type 0} (firing : Raise R) (raised dropped : ℕ → R → ℕ)
   asks_same soft [] x y e = (ap (raised_end soft) (sym e), ap (dropped_end soft) (sym e))
   asks_same soft (answer ∷ answers) x y (z, (first, lawful), rest) =
       let (a, b) = still_end soft x z (AskSettled answer) first in let (c, d) = asks_same soft answers z y rest in (c ∙ a, d ∙ b)
-      let (a, b) = still_end soft x z Suspend first in let (c, d) = asks_same soft answers z y rest in (c ∙ a, d ∙ b)
-      let (a, b) = still_end soft x z Resume first in let (c, d) = asks_same soft answers z y rest in (c ∙ a, d ∙ b)
 
   pub asked_end : (soft : Soft) (xs ys : List (CpuView R)) → AllAsked firing xs ys → SameEnds soft xs ys
   asked_end soft xs ys a = (

@@ -38,6 +38,7 @@ use Rattle.cyc_system_laws.specs.Laws.{cyclic_in, cyclic_on}
 use Rattle.cyc_agreement.specs.Omni.{component_first as cpu_first}
 use Rattle.cyc_agreement.specs.Online.{online_cpu}
 use Rattle.cyc_system_laws.specs.SystemCalls.{SystemCall, Changes, Add, AddOmni, Bind, BeginRemove, PollRemove, AskTotals}
+use Rattle.cyc_system_laws.specs.SystemCalls.{Suspend, Resume}
 use Rattle.cyc_system_laws.specs.SystemCalls.{Reprogram}
 use Rattle.cyc_system_laws.specs.SystemCalls.{ReprogramOn, Juggle, Offline, Online, FireOne, SoftInterrupt}
 use Rattle.cyc_system_laws.proofs.Pieces.{made_of}

@@ -32,6 +32,7 @@ use Rattle.cyc_system_laws.specs.Polling.{not_leaving}
 use Rattle.cyc_system_laws.specs.Removing.{unknown_cyclic}
 use Rattle.cyc_system_laws.specs.SystemRemoval.TheVariants.{Done}
 use Rattle.cyc_system_laws.specs.SystemCalls.{SystemCall, Changes, Add, AddOmni, Bind, BeginRemove, PollRemove, AskTotals}
+use Rattle.cyc_system_laws.specs.SystemCalls.{Suspend, Resume}
 use Rattle.cyc_system_laws.specs.SystemCalls.{Reprogram}
 use Rattle.cyc_system_laws.specs.SystemCalls.{ReprogramOn, Juggle, Offline, Online, FireOne, SoftInterrupt}
 use Rattle.cyc_system_workers.specs.declared.side.SystemSide.{SystemSide}
