@@ -5,14 +5,15 @@ use Rattle.serde_json.specs.Data.{Data, string, number, unsigned, negative}
 use Rattle.cyc_types.specs.declared.level.Level.TheVariants as level
 use Rattle.cyc_types.specs.declared.level.Soft.TheVariants as soft
 use Rattle.cyc_script.specs.declared.step.Step.TheVariants.{Add, Omni, Bind, Unbind, Reprogram, Remove, Softint, Juggle, Offline}
+use Rattle.cyc_script.specs.declared.step.Step.TheVariants.{Suspend, Resume}
 use Rattle.cyc_script.specs.Parameters.{is_name_byte, whole_of, moment_of, skew_of, unsigned_of, name_of, level_in_value, soft_of}
 use Rattle.cyc_script.specs.Words.{introduces, refers, advances, nameless, form_of, add_of, omni_of, bind_of, unbind_of}
-use Rattle.cyc_script.specs.Words.{reprogram_of, remove_of, advance_of, softint_of, only_cpu}
+use Rattle.cyc_script.specs.Words.{reprogram_of, remove_of, advance_of, softint_of, only_cpu, without_parameters}
 
 -- what unfolds to compute a form
 unfoldable on_words : ⊤
-unfolding form_of add_of omni_of bind_of unbind_of reprogram_of remove_of advance_of softint_of only_cpu is_name_byte
-    whole_of moment_of skew_of unsigned_of name_of level_in_value soft_of
+unfolding form_of add_of omni_of bind_of unbind_of reprogram_of remove_of advance_of softint_of only_cpu without_parameters
+    is_name_byte whole_of moment_of skew_of unsigned_of name_of level_in_value soft_of
 on_words = tt
 
 abbrev a : Data
@@ -89,6 +90,22 @@ online : is_ok (form_of (codes "online") (n 4294967296 ∷ [])) ≡ false
 unfolding on_words
 online = refl
 
-another_word : is_ok (form_of (codes "resume") []) ≡ false
+suspend : form_of (codes "suspend") [] ≡ Ok (nameless Suspend)
+unfolding on_words
+suspend = refl
+
+suspend_with_a_cpu : is_ok (form_of (codes "suspend") (n 0 ∷ [])) ≡ false
+unfolding on_words
+suspend_with_a_cpu = refl
+
+resume : form_of (codes "resume") [] ≡ Ok (nameless Resume)
+unfolding on_words
+resume = refl
+
+resume_with_a_name : is_ok (form_of (codes "resume") (a ∷ [])) ≡ false
+unfolding on_words
+resume_with_a_name = refl
+
+another_word : is_ok (form_of (codes "hold") []) ≡ false
 unfolding on_words
 another_word = refl

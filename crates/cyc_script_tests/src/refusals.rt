@@ -66,7 +66,7 @@ fn objects_that_are_no_script(rt: HostRuntime) {
     }
 }
 
-static NO_STEPS: [&str; 38] = [
+static NO_STEPS: [&str; 48] = [
     "7",
     "[]",
     "[7]",
@@ -105,6 +105,16 @@ static NO_STEPS: [&str; 38] = [
     "[\"juggle\",\"0\"]",
     "[\"offline\",4294967296]",
     "[\"online\",0,0]",
+    "[\"suspend\",0]",
+    "[\"suspend\",\"a\"]",
+    "[\"suspend\",null]",
+    "[\"resume\",0]",
+    "[\"resume\",[]]",
+    "[\"Resume\"]",
+    "[\"suspended\"]",
+    "[[\"suspend\"]]",
+    "\"suspend\"",
+    "{\"suspend\":0}",
 ];
 
 #[test]
@@ -116,7 +126,7 @@ fn steps_that_have_not_the_form_of_a_step(rt: HostRuntime) {
 }
 
 /// The steps of a script, each list with its refusal.
-const FAULTY_STEPS: [(&str, Option<Refusal>); 21] = [
+const FAULTY_STEPS: [(&str, Option<Refusal>); 24] = [
     ("[\"advance\",5],[\"advance\",4]", Some(TimeBack(2))),
     ("[\"advance\",5],[\"advance\",5]", None),
     (
@@ -171,6 +181,18 @@ const FAULTY_STEPS: [(&str, Option<Refusal>); 21] = [
     ("[\"bind\",\"a\",0]", Some(NoName(1))),
     ("[\"juggle\",0],[\"unbind\",\"a\"]", Some(NoName(2))),
     ("[\"reprogram\",\"a\",1,0]", Some(NoName(1))),
+    (
+        "[\"suspend\"],[\"suspend\"],[\"advance\",5],[\"resume\"],[\"resume\"]",
+        None,
+    ),
+    (
+        "[\"suspend\"],[\"advance\",5],[\"resume\",5],[\"advance\",4]",
+        Some(ScriptShape(3)),
+    ),
+    (
+        "[\"suspend\"],[\"advance\",5],[\"resume\"],[\"advance\",4]",
+        Some(TimeBack(4)),
+    ),
 ];
 
 #[test]

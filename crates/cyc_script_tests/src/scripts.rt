@@ -55,6 +55,23 @@ fn served(script: &Script, place: usize) -> Option<(u32, Soft, u32)> {
 }
 
 #[test]
+fn words_without_parameters_are_read(rt: HostRuntime) {
+    let text =
+        "{\"cpus\":1,\"steps\":[[\"resume\"],[\"suspend\"],[\"advance\",5],[\"suspend\"],[\"resume\"]]}";
+    let script = read(&rt, text);
+    assert_eq!(rt; sizes(&script), (1, u32::MAX, 0, 5));
+    for (place, step) in [
+        (0, Step::Resume),
+        (1, Step::Suspend),
+        (2, Step::Advance(5)),
+        (3, Step::Suspend),
+        (4, Step::Resume),
+    ] {
+        assert_eq!(rt; script.steps.get(place), Some(&step), "at {place}");
+    }
+}
+
+#[test]
 fn the_first_script_is_read(rt: HostRuntime) {
     let script = read(&rt, FIRST);
     assert_eq!(rt; sizes(&script), (1, u32::MAX, 1, 3));

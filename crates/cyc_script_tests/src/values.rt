@@ -5,7 +5,7 @@ use cyc_types::Refusal;
 use cyc_types::Refusal::{NoName, ScriptShape, ScriptSyntax, TimeBack};
 
 /// Values in a step's place, each with its refusal after two good steps: none is a step, and where it is no JSON, nor is the text.
-const NO_STEPS_BEHIND_STEPS: [(&str, Refusal); 26] = [
+const NO_STEPS_BEHIND_STEPS: [(&str, Refusal); 29] = [
     ("null", ScriptShape(3)),
     ("true", ScriptShape(3)),
     ("7", ScriptShape(3)),
@@ -32,6 +32,9 @@ const NO_STEPS_BEHIND_STEPS: [(&str, Refusal); 26] = [
     ("[\"omni\",\"b\",\"low\",1,1,0,null]", ScriptShape(3)),
     ("[\"omni\",\"b\",\"low\",1,1,0,0,0,0]", ScriptShape(3)),
     ("[\"omni\",\"b\",\"low\",1,1,0,0,0,1e999]", ScriptSyntax),
+    ("[\"suspend\",{}]", ScriptShape(3)),
+    ("[\"resume\",0,0,0,0,0,0,0]", ScriptShape(3)),
+    ("[\"suspend\",0,0,0,0,0,0,1e999]", ScriptSyntax),
 ];
 
 #[test]
