@@ -16,7 +16,7 @@ use Rattle.cyc_model.specs.Questions.{plain}
 use Rattle.cyc_model.specs.State.{State, OnAll, cpu_of, on, online_cpus, cpus_with}
 use Rattle.cyc_model.specs.Places.{id_of, placement_of, is_unknown, is_omnipresent, is_everywhere, given}
 use Rattle.cyc_types.specs.Reasons.{when, first_refusal}
-use Rattle.cyc_model.specs.Refusals.{magnitude, no_cpu, offline_cpu, refused_at}
+use Rattle.cyc_model.specs.Refusals.{magnitude, no_cpu, offline_cpu, after_refusal}
 use Rattle.cyc_model.specs.Bind.{no_cyclic, omnipresent}
 use Rattle.cyc_model.specs.Omni.{everywhere}
 use Rattle.cyc_model.specs.Remove.{busy_on_each}
@@ -366,10 +366,10 @@ module _ (texts : List (List ℕ)) (f : ℕ → ℕ) (step name : ℕ) (s : Stat
 
 -- after a step that is refused
 pub follows_refused : (x : Step) (name : ℕ) (s : State) (course : Course) (expired : ℕ) → Follows name s course expired
-    → Follows name (refused_at x s) course expired
+    → Follows name (after_refusal x s) course expired
 follows_refused x name s course expired c = record { course_is = by course c.course_is; expired_is = c.expired_is }
   where
-    by : (course : Course) → IsCourse (id_of name s) course s → IsCourse (id_of name s) course (refused_at x s)
+    by : (course : Course) → IsCourse (id_of name s) course s → IsCourse (id_of name s) course (after_refusal x s)
     by Idle k = k
     by (Single moment interval) k = record {
       stays = k.stays;

@@ -15,7 +15,7 @@ use Rattle.cyc_model.specs.Questions.{plain}
 use Rattle.cyc_model.specs.State.{State, OnAll, Placed, online_cpus}
 use Rattle.cyc_model.specs.Places.{id_of, placement_of, given}
 use Rattle.cyc_model.specs.Omni.{everywhere}
-use Rattle.cyc_model.specs.Refusals.{refused_at}
+use Rattle.cyc_model.specs.Refusals.{after_refusal}
 use Rattle.cyc_model.specs.Script.{refusal_of, does, text_in}
 use Rattle.cyc_model.proofs.Rising.{due_of_found}
 use Rattle.cyc_model.proofs.Placing.{entry_above}
@@ -178,7 +178,7 @@ module _ (texts : List (List ℕ)) (f : ℕ → ℕ) (step : ℕ) (s : State) (h
   names_last Resume = refl
 
 -- after a step that is refused
-pub ready_refused : (x : Step) (s : State) → Ready s → Ready (refused_at x s)
+pub ready_refused : (x : Step) (s : State) → Ready s → Ready (after_refusal x s)
 ready_refused x s h = record {
   good = good_clock (moment_after s.clock x) s h.good;
   low = h.low;

@@ -9,7 +9,7 @@ use Rattle.cyc_model.specs.Questions.{plain}
 use Rattle.cyc_model.specs.State.{State, numbers_from, absent}
 use Rattle.cyc_model.specs.Cpu.{new_cpu}
 use Rattle.cyc_model.specs.Places.{id_of}
-use Rattle.cyc_model.specs.Refusals.{refused_at, unless}
+use Rattle.cyc_model.specs.Refusals.{after_refusal, unless}
 use Rattle.cyc_model.specs.Report.{expired_here}
 use Rattle.cyc_model.specs.Script.{refusal_of, does, steps_from, start, run_of, names_of}
 use Rattle.cyc_model.proofs.Totals.{expired_in}
@@ -74,7 +74,7 @@ module _ (texts : List (List ℕ)) (f : ℕ → ℕ) (name : ℕ) where
           (way_from f texts (step + 1) xs (unless o step x (does plain texts f step x) s).state)))
           u).expired
       by rest None why = done rest (is_done x (does plain texts f step x s).state) why refl
-      by rest (Some r) why = rest (refused_at x s) u (ready_refused x s h) in_.1 (record { long = ups.long; up = ups.up })
+      by rest (Some r) why = rest (after_refusal x s) u (ready_refused x s h) in_.1 (record { long = ups.long; up = ups.up })
           (follows_refused x name s u.course u.expired c)
 
 -- ---- the machine as it begins

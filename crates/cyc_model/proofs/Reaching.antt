@@ -17,7 +17,7 @@ use Rattle.cyc_model.specs.Cpu.{Cpu, new_cpu}
 use Rattle.cyc_model.specs.Questions.{plain, outstanding_here}
 use Rattle.cyc_model.specs.Serving.{level_at}
 use Rattle.cyc_model.specs.State.{State, On, OnAll, absent, cpu_of, numbers_from}
-use Rattle.cyc_model.specs.Refusals.{refusal, refused_at, unless}
+use Rattle.cyc_model.specs.Refusals.{refusal, after_refusal, unless}
 use Rattle.cyc_model.specs.Report.{expired_here, lost_here}
 use Rattle.cyc_model.specs.Script.{refusal_of, does, word, steps_from, start, text_in, run_on}
 use Rattle.cyc_model.specs.Kept.{IsMove, Kept, MovesLoseNothing, CyclicsAreAtHome}
@@ -54,7 +54,7 @@ well_does texts indexes step (Online n) s g why = let h = safe_online indexes st
 well_does texts indexes step Suspend s g why = let h = well_set s.clock true s g in (h.0, h.1)
 well_does texts indexes step Resume s g why = let h = well_set s.clock false s g in (h.0, h.1)
 
-refused_well : (why : Refusal) (step : ℕ) (x : Step) (s : State) → Good s → Well (refusal step why (refused_at x s)) s
+refused_well : (why : Refusal) (step : ℕ) (x : Step) (s : State) → Good s → Well (refusal step why (after_refusal x s)) s
 refused_well why step x s g = let h = well_set (moment_after s.clock x) s.suspended s g in (h.0, h.1)
 
 pub well_word : (texts : List (List ℕ)) (indexes : ℕ → ℕ) (step : ℕ) (x : Step) (s : State) → Good s

@@ -1,5 +1,6 @@
 -- What is known where a call isn't refused.
-use Rattle.std.proofs.Common.{◌≡◌, ℕ, ◌+◌, ◌<◌, ◌||◌, Bool, true, false, List, [], ◌∷◌, length, Option, Some, None, refl, arith}
+use Rattle.std.proofs.Common.{◌≡◌, ℕ, ◌+◌, ◌<◌, ◌||◌, Bool, true, false, List, [], ◌∷◌, length, Option, Some, None, refl, ap}
+use Rattle.std.proofs.Common.{arith}
 use Rattle.std.specs.Prelude.{not, nat_lt, nat_le, IsSome, is_some}
 use Rattle.std.proofs.lemmas.Bool.{ltb-false, leb-false}
 use Rattle.cyc_types.specs.Limits.{cyclics as most_cyclics, last_id as greatest_id}
@@ -7,13 +8,15 @@ use Rattle.cyc_types.specs.Series.{never}
 use Rattle.cyc_types.specs.declared.refusal.Refusal.{Refusal}
 use Rattle.cyc_types.specs.declared.refusal.Refusal.TheVariants.{Full, Expanding, IdsSpent, BadNow, NoCpu, Offline, NoCyclic}
 use Rattle.cyc_types.specs.declared.refusal.Refusal.TheVariants.{Omnipresent, Suspended}
+use Rattle.cyc_script.specs.declared.step.Step.{Step}
+use Rattle.cyc_script.specs.WellFormed.{moment_after}
 use Rattle.cyc_model.specs.Cpu.{Cpu}
 use Rattle.cyc_model.specs.Moving.{must_grow}
 use Rattle.cyc_model.specs.Questions.{plain, has_followed}
 use Rattle.cyc_model.specs.State.{State, Placement, On, OnAll, cpu_of}
 use Rattle.cyc_model.specs.Places.{placement_of, is_unknown, is_leaving, is_omnipresent, is_everywhere}
 use Rattle.cyc_types.specs.Reasons.{when, first_refusal, busy, only_if, bad_now}
-use Rattle.cyc_model.specs.Refusals.{no_room, no_cpu, offline_cpu, ids_spent}
+use Rattle.cyc_model.specs.Refusals.{no_room, no_cpu, offline_cpu, ids_spent, after_refusal}
 use Rattle.cyc_model.specs.Bind.{no_cyclic, omnipresent}
 use Rattle.cyc_model.specs.Advance.{advance_refusal}
 use Rattle.cyc_model.proofs.Moves.{CanGrow}
@@ -71,6 +74,10 @@ fires_before now s h =
 
 pub not_suspended : (now : ℕ) (s : State) → advance_refusal now s ≡ None → s.suspended ≡ false
 not_suspended now s h = not_when s.suspended Suspended (none_first (when s.suspended Suspended) (bad_now now ∷ []) h).0
+
+-- a refused step that sets no clock changes nothing
+pub same_refused : (x : Step) (s : State) → moment_after s.clock x ≡ s.clock → after_refusal x s ≡ s
+same_refused x s same = ap (λ clock. record s { clock = clock }) same
 
 pub is_cpu : (n : ℕ) (s : State) → no_cpu n s ≡ None → n < length s.cpus
 is_cpu n s h = leb-false (length s.cpus) n (not_when (nat_le (length s.cpus) n) NoCpu h)

@@ -21,7 +21,7 @@ use Rattle.cyc_model.specs.State.{State, Outcome, Placement, On, OnAll, Placed, 
 use Rattle.cyc_model.specs.State.{cpu_of}
 use Rattle.cyc_model.specs.State.{absent, cpus_with, online_cpus, numbers}
 use Rattle.cyc_model.specs.Places.{id_of, keep_counts, given, put_at, home_of, is_bound, forgotten, without_ended}
-use Rattle.cyc_model.specs.Refusals.{refused_at, unless, magnitude}
+use Rattle.cyc_model.specs.Refusals.{after_refusal, unless, magnitude}
 use Rattle.cyc_model.specs.Add.{enter, added}
 use Rattle.cyc_model.specs.Omni.{enter_each, everywhere, component}
 use Rattle.cyc_model.specs.Bind.{bring, move, move_unless_there, bind_id}
@@ -373,7 +373,7 @@ tells_does q texts indexes step Suspend s = tells_alike s (record s { suspended 
 tells_does q texts indexes step Resume s = tells_alike s (record s { suspended = false }) (refl, refl)
 
 tells_unless : (why : Option Refusal) (step : ℕ) (x : Step) (f : State → Outcome) → Telling f → Telling (unless why step x f)
-tells_unless (Some why) step x f done s = tells_alike s (refused_at x s) (refl, refl)
+tells_unless (Some why) step x f done s = tells_alike s (after_refusal x s) (refl, refl)
 tells_unless None step x f done s = done s
 
 pub tells_steps : (q : Questions) (texts : List (List ℕ)) (indexes : ℕ → ℕ) (step : ℕ) (xs : List Step)

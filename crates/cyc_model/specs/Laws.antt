@@ -13,13 +13,13 @@ use Rattle.cyc_model.specs.Serving.{level_at, level_after}
 use Rattle.cyc_model.specs.Questions.{Questions}
 use Rattle.cyc_model.specs.Cpu.{Cyclic, Cpu}
 use Rattle.cyc_model.specs.State.{State, Placed, cpu_of}
-use Rattle.cyc_model.specs.Refusals.{refusal, refused_at}
+use Rattle.cyc_model.specs.Refusals.{refusal, after_refusal}
 use Rattle.cyc_model.specs.Script.{refusal_of, does, word, steps_from, start, text_with, text_of}
 
 -- a step that is refused does nothing, but that an `advance` sets the clock, and says why; one that isn't does what its word does
 abbrev pub RefusedOrDone : Type 0
 RefusedOrDone = (q : Questions) (texts : List (List ℕ)) (indexes : ℕ → ℕ) (step : ℕ) (x : Step) (s : State)
-    → ((why : Refusal) → refusal_of q x s ≡ Some why → word q texts indexes step x s ≡ refusal step why (refused_at x s))
+    → ((why : Refusal) → refusal_of q x s ≡ Some why → word q texts indexes step x s ≡ refusal step why (after_refusal x s))
     × (refusal_of q x s ≡ None → word q texts indexes step x s ≡ does q texts indexes step x s)
 
 -- a soft level of the CPU of this number

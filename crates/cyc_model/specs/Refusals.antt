@@ -45,13 +45,13 @@ magnitude (pos n) = n
 magnitude (negsuc n) = 0
 
 -- a step that is refused does nothing, but that an `advance` sets the clock
-abbrev pub refused_at : Step → State → State
-refused_at x s = record s { clock = moment_after s.clock x }
+abbrev pub after_refusal : Step → State → State
+after_refusal x s = record s { clock = moment_after s.clock x }
 
 abbrev pub refusal : ℕ → Refusal → State → Outcome
 refusal step why s = told (refused step (number_of why)) (nothing s)
 
 -- a step that may be refused
 abbrev pub unless : Option Refusal → ℕ → Step → (State → Outcome) → State → Outcome
-unless (Some why) step x does s = refusal step why (refused_at x s)
+unless (Some why) step x does s = refusal step why (after_refusal x s)
 unless None step x does s = does s
