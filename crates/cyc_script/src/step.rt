@@ -77,7 +77,8 @@ pub enum Step {
     Reprogram(Reprogram),
     /// Begins the removal of a cyclic (`cyclic_remove`).
     Remove(Name),
-    /// Sets the clock to this moment in nanoseconds, below never, and fires every online CPU (`cyclic_fire`).
+    /// Sets the clock to this moment in nanoseconds, below never, and fires every online CPU (`cyclic_fire`). While the system is
+    /// suspended it sets the clock alone, and is refused.
     Advance(u64),
     /// Runs a soft interrupt.
     Softint(Softint),
