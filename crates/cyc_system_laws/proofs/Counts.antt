@@ -33,7 +33,8 @@ use Rattle.cyc_system.specs.Calls.{SystemCall, Changes, Add, AddOmni, Bind, Begi
 use Rattle.cyc_system.specs.Calls.{ReprogramOn, Juggle, Offline, Online, FireOne, SoftInterrupt, Suspend, Resume}
 use Rattle.cyc_system_laws.specs.Keeping.{EndsRemoval, over_stays}
 use Rattle.cyc_system_laws.specs.Sound.{IsSound}
-use Rattle.cyc_system_laws.proofs.Counted.{all_of, idly, binds_same, unbinds_same, reprograms_same, adds_same, omni_same, turns_same}
+use Rattle.cyc_system_laws.proofs.Counted.{all_of, idly, binds_same, unbinds_same, reprograms_same, adds_same, omni_same}
+use Rattle.cyc_system_laws.proofs.Counted.{turns_same}
 use Rattle.cyc_system_laws.proofs.Counted.{turns_sixteen, leaves_same, online_same}
 use Rattle.cyc_system_laws.proofs.Found.{stays_found, records_found, untouched_stays}
 

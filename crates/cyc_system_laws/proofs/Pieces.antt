@@ -1,13 +1,15 @@
 -- Each call of a system is made of calls on its CPUs.
+use Rattle.cyc_system_laws.proofs.Unnamed.{Unnamed, unnamed, no_record, unnamed_set, unnamed_push, unnamed_tail, unnamed_remove}
+use Rattle.cyc_system_laws.proofs.Unnamed.{unnamed_map, unnamed_filter}
+use Rattle.cyc_system_laws.proofs.Unmarked.{Unmarked, unmarked_on, unmarked_rooms, unmarked_reserves, unmarked_quiet}
+use Rattle.cyc_system_laws.proofs.Unmarked.{unmarked_asked, unmarked_entering, unmarked_returns, SameMarks, marks_kept}
+use Rattle.cyc_agreement.specs.Agreement.{suspended_on}
+use Rattle.cyc_cpu.proofs.Calling.{LeavesMark}
 use Rattle.cyc_agreement.specs.Suspending.{on_each}
 use Rattle.cyc_cpu.specs.Calls.{Suspend as CpuSuspend, Resume as CpuResume}
 use Rattle.std.proofs.Common.{◌≡◌, ◌≢◌, ◌∙◌, ℕ, zero, suc, ◌≤◌, ◌⊎◌, inl, inr, Bool, true, false, cond, All, Option, Some, None}
-use Rattle.std.proofs.Common.{Result, Ok, Err, List, [], ◌∷◌, ◌++◌, length, map, get_or, slice_set, refl, sym, ap, subst, arith}
-use Rattle.std.specs.Prelude.{filter, remove}
+use Rattle.std.proofs.Common.{Result, Ok, Err, List, [], ◌∷◌, ◌++◌, length, map, slice_set, refl, sym, ap, subst, arith}
 use Rattle.std.specs.List.{FoldsTo}
-use Rattle.std.proofs.lemmas.Option.{slice_get_within, slice_get-get_or, get_or_from_slice_get}
-use mathlib.Core.Logic.{dite}
-use native.Mathlib.Decide.{ℕ_discrete}
 use Rattle.cyc_types.specs.declared.Raise.{Ghosts as Raise}
 use Rattle.cyc_types.specs.declared.firing.Sent.{Sent}
 use Rattle.cyc_types.specs.declared.level.Level.{Level}
@@ -29,11 +31,9 @@ use Rattle.cyc_places.specs.Places.{IsRecord, HasNoRecord}
 use Rattle.cyc_agreement.specs.Cpus.{CpusView, CallOn, on, DoesAt, Works, online_cpus}
 use Rattle.cyc_agreement.specs.Reserving.{rooms, reserves, ReservesEach}
 use Rattle.cyc_agreement.specs.Shifting.{move_of, WhyNotShifted, moving}
-use Rattle.cyc_agreement.proofs.CpuSpots.{get_set_same, get_set_other}
 use Rattle.cyc_system.specs.System.{SystemView, ids_on}
 use Rattle.cyc_system.specs.Adding.{OnlyWorks, add_request, Adds, entering}
 use Rattle.cyc_system.specs.Binding.{Records, GoesTo, Unbinds, Binds}
-use Rattle.cyc_system.proofs.Spots.{same_some, get_either}
 use Rattle.cyc_system.specs.SystemRemoval.{SystemRemoval}
 use Rattle.cyc_system.specs.SystemRemoval.TheVariants as over
 use Rattle.cyc_system.specs.SystemTotals.{SystemTotals}
@@ -49,62 +49,6 @@ use Rattle.cyc_system.specs.Online.{GoesOnline, staying, is_staying, returns, re
 use Rattle.cyc_system.specs.Calls.{SystemCall, Changes, Add, AddOmni, Bind, BeginRemove, PollRemove, AskTotals, Reprogram}
 use Rattle.cyc_system.specs.Calls.{ReprogramOn, Juggle, Offline, Online, FireOne, SoftInterrupt, Suspend, Resume}
 use Rattle.cyc_system_laws.specs.Parts.{OnCpu, SetOnline, DoesPart, IsWithout, IsMadeOf}
-
--- ---- records without an id
-
-abbrev pub Unnamed : ℕ → List Record → Type 0
-Unnamed id rs = (k : ℕ) (r : Record) → IsRecord rs k r → r.id ≢ id
-
-pub unnamed : (id : ℕ) (rs : List Record) → HasNoRecord id rs → Unnamed id rs
-unnamed id rs none k r is same = none k r (slice_get_within rs k r is)
-    (ap (λ (x : Record). x.id) (get_or_from_slice_get rs k r r is) ∙ same)
-
-pub no_record : (id : ℕ) (rs : List Record) → Unnamed id rs → HasNoRecord id rs
-no_record id rs none k d low = none k (get_or rs k d) (slice_get-get_or rs k d low)
-
--- a record with another place or other counts
-unnamed_set : (id : ℕ) (rs : List Record) (k : ℕ) (r x : Record) → Unnamed id rs → IsRecord rs k r → x.id ≡ r.id
-    → Unnamed id (slice_set rs k x)
-unnamed_set id rs k r x none is same j q at = dite (ℕ_discrete j k)
-    (λ e. λ named. none k r is (sym same ∙ (ap (λ (y : Record). y.id)
-    (same_some (sym (get_set_same rs k x (slice_get_within rs k r is)) ∙ subst (λ i. IsRecord (slice_set rs k x) i q) e at))
-    ∙ named)))
-    (λ ne. none j q (sym (get_set_other rs k j x ne) ∙ at))
-
-unnamed_push : (id : ℕ) (rs : List Record) (x : Record) → Unnamed id rs → x.id ≢ id → Unnamed id (rs ++ x ∷ [])
-unnamed_push id rs x none other k r is = by (get_either rs x k r is)
-  where
-    by : (IsRecord rs k r) ⊎ (r ≡ x) → r.id ≢ id
-    by (inl at) = none k r at
-    by (inr e) = λ named. other (sym (ap (λ (y : Record). y.id) e) ∙ named)
-
-unnamed_tail : (id : ℕ) (x : Record) (rs : List Record) → Unnamed id (x ∷ rs) → Unnamed id rs
-unnamed_tail id x rs none k r is = none (suc k) r is
-
-unnamed_cons : (id : ℕ) (x : Record) (rs : List Record) → x.id ≢ id → Unnamed id rs → Unnamed id (x ∷ rs)
-unnamed_cons id x rs other none zero r is = λ named. other (ap (λ (y : Record). y.id) (same_some is) ∙ named)
-unnamed_cons id x rs other none (suc k) r is = none k r is
-
-unnamed_remove : (id : ℕ) (rs : List Record) (k : ℕ) → Unnamed id rs → Unnamed id (remove rs k)
-unnamed_remove id [] zero none = none
-unnamed_remove id [] (suc k) none = none
-unnamed_remove id (x ∷ rs) zero none = unnamed_tail id x rs none
-unnamed_remove id (x ∷ rs) (suc k) none =
-    unnamed_cons id x (remove rs k) (none zero x refl) (unnamed_remove id rs k (unnamed_tail id x rs none))
-
-unnamed_map : (id : ℕ) (f : Record → Record) (rs : List Record) → ((r : Record) → (f r).id ≡ r.id) → Unnamed id rs
-    → Unnamed id (map f rs)
-unnamed_map id f [] same none = none
-unnamed_map id f (x ∷ rs) same none = unnamed_cons id (f x) (map f rs) (λ named. none zero x refl (sym (same x) ∙ named))
-    (unnamed_map id f rs same (unnamed_tail id x rs none))
-
-unnamed_filter : (id : ℕ) (p : Record → Bool) (rs : List Record) → Unnamed id rs → Unnamed id (filter p rs)
-unnamed_filter id p [] none = none
-unnamed_filter id p (x ∷ rs) none = by (p x) (unnamed_filter id p rs (unnamed_tail id x rs none))
-  where
-    by : (b : Bool) → Unnamed id (filter p rs) → Unnamed id (cond b (x ∷ filter p rs) (filter p rs))
-    by true rest = unnamed_cons id x (filter p rs) (none zero x refl) rest
-    by false rest = rest
 
 -- ---- calls that put in no cyclic of an id
 
@@ -172,8 +116,13 @@ module _ {R : Type 0} (firing : Raise R) where
   parts_of [] v w last = last
   parts_of (c ∷ way) v w (u, does, rest) = (u, does, parts_of way u w rest)
 
-  pub made_none : (s : SystemView R) → IsMadeOf firing s s
-  made_none s = record {
+  -- what was done to the CPUs, where that neither suspended nor resumed one
+  pub record IsPlainlyMadeOf (s t : SystemView R) : Type 0 where
+    pub made : IsMadeOf firing s t
+    pub marks : SameMarks firing s.cpus t.cpus
+
+  none_made : (s : SystemView R) → IsMadeOf firing s s
+  none_made s = record {
     way = [];
     works = refl;
     without = λ id low none k d less. absurd (omega (arith, less));
@@ -182,11 +131,14 @@ module _ {R : Type 0} (firing : Raise R) where
     last = omega arith;
   }
 
-  made_same : (s t : SystemView R) → t ≡ s → IsMadeOf firing s t
-  made_same s t e = subst (λ x. IsMadeOf firing s x) (sym e) (made_none s)
+  made_none : (s : SystemView R) → IsPlainlyMadeOf s s
+  made_none s = record { made = none_made s; marks = λ n. refl }
 
-  pub made_then : (s t u : SystemView R) → IsMadeOf firing s t → IsMadeOf firing t u → IsMadeOf firing s u
-  made_then s t u a b = record {
+  made_same : (s t : SystemView R) → t ≡ s → IsPlainlyMadeOf s t
+  made_same s t e = subst (λ x. IsPlainlyMadeOf s x) (sym e) (made_none s)
+
+  then_made : (s t u : SystemView R) → IsMadeOf firing s t → IsMadeOf firing t u → IsMadeOf firing s u
+  then_made s t u a b = record {
     way = a.way ++ b.way;
     works = folds_on (DoesPart firing) s.cpus a.way t.cpus b.way u.cpus a.works b.works;
     without = λ id low none. all_on (IsWithout id) a.way b.way (a.without id low none)
@@ -195,16 +147,27 @@ module _ {R : Type 0} (firing : Raise R) where
     last = (let x = a.last in let y = b.last in omega (arith, x, y));
   }
 
+  made_then : (s t u : SystemView R) → IsPlainlyMadeOf s t → IsPlainlyMadeOf t u → IsPlainlyMadeOf s u
+  made_then s t u a b = record { made = then_made s t u a.made b.made; marks = λ n. b.marks n ∙ a.marks n }
+
   -- calls on the CPUs, and a change of the records
-  made_calls : (s t : SystemView R) (way : List CallOn) → Works firing way s.cpus t.cpus → s.last ≤ t.last
+  calls_made : (s t : SystemView R) (way : List CallOn) → Works firing way s.cpus t.cpus → s.last ≤ t.last
       → ((id : ℕ) → id ≤ s.last → Unnamed id s.records → Outs id way)
       → ((id : ℕ) → id ≤ s.last → Unnamed id s.records → Unnamed id t.records) → IsMadeOf firing s t
-  made_calls s t way works last outs none = record {
+  calls_made s t way works last outs none = record {
     way = map OnCpu way;
     works = parts_of way s.cpus t.cpus works;
     without = λ id low no. withouts id way (outs id low (unnamed id s.records no));
     unknown = λ id low no. no_record id t.records (none id low (unnamed id s.records no));
     last = last;
+  }
+
+  made_calls : (s t : SystemView R) (way : List CallOn) → Unmarked way → Works firing way s.cpus t.cpus → s.last ≤ t.last
+      → ((id : ℕ) → id ≤ s.last → Unnamed id s.records → Outs id way)
+      → ((id : ℕ) → id ≤ s.last → Unnamed id s.records → Unnamed id t.records) → IsPlainlyMadeOf s t
+  made_calls s t way plain works last outs none = record {
+    made = calls_made s t way works last outs none;
+    marks = marks_kept firing way s.cpus t.cpus plain works;
   }
 
   same_low : (a b : ℕ) → b ≡ a → a ≤ b
@@ -215,10 +178,17 @@ module _ {R : Type 0} (firing : Raise R) where
   same_records s t e id low none = subst (λ rs. Unnamed id rs) (sym e) none
 
   -- nothing but calls, none of which puts in anything
-  made_only : (s t : SystemView R) (way : List CallOn) → ((id : ℕ) → Outs id way) → OnlyWorks firing way s t
+  only_made : (s t : SystemView R) (way : List CallOn) → ((id : ℕ) → Outs id way) → OnlyWorks firing way s t
       → IsMadeOf firing s t
-  made_only s t way outs (works, records, last) =
-      made_calls s t way works (same_low s.last t.last last) (λ id low none. outs id) (same_records s t records)
+  only_made s t way outs (works, records, last) =
+      calls_made s t way works (same_low s.last t.last last) (λ id low none. outs id) (same_records s t records)
+
+  made_only : (s t : SystemView R) (way : List CallOn) → Unmarked way → ((id : ℕ) → Outs id way) → OnlyWorks firing way s t
+      → IsPlainlyMadeOf s t
+  made_only s t way plain outs only = record {
+    made = only_made s t way outs only;
+    marks = marks_kept firing way s.cpus t.cpus plain only.0;
+  }
 
   -- a cyclic's record has another place
   placed_records : (own : ℕ) (place : Placement) (s t : SystemView R) → Records own place s t → (id : ℕ) → id ≤ s.last
@@ -236,42 +206,43 @@ module _ {R : Type 0} (firing : Raise R) where
 
   made_goes : (own home target : ℕ) (place : Placement) (s t : SystemView R)
       → GoesTo firing (move_of own home target) (Ok tt) s.cpus t.cpus
-      → Records own place s t → IsMadeOf firing s t
+      → Records own place s t → IsPlainlyMadeOf s t
   made_goes own home target place s t (inl (at, is, same)) records =
-      made_calls s t [] (sym same) (last_of own place s t records) (λ id low none. tt) (placed_records own place s t records)
+      made_calls s t [] tt (sym same) (last_of own place s t records) (λ id low none. tt) (placed_records own place s t records)
   made_goes own home target place s t (inr (ne, (taken, works))) records =
-      made_calls s t (moving own home target taken) works (last_of own place s t records)
+      made_calls s t (moving own home target taken) (tt, (tt, (tt, (tt, (tt, tt))))) works (last_of own place s t records)
       (λ id low none. (tt, (tt, (tt, (tt, (named_not own place s t records id none, tt))))))
       (placed_records own place s t records)
 
   made_unshifted : (own source target : ℕ) (e : Refusal) (s t : SystemView R)
       → WhyNotShifted firing (move_of own source target) e s.cpus t.cpus → t.records ≡ s.records → t.last ≡ s.last
-      → IsMadeOf firing s t
+      → IsPlainlyMadeOf s t
   made_unshifted own source target e s t (inl (removed, is_open, is, same)) records last =
-      made_only s t [] (λ id. tt) (sym same, records, last)
+      made_only s t [] tt (λ id. tt) (sym same, records, last)
   made_unshifted own source target e s t (inr (inl (still, n, some, is, works))) records last =
-      made_only s t (on source (AskPending own (Some n)) ∷ []) (λ id. (tt, tt)) (works, records, last)
+      made_only s t (on source (AskPending own (Some n)) ∷ []) (tt, tt) (λ id. (tt, tt)) (works, records, last)
   made_unshifted own source target e s t (inr (inr (still, works))) records last =
-      made_only s t (on source (AskPending own (Some 0)) ∷ on target (Reserve 1 (Err e)) ∷ []) (λ id. (tt, (tt, tt)))
+      made_only s t (on source (AskPending own (Some 0)) ∷ on target (Reserve 1 (Err e)) ∷ []) (tt, (tt, tt)) (λ id. (tt, (tt, tt)))
       (works, records, last)
 
   made_stays : (own home target : ℕ) (e : Refusal) (s t : SystemView R)
       → GoesTo firing (move_of own home target) (Err e) s.cpus t.cpus
-      → t.records ≡ s.records → t.last ≡ s.last → IsMadeOf firing s t
-  made_stays own home target e s t (inl (at, is, same)) records last = made_only s t [] (λ id. tt) (sym same, records, last)
+      → t.records ≡ s.records → t.last ≡ s.last → IsPlainlyMadeOf s t
+  made_stays own home target e s t (inl (at, is, same)) records last = made_only s t [] tt (λ id. tt) (sym same, records, last)
   made_stays own home target e s t (inr (ne, why)) records last = made_unshifted own home target e s t why records last
 
   made_adds : (s t : SystemView R) (level : Level) (when : When) (now : ℕ) (answer : Result ℕ Refusal)
-      → Adds firing (add_request level when now) answer s t → IsMadeOf firing s t
+      → Adds firing (add_request level when now) answer s t → IsPlainlyMadeOf s t
   made_adds s t level when now (Ok own) (d, chosen, next, works, records, last) = made_calls s t
-      (on d (Reserve 1 (Ok tt)) ∷ entering d own level when.interval (first when.start when.interval now)) works
+      (on d (Reserve 1 (Ok tt)) ∷ entering d own level when.interval (first when.start when.interval now)) (tt, (tt, (tt, tt)))
+      works
       (omega (arith, next, last))
       (λ id low none. (tt, (tt, (λ same. absurd (omega (arith, next, low, same)), tt))))
       (λ id low none. subst (λ rs. Unnamed id rs) (sym records)
       (unnamed_push id s.records _ none (λ same. absurd (omega (arith, next, low, same)))))
-  made_adds s t level when now (Err e) (d, chosen, inl only) = made_only s t (on d (Reserve 1 (Err e)) ∷ []) (λ id. (tt, tt)) only
+  made_adds s t level when now (Err e) (d, chosen, inl only) = made_only s t (on d (Reserve 1 (Err e)) ∷ []) (tt, tt) (λ id. (tt, tt)) only
   made_adds s t level when now (Err e) (d, chosen, inr (is, only)) =
-      made_only s t (on d (Reserve 1 (Ok tt)) ∷ []) (λ id. (tt, tt)) only
+      made_only s t (on d (Reserve 1 (Ok tt)) ∷ []) (tt, tt) (λ id. (tt, tt)) only
 
   -- a system with other CPUs
   abbrev with_cpus : SystemView R → CpusView R → SystemView R
@@ -279,28 +250,34 @@ module _ {R : Type 0} (firing : Raise R) where
 
   made_reserved : (more : ℕ) (answer : Result (Unit {0}) Refusal) (s t : SystemView R)
       → ReservesEach firing more answer s.cpus t.cpus → t.records ≡ s.records → t.last ≡ s.last
-      → IsMadeOf firing s t
+      → IsPlainlyMadeOf s t
   made_reserved more (Ok done) s t (v, asks, takes) records last = made_then s (with_cpus s v) t
-      (made_only s (with_cpus s v) (rooms more (online_cpus s.cpus)) (λ id. outs_rooms id more (online_cpus s.cpus))
+      (made_only s (with_cpus s v) (rooms more (online_cpus s.cpus)) (unmarked_rooms more (online_cpus s.cpus))
+      (λ id. outs_rooms id more (online_cpus s.cpus))
       (asks, refl, refl))
-      (made_only (with_cpus s v) t (reserves more (online_cpus s.cpus)) (λ id. outs_reserves id more (online_cpus s.cpus))
+      (made_only (with_cpus s v) t (reserves more (online_cpus s.cpus)) (unmarked_reserves more (online_cpus s.cpus))
+      (λ id. outs_reserves id more (online_cpus s.cpus))
       (takes, records, last))
   made_reserved more (Err e) s t (inl (before, n, after, works)) records last =
       made_only s t (rooms more before ++ on n (AskRoom more (Err e)) ∷ [])
+      (unmarked_on (rooms more before) (on n (AskRoom more (Err e)) ∷ []) (unmarked_rooms more before) (tt, tt))
       (λ id. outs_on id (rooms more before) (on n (AskRoom more (Err e)) ∷ []) (outs_rooms id more before) (tt, tt))
       (works, records, last)
   made_reserved more (Err e) s t (inr (v, asks, (is, before, n, after, works))) records last = made_then s (with_cpus s v) t
-      (made_only s (with_cpus s v) (rooms more (online_cpus s.cpus)) (λ id. outs_rooms id more (online_cpus s.cpus))
+      (made_only s (with_cpus s v) (rooms more (online_cpus s.cpus)) (unmarked_rooms more (online_cpus s.cpus))
+      (λ id. outs_rooms id more (online_cpus s.cpus))
       (asks, refl, refl))
       (made_only (with_cpus s v) t (reserves more before ++ on n (Reserve more (Err e)) ∷ [])
+      (unmarked_on (reserves more before) (on n (Reserve more (Err e)) ∷ []) (unmarked_reserves more before) (tt, tt))
       (λ id. outs_on id (reserves more before) (on n (Reserve more (Err e)) ∷ []) (outs_reserves id more before) (tt, tt))
       (works, records, last))
 
   made_omni : (s t : SystemView R) (level : Level) (when : When) (skew now : ℕ) (answer : Result ℕ Refusal)
-      → AddsOmni firing (add_request level when now) skew answer s t → IsMadeOf firing s t
+      → AddsOmni firing (add_request level when now) skew answer s t → IsPlainlyMadeOf s t
   made_omni s t level when skew now (Ok own) (next, (v, reserved, works), records, last) = made_then s (with_cpus s v) t
       (made_reserved 1 (Ok tt) s (with_cpus s v) reserved refl refl)
-      (made_calls (with_cpus s v) t (entering_each (online_cpus s.cpus) own level when skew now) works (omega (arith, next, last))
+      (made_calls (with_cpus s v) t (entering_each (online_cpus s.cpus) own level when skew now)
+      (unmarked_entering (online_cpus s.cpus) own level when skew now) works (omega (arith, next, last))
       (λ id low none. outs_entering id (online_cpus s.cpus) own level when skew now
       (λ same. absurd (omega (arith, next, low, same))))
       (λ id low none. subst (λ rs. Unnamed id rs) (sym records)
@@ -310,102 +287,103 @@ module _ {R : Type 0} (firing : Raise R) where
       made_reserved 1 (Ok tt) s t reserved records last
 
   made_binds : (id n : ℕ) (answer : Result (Unit {0}) Refusal) (s t : SystemView R) → Binds firing id n answer s t
-      → IsMadeOf firing s t
+      → IsPlainlyMadeOf s t
   made_binds id n (Ok done) s t (home, has, goes, records) = made_goes id home n (stands.On n true) s t goes records
   made_binds id n (Err e) s t (home, has, goes, records, last) = made_stays id home n e s t goes records last
 
   made_unbinds : (id : ℕ) (answer : Result (Unit {0}) Refusal) (s t : SystemView R) → Unbinds id answer s t
-      → IsMadeOf firing s t
+      → IsPlainlyMadeOf s t
   made_unbinds id answer s t (is, n, home, cpus, records) =
-      made_calls s t [] (sym cpus) (last_of id (stands.On n false) s t records) (λ q low none. tt)
+      made_calls s t [] tt (sym cpus) (last_of id (stands.On n false) s t records) (λ q low none. tt)
       (placed_records id (stands.On n false) s t records)
 
   -- ---- removals
 
-  made_ended : (n : ℕ) (call : CpuCall) (k : ℕ) (r x : Record) (s t : SystemView R) → ((id : ℕ) → PutsNot id call)
+  made_ended : (n : ℕ) (call : CpuCall) (k : ℕ) (r x : Record) (s t : SystemView R) → LeavesMark call
+      → ((id : ℕ) → PutsNot id call)
       → DoesAt firing s.cpus (on n call) t.cpus
-      → IsRecord s.records k r → x.id ≡ r.id → t.records ≡ slice_set s.records k x → t.last ≡ s.last → IsMadeOf firing s t
-  made_ended n call k r x s t outs does here same records last =
-      made_calls s t (on n call ∷ []) (t.cpus, does, refl) (same_low s.last t.last last)
+      → IsRecord s.records k r → x.id ≡ r.id → t.records ≡ slice_set s.records k x → t.last ≡ s.last → IsPlainlyMadeOf s t
+  made_ended n call k r x s t plain outs does here same records last =
+      made_calls s t (on n call ∷ []) (plain, tt) (t.cpus, does, refl) (same_low s.last t.last last)
       (λ id low none. (outs id, tt)) (λ id low none. subst (λ rs. Unnamed id rs) (sym records)
       (unnamed_set id s.records k r x none here same))
 
-  begins_on : (id n : ℕ) (found : Removal) (s t : SystemView R) → BeginsOn firing id n found s t → IsMadeOf firing s t
+  begins_on : (id n : ℕ) (found : Removal) (s t : SystemView R) → BeginsOn firing id n found s t → IsPlainlyMadeOf s t
   begins_on id n (Done receipt) s t (does, k, r, here, named, records, last) =
-      made_ended n (CpuBegin id (Ok (Done receipt))) k r _ s t (λ q. tt) does here refl records last
+      made_ended n (CpuBegin id (Ok (Done receipt))) k r _ s t tt (λ q. tt) does here refl records last
   begins_on id n (Kept kept) s t (does, records, last) =
-      made_only s t (on n (CpuBegin id (Ok (Kept kept))) ∷ []) (λ q. (tt, tt)) ((t.cpus, does, refl), records, last)
+      made_only s t (on n (CpuBegin id (Ok (Kept kept))) ∷ []) (tt, tt) (λ q. (tt, tt)) ((t.cpus, does, refl), records, last)
 
-  begins_each : (id : ℕ) (way : List Begun) (s t : SystemView R) → BeginsEach firing id way s t → IsMadeOf firing s t
+  begins_each : (id : ℕ) (way : List Begun) (s t : SystemView R) → BeginsEach firing id way s t → IsPlainlyMadeOf s t
   begins_each id [] s t e = made_same s t (sym e)
   begins_each id (b ∷ way) s t (u, first, rest) =
       made_then s u t (begins_on id b.cpu b.found s u first) (begins_each id way u t rest)
 
-  answers : (id : ℕ) (receipt : Receipt) (s t : SystemView R) → Answers id receipt s t → IsMadeOf firing s t
-  answers id receipt s t a = made_calls s t [] (sym a.cpus) (same_low s.last t.last a.last) (λ q low none. tt)
+  answers : (id : ℕ) (receipt : Receipt) (s t : SystemView R) → Answers id receipt s t → IsPlainlyMadeOf s t
+  answers id receipt s t a = made_calls s t [] tt (sym a.cpus) (same_low s.last t.last a.last) (λ q low none. tt)
       (λ q low none. subst (λ rs. Unnamed q rs) (sym a.records) (unnamed_remove q s.records a.place none))
 
   begins : (id : ℕ) (answer : Result SystemRemoval Refusal) (s t : SystemView R) → Removes firing id answer s t
-      → IsMadeOf firing s t
+      → IsPlainlyMadeOf s t
   begins id (Ok (over.Done receipt)) s t (way, u, cpus, each, done) =
       made_then s u t (begins_each id way s u each) (answers id receipt u t done)
   begins id (Ok (over.Kept kept)) s t (way, cpus, each, some, sum) = begins_each id way s t each
   begins id (Err e) s t d = absurd d
 
   polls_on : (id n : ℕ) (answer : Option Receipt) (s t : SystemView R) → PollsOn firing id n answer s t
-      → IsMadeOf firing s t
+      → IsPlainlyMadeOf s t
   polls_on id n (Some receipt) s t (does, k, r, here, named, records, last) =
-      made_ended n (CpuPoll (Some receipt)) k r _ s t (λ q. tt) does here refl records last
+      made_ended n (CpuPoll (Some receipt)) k r _ s t tt (λ q. tt) does here refl records last
   polls_on id n None s t (does, records, last) =
-      made_only s t (on n (CpuPoll None) ∷ []) (λ q. (tt, tt)) ((t.cpus, does, refl), records, last)
+      made_only s t (on n (CpuPoll None) ∷ []) (tt, tt) (λ q. (tt, tt)) ((t.cpus, does, refl), records, last)
 
-  polls_each : (id : ℕ) (way : List Polled) (s t : SystemView R) → PollsEach firing id way s t → IsMadeOf firing s t
+  polls_each : (id : ℕ) (way : List Polled) (s t : SystemView R) → PollsEach firing id way s t → IsPlainlyMadeOf s t
   polls_each id [] s t e = made_same s t (sym e)
   polls_each id (p ∷ way) s t (u, first, rest) =
       made_then s u t (polls_on id p.cpu p.answer s u first) (polls_each id way u t rest)
 
   polls : (id : ℕ) (answer : Result (Option Receipt) Refusal) (s t : SystemView R) → Polls firing id answer s t
-      → IsMadeOf firing s t
+      → IsPlainlyMadeOf s t
   polls id (Ok (Some receipt)) s t (way, u, cpus, each, done) =
       made_then s u t (polls_each id way s u each) (answers id receipt u t done)
   polls id (Ok None) s t (way, cpus, each, some) = polls_each id way s t each
   polls id (Err e) s t d = absurd d
 
   totals : (id : ℕ) (answer : Option SystemTotals) (s t : SystemView R) → AsksTotals firing id answer s t
-      → IsMadeOf firing s t
+      → IsPlainlyMadeOf s t
   totals id (Some found) s t (way, r, known, cpus, only, adds_up) =
-      made_only s t (map (asked id) way) (λ q. outs_asked q id way) only
+      made_only s t (map (asked id) way) (unmarked_asked id way) (λ q. outs_asked q id way) only
   totals id None s t (unknown, same) = made_same s t same
 
   -- ---- juggle and offline
 
-  turns_one : (n id : ℕ) (turn : Turn) (s t : SystemView R) → TakesTurn firing n id turn s t → IsMadeOf firing s t
+  turns_one : (n id : ℕ) (turn : Turn) (s t : SystemView R) → TakesTurn firing n id turn s t → IsPlainlyMadeOf s t
   turns_one n id StaysBound s t (place, same) = made_same s t same
   turns_one n id StaysPending s t (place, found, some, only) =
-      made_only s t (on n (AskPending id (Some found)) ∷ []) (λ q. (tt, tt)) only
+      made_only s t (on n (AskPending id (Some found)) ∷ []) (tt, tt) (λ q. (tt, tt)) only
   turns_one n id StaysRefused s t (place, d, chosen, e, only) =
-      made_only s t (on n (AskPending id (Some 0)) ∷ on d (Reserve 1 (Err e)) ∷ []) (λ q. (tt, (tt, tt))) only
+      made_only s t (on n (AskPending id (Some 0)) ∷ on d (Reserve 1 (Err e)) ∷ []) (tt, (tt, tt)) (λ q. (tt, (tt, tt))) only
   turns_one n id Moves s t (place, d, chosen, (taken, works), records) =
-      made_calls s t (moving id n d taken) works (last_of id (stands.On d false) s t records)
+      made_calls s t (moving id n d taken) (tt, (tt, (tt, (tt, (tt, tt))))) works (last_of id (stands.On d false) s t records)
       (λ q low none. (tt, (tt, (tt, (tt, (named_not id (stands.On d false) s t records q none, tt))))))
       (placed_records id (stands.On d false) s t records)
 
   turns : (n : ℕ) (ids : List ℕ) (report : JuggleReport) (s t : SystemView R) → Turns firing n ids report s t
-      → IsMadeOf firing s t
+      → IsPlainlyMadeOf s t
   turns n [] report s t (none, same) = made_same s t same
   turns n (id ∷ ids) report s t (turn, u, rest, first, counted, more) =
       made_then s u t (turns_one n id turn s u first) (turns n ids rest u t more)
 
-  retires : (n : ℕ) (ids : List ℕ) (s t : SystemView R) → FoldsTo (Retires firing n) s ids t → IsMadeOf firing s t
+  retires : (n : ℕ) (ids : List ℕ) (s t : SystemView R) → FoldsTo (Retires firing n) s ids t → IsPlainlyMadeOf s t
   retires n [] s t e = made_same s t (sym e)
   retires n (id ∷ ids) s t (u, (taken, does, k, r, here, named, records, last), rest) =
-      made_then s u t (made_ended n (TakeNow id (Ok taken)) k r _ s u (λ q. tt) does here refl records last)
+      made_then s u t (made_ended n (TakeNow id (Ok taken)) k r _ s u tt (λ q. tt) does here refl records last)
       (retires n ids u t rest)
 
-  made_switched : (n : ℕ) (online : Bool) (s t : SystemView R)
+  switched_made : (n : ℕ) (online : Bool) (s t : SystemView R)
       → t.cpus ≡ record s.cpus { online = slice_set s.cpus.online n online } → t.records ≡ s.records → t.last ≡ s.last
       → IsMadeOf firing s t
-  made_switched n online s t cpus records last = record {
+  switched_made n online s t cpus records last = record {
     way = SetOnline n online ∷ [];
     works = (t.cpus, cpus, refl);
     without = λ id low none. all_cons (IsWithout id) (SetOnline n online) [] tt (λ k d less. absurd (omega (arith, less)));
@@ -413,14 +391,23 @@ module _ {R : Type 0} (firing : Raise R) where
     last = same_low s.last t.last last;
   }
 
+  made_switched : (n : ℕ) (online : Bool) (s t : SystemView R)
+      → t.cpus ≡ record s.cpus { online = slice_set s.cpus.online n online } → t.records ≡ s.records → t.last ≡ s.last
+      → IsPlainlyMadeOf s t
+  made_switched n online s t cpus records last = record {
+    made = switched_made n online s t cpus records last;
+    marks = λ m. ap (λ v. suspended_on m v) cpus;
+  }
+
   leaves : (n : ℕ) (report : JuggleReport) (answer : Result (Unit {0}) Refusal) (s t : SystemView R)
-      → Leaves firing n report answer s t → IsMadeOf firing s t
+      → Leaves firing n report answer s t → IsPlainlyMadeOf s t
   leaves n report answer s t (inl (left, is, same)) = made_same s t same
   leaves n report answer s t (inr (inl (none, is, (before, id, after, found, some, only)))) =
       made_only s t (quiet n before ++ on n (AskPending id (Some found)) ∷ [])
+      (unmarked_on (quiet n before) (on n (AskPending id (Some found)) ∷ []) (unmarked_quiet n before) (tt, tt))
       (λ q. outs_on q (quiet n before) (on n (AskPending id (Some found)) ∷ []) (outs_quiet q n before) (tt, tt)) only
   leaves n report answer s t (inr (inr (none, is, (u, only, empty, each, off)))) =
-      made_then s u t (made_only s u (quiet n (ids_on n s.cpus)) (λ q. outs_quiet q n (ids_on n s.cpus)) only)
+      made_then s u t (made_only s u (quiet n (ids_on n s.cpus)) (unmarked_quiet n (ids_on n s.cpus)) (λ q. outs_quiet q n (ids_on n s.cpus)) only)
       (made_then u empty t (retires n (ids_on n s.cpus) u empty each)
       (made_switched n false empty t (ap (λ (x : SystemView R). x.cpus) off) (ap (λ (x : SystemView R). x.records) off)
       (ap (λ (x : SystemView R). x.last) off)))
@@ -433,49 +420,67 @@ module _ {R : Type 0} (firing : Raise R) where
       by false = refl
 
   made_returns : (n now : ℕ) (answer : Result (Unit {0}) Refusal) (s t : SystemView R) → GoesOnline firing n now answer s t
-      → IsMadeOf firing s t
+      → IsPlainlyMadeOf s t
   made_returns n now (Ok done) s t ((w, works, switched), records, last) =
       made_then s (record { cpus = w; records = t.records; last = t.last }) t
       (made_calls s (record { cpus = w; records = t.records; last = t.last })
-      (on n (Reserve (length (staying s)) (Ok tt)) ∷ on n (Widen (length (staying s))) ∷ returns n now (staying s)) works
+      (on n (Reserve (length (staying s)) (Ok tt)) ∷ on n (Widen (length (staying s))) ∷ returns n now (staying s)) (tt, (tt, unmarked_returns n now (staying s))) works
       (same_low s.last t.last last)
       (λ id low none. (tt, (tt, outs_returns id n now (staying s) (unnamed_filter id (is_staying s.cpus) s.records none))))
       (λ id low none. subst (λ rs. Unnamed id rs) (sym records)
       (unnamed_map id (after_return n s.cpus) s.records (return_id n s.cpus) none)))
       (made_switched n true (record { cpus = w; records = t.records; last = t.last }) t switched refl refl)
   made_returns n now (Err e) s t (why, only) =
-      made_only s t (on n (Reserve (length (staying s)) (Err e)) ∷ []) (λ id. (tt, tt)) only
+      made_only s t (on n (Reserve (length (staying s)) (Err e)) ∷ []) (tt, tt) (λ id. (tt, tt)) only
 
   -- ---- any call
 
   refused_or : {A : Type 0} (o : Option Refusal) (refused : Refusal → A) (answer : A) (s t : SystemView R) (G : Type 0)
-      → ((e : Refusal) × (o ≡ Some e) × (answer ≡ refused e) × (t ≡ s)) ⊎ ((o ≡ None) × G) → (G → IsMadeOf firing s t)
-      → IsMadeOf firing s t
+      → ((e : Refusal) × (o ≡ Some e) × (answer ≡ refused e) × (t ≡ s)) ⊎ ((o ≡ None) × G) → (G → IsPlainlyMadeOf s t)
+      → IsPlainlyMadeOf s t
   refused_or o refused answer s t G (inl (e, why, is, same)) goes = made_same s t same
   refused_or o refused answer s t G (inr (clear, g)) goes = goes g
 
-  pub made_of : (s t : SystemView R) (call : SystemCall) → Changes firing s call t → IsMadeOf firing s t
-  made_of s t (Add level when now answer) d = refused_or _ _ answer s t _ d (λ g. made_adds s t level when now answer g)
-  made_of s t (AddOmni level when skew now answer) d =
+  -- the call neither suspends the system nor resumes it
+  abbrev pub LeavesMarks : SystemCall → Type 0
+  LeavesMarks (Suspend answer) = ⊥
+  LeavesMarks (Resume answer) = ⊥
+  LeavesMarks call = Unit {0}
+
+  plainly : (s t : SystemView R) (call : SystemCall) → LeavesMarks call → Changes firing s call t → IsPlainlyMadeOf s t
+  plainly s t (Add level when now answer) plain d = refused_or _ _ answer s t _ d (λ g. made_adds s t level when now answer g)
+  plainly s t (AddOmni level when skew now answer) plain d =
       refused_or _ _ answer s t _ d (λ g. made_omni s t level when skew now answer g)
-  made_of s t (Bind id None answer) d = refused_or _ _ answer s t _ d (λ g. made_unbinds id answer s t g)
-  made_of s t (Bind id (Some n) answer) d = refused_or _ _ answer s t _ d (λ g. made_binds id n answer s t g)
-  made_of s t (BeginRemove id answer) d = refused_or _ _ answer s t _ d (λ g. begins id answer s t g)
-  made_of s t (PollRemove id answer) d = refused_or _ _ answer s t _ d (λ g. polls id answer s t g)
-  made_of s t (AskTotals id answer) d = totals id answer s t d
-  made_of s t (Reprogram id moment answer) d =
-      refused_or _ _ answer s t _ d (λ g. made_only s t (on g.0 (CpuReprogram id moment (Ok tt)) ∷ []) (λ q. (tt, tt)) (g.2.1))
-  made_of s t (ReprogramOn id n moment answer) d =
-      refused_or _ _ answer s t _ d (λ g. made_only s t (on n (CpuReprogram id moment (Ok tt)) ∷ []) (λ q. (tt, tt)) (g.1))
-  made_of s t (Juggle n answer) d = refused_or _ _ answer s t _ d
+  plainly s t (Bind id None answer) plain d = refused_or _ _ answer s t _ d (λ g. made_unbinds id answer s t g)
+  plainly s t (Bind id (Some n) answer) plain d = refused_or _ _ answer s t _ d (λ g. made_binds id n answer s t g)
+  plainly s t (BeginRemove id answer) plain d = refused_or _ _ answer s t _ d (λ g. begins id answer s t g)
+  plainly s t (PollRemove id answer) plain d = refused_or _ _ answer s t _ d (λ g. polls id answer s t g)
+  plainly s t (AskTotals id answer) plain d = totals id answer s t d
+  plainly s t (Reprogram id moment answer) plain d =
+      refused_or _ _ answer s t _ d (λ g. made_only s t (on g.0 (CpuReprogram id moment (Ok tt)) ∷ []) (tt, tt) (λ q. (tt, tt)) (g.2.1))
+  plainly s t (ReprogramOn id n moment answer) plain d =
+      refused_or _ _ answer s t _ d (λ g. made_only s t (on n (CpuReprogram id moment (Ok tt)) ∷ []) (tt, tt) (λ q. (tt, tt)) (g.1))
+  plainly s t (Juggle n answer) plain d = refused_or _ _ answer s t _ d
       (λ g. (let (report, is, moves) = g in turns n (single_ids n s) report s t moves))
-  made_of s t (Offline n answer) d = refused_or _ _ answer s t _ d
+  plainly s t (Offline n answer) plain d = refused_or _ _ answer s t _ d
       (λ g. (let (report, moved, moves, rest) = g in
       made_then s moved t (turns n (single_ids n s) report s moved moves) (leaves n report answer moved t rest)))
-  made_of s t (Online n now answer) d = refused_or _ _ answer s t _ d (λ g. made_returns n now answer s t g)
-  made_of s t (Suspend answer) d = refused_or _ _ answer s t _ d
-      (λ g. made_only s t (on_each CpuSuspend (length s.cpus.cpus)) (λ q. outs_each q CpuSuspend (length s.cpus.cpus) tt) (g.1))
-  made_of s t (Resume answer) d = refused_or _ _ answer s t _ d
-      (λ g. made_only s t (on_each CpuResume (length s.cpus.cpus)) (λ q. outs_each q CpuResume (length s.cpus.cpus) tt) (g.1))
-  made_of s t (FireOne n now answer) d = absurd d
-  made_of s t (SoftInterrupt n level budget answer) d = absurd d
+  plainly s t (Online n now answer) plain d = refused_or _ _ answer s t _ d (λ g. made_returns n now answer s t g)
+  plainly s t (Suspend answer) plain d = absurd plain
+  plainly s t (Resume answer) plain d = absurd plain
+  plainly s t (FireOne n now answer) plain d = absurd d
+  plainly s t (SoftInterrupt n level budget answer) plain d = absurd d
+
+  pub made_of : (s t : SystemView R) (call : SystemCall) → Changes firing s call t → IsMadeOf firing s t
+  made_of s t (Suspend answer) (inl (e, why, is, same)) = (made_same s t same).made
+  made_of s t (Suspend answer) (inr (clear, g)) =
+      only_made s t (on_each CpuSuspend (length s.cpus.cpus)) (λ q. outs_each q CpuSuspend (length s.cpus.cpus) tt) g.1
+  made_of s t (Resume answer) (inl (e, why, is, same)) = (made_same s t same).made
+  made_of s t (Resume answer) (inr (clear, g)) =
+      only_made s t (on_each CpuResume (length s.cpus.cpus)) (λ q. outs_each q CpuResume (length s.cpus.cpus) tt) g.1
+  made_of s t call d = (plainly s t call tt d).made
+
+  -- any other call leaves each CPU suspended where it was
+  pub marks_same : (s t : SystemView R) (call : SystemCall) → LeavesMarks call → Changes firing s call t
+      → SameMarks firing s.cpus t.cpus
+  marks_same s t call plain d = (plainly s t call plain d).marks

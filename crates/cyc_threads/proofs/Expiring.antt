@@ -1,4 +1,6 @@
 -- No cyclic of a script expires as often as it may, so a fire is refused by a handler alone.
+use Rattle.std.proofs.Common.{option_map}
+use Rattle.cyc_agreement.specs.Suspending.{is_suspended}
 use Rattle.std.proofs.Common.{◌≡◌, ◌∙◌, ◌==◌, ℕ, zero, suc, ◌+◌, ◌*◌, ◌<◌, ◌≤◌, inl, inr, Bool, true, false, cond, List, [], ◌∷◌}
 use Rattle.std.proofs.Common.{find, length, Option, Some, None, Result, Ok, Err, refl, sym, ap, subst, arith}
 use Rattle.std.specs.Prelude.{sum_by, take}
@@ -22,7 +24,7 @@ use Rattle.cyc_timers.specs.declared.fire.Fired.{Fired}
 use Rattle.cyc_timers.specs.declared.fire.FireRefused.{FireRefused}
 use Rattle.cyc_cpu.specs.Cpu.{CpuView, running, HasNoCyclic}
 use Rattle.cyc_cpu.specs.Calls.{Does as CpuDoes, Fire, no_interrupts}
-use Rattle.cyc_cpu.proofs.Calling.{changes_most}
+use Rattle.cyc_cpu.proofs.Calling.{changes_most, refused_not}
 use Rattle.cyc_agreement.specs.Cpus.{CpusView, OfCpu, new_cpu, new_cpus}
 use Rattle.cyc_script.specs.WellFormed.{IsWellFormed}
 use Rattle.cyc_script.specs.declared.step.Step.{Step}
@@ -45,6 +47,7 @@ use Rattle.cyc_system_laws.proofs.Recording.{found, record_none}
 use Rattle.cyc_system_laws.proofs.Spots.{same_some, none_some, get_some}
 use Rattle.cyc_system_laws.proofs.Sums.{sum_none, one_of_sum}
 use Rattle.cyc_system_workers.specs.System.{SystemView}
+use Rattle.cyc_system_workers.specs.Calls.{Suspend, Resume}
 use Rattle.cyc_system_workers.specs.Calls.{SystemCall, Changes, Add, AddOmni, Bind, BeginRemove, PollRemove, AskTotals}
 use Rattle.cyc_system_workers.specs.Calls.{Reprogram, ReprogramOn, Juggle, Offline, Online, FireOne, SoftInterrupt}
 use Rattle.cyc_system_workers.specs.WorkersSettling.{Asks}
@@ -121,6 +124,8 @@ module _ {R : Type 0} (firing : Raise R) where
       same_few id s t (AddOmni level when skew now answer) a b d (λ x. x)
   call_few id s t (Bind own cpu answer) a b d = same_few id s t (Bind own cpu answer) a b d (λ x. x)
   call_few id s t (AskTotals own answer) a b d = same_few id s t (AskTotals own answer) a b d (λ x. x)
+  call_few id s t (Suspend answer) a b d = same_few id s t (Suspend answer) a b d (λ x. x)
+  call_few id s t (Resume answer) a b d = same_few id s t (Resume answer) a b d (λ x. x)
   call_few id s t (Reprogram own moment answer) a b d = same_few id s t (Reprogram own moment answer) a b d (λ x. x)
   call_few id s t (ReprogramOn own n moment answer) a b d = same_few id s t (ReprogramOn own n moment answer) a b d (λ x. x)
   call_few id s t (Juggle n answer) a b d = same_few id s t (Juggle n answer) a b d (λ x. x)
@@ -223,8 +228,8 @@ module _ {C R : Type 0} (handler : Calls C) (firing : Raise R) where
   step_more : (x : Step) (s t : Progress R C) (k : ℕ) → TakesStep handler firing s x t → Has k s.side
       → Has (k + 12288000024576) t.side
   step_more x s t k (u, begins, does) h =
-      let begun = begins_all handler firing Quiet same joined quiet_calls quiet_settles (waits_first x) s u begins k h in
-      does_all handler firing Quiet same joined quiet_calls quiet_settles (Has (k + 12288000024576) t.side) x u t
+      let begun = begins_all handler firing Quiet same joined quiet_calls quiet_settles sets (waits_first x) s u begins k h in
+      does_all handler firing Quiet same joined quiet_calls quiet_settles sets (Has (k + 12288000024576) t.side) x u t
       (λ quiet. more k (k + 12288000024576) t.side (omega arith) (quiet k begun))
       (λ now f. fires_more now k u t f begun) does
     where
@@ -233,6 +238,9 @@ module _ {C R : Type 0} (handler : Calls C) (firing : Raise R) where
 
       joined : (p q r : Progress R C) → Quiet p q → Quiet q r → Quiet p r
       joined p q r a b n g = b n (a n g)
+
+      sets : (now : ℕ) (p : Progress R C) → Quiet p (record p { clock = now })
+      sets now p n g = g
 
   pub steps_more : (all : List Step) (s t : Progress R C) (k : ℕ) → TakesSteps handler firing s all t → Has k s.side
       → Has (k + length all * 12288000024576) t.side
@@ -269,12 +277,27 @@ module _ {C R : Type 0} (handler : Calls C) (firing : Raise R) where
 
   -- the fire of a CPU, in an advance of a system in which no id has expired too often
   module _ (k now : ℕ) (s : SystemSide R C) (b : Advanced R C) (h : HasExpired firing k s) (low : k ≤ 65536 * 12288000024576)
-      (before : now < never) (f : AllFire handler firing now s b) where
+      (before : now < never) (awake : is_suspended s.system ≡ false) (f : AllFire handler firing now s b) where
+    -- no CPU is suspended
+    awake_all : (n : ℕ) (x : CpuView R) → slice_get s.system.cpus.cpus n ≡ Some x → x.suspended ≡ false
+    awake_all n x at = first (slice_get s.system.cpus.cpus 0) refl awake
+      where
+        first : (o : Option (CpuView R)) → slice_get s.system.cpus.cpus 0 ≡ o
+            → option_map_or (λ b. b) (option_map (λ (cpu : CpuView R). cpu.suspended) o) false ≡ false → x.suspended ≡ false
+        first None none is = absurd (none_some (sym none ∙ (get_some s.system.cpus.cpus 0
+            (let low = slice_get_within s.system.cpus.cpus n x at in omega (arith, low))).1))
+        first (Some y) some is = h.sound.agrees.suspended n 0 x.suspended y.suspended
+            (ap (λ o. option_map (λ (cpu : CpuView R). cpu.suspended) o) at)
+            (ap (λ o. option_map (λ (cpu : CpuView R). cpu.suspended) o) some) ∙ is
+
     fire_refuses : (n : ℕ) (x y : CpuView R) (c d : C) (r : FireRefused) → slice_get s.system.cpus.cpus n ≡ Some x
         → slice_get b.side.system.cpus.cpus n ≡ Some y
         → CpuDoes handler firing no_interrupts (running c x) (Fire now (Err r)) (running d y)
         → HandlerRefuses handler.may_refuse r.why
-    fire_refuses n x y c d r p q (inl (late, bad, same)) = absurd (omega (arith, late, before))
+    fire_refuses n x y c d r p q (inl (why, bad, same)) = absurd (refused_not now x r.why (record {
+      awake = awake_all n x p;
+      early = λ late. absurd (omega (arith, late, before));
+    }) why)
     fire_refuses n x y c d r p q (inr (early, kept, stopped)) =
         let (t, found, stops) = stopped.stops in let id = stopped.last.id in
         let own = timer_few id y.cyclics t found in
@@ -319,11 +342,11 @@ module _ {C R : Type 0} (handler : Calls C) (firing : Raise R) where
 
       by : StepHalts handler firing h.last h.before (halt.Fired n why) → HandlerRefuses handler.may_refuse why
       by (inl told) = absurd told
-      by (inr (now, is, (after, f, refused))) =
+      by (inr (now, is, (awake, after, f, refused))) =
           let few : length all ≤ 65536 = form.few_steps in let short = length-take place all in
           let before = fit_before all place h.last h.here.0 (sym h.here.1) (fit_drop all place (0, form.moments_in_order)) in
           refused_by_handler (0 + length (take place all) * 12288000024576) now h.before.side after taken
-          (omega (arith, few, short)) (subst (λ (x : Step). IsBefore x) is before) f n why refused.here
+          (omega (arith, few, short)) (subst (λ (x : Step). IsBefore x) is before) awake f n why refused.here
 
 -- ---- before the first step
 

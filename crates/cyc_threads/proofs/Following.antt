@@ -1,4 +1,5 @@
 -- What each call of a lead keeps, and its fires and its waits, a whole run keeps.
+use Rattle.std.proofs.Common.{inl, inr}
 use Rattle.std.proofs.Common.{◌≡◌, ℕ, List, [], ◌∷◌, sym, subst}
 use Rattle.std.specs.Prelude.{Bool, true, false}
 use Rattle.std.specs.List.{FoldsTo}
@@ -22,7 +23,8 @@ module _ {C R : Type 0} (handler : Calls C)
     (firing : Raise R) (K : Progress R C → Progress R C → Type 0)
     (same : (s : Progress R C) → K s s) (joined : (s t u : Progress R C) → K s t → K t u → K s u)
     (calls : (name : ℕ) (call : SystemCall) (s t : Progress R C) → CallsFor firing name call s t → K s t)
-    (settles : (s t : Progress R C) → Settles firing s t → K s t) where
+    (settles : (s t : Progress R C) → Settles firing s t → K s t)
+    (sets : (now : ℕ) (s : Progress R C) → K s (record s { clock = now })) where
   is_same : (s t : Progress R C) → t ≡ s → K s t
   is_same s t e = subst (λ (x : Progress R C). K s x) (sym e) (same s)
 
@@ -54,11 +56,14 @@ module _ {C R : Type 0} (handler : Calls C)
       (λ id p. go (calls r.name _ s t p.1)) (λ e. go (is_same s t e))) (λ e. go (is_same s t e))
   does_all L (steps.Remove name) s t go fires d = with_id (id_of (named_at s.names name)) _ L (t ≡ s) d
       (λ id p. go (calls name _ s t p.1)) (λ e. go (is_same s t e))
-  does_all L (steps.Advance now) s t go fires d = fires now d
+  does_all L (steps.Advance now) s t go fires (inl (asleep, same)) = go (subst (λ (x : Progress R C). K s x) (sym same) (sets now s))
+  does_all L (steps.Advance now) s t go fires (inr d) = fires now d
   does_all L (steps.Softint i) s t go fires d = go (is_same s t d)
   does_all L (steps.Juggle n) s t go fires d = go (calls 0 _ s t d.1)
   does_all L (steps.Offline n) s t go fires d = go (calls 0 _ s t d.1)
   does_all L (steps.Online n) s t go fires d = go (calls 0 _ s t d.1)
+  does_all L steps.Suspend s t go fires d = go (calls 0 _ s t d.1)
+  does_all L steps.Resume s t go fires d = go (calls 0 _ s t d.1)
 
   module _ (fires : (now : ℕ) (s t : Progress R C) → Fires handler firing now s t → K s t) where
     steps_all : (all : List Step) (s t : Progress R C) → TakesSteps handler firing s all t → K s t

@@ -1,4 +1,6 @@
 -- The first of several refusals, and why a run ends.
+use Rattle.std.proofs.Common.{false}
+use Rattle.cyc_agreement.specs.Suspending.{is_suspended}
 use Rattle.std.proofs.Common.{◌≡◌, ℕ, ◌<◌, inl, inr, List, Option, None, length, refl, subst}
 use Rattle.std.specs.Prelude.{Result, take, slice_index_or}
 use Rattle.cyc_types.specs.declared.Calls.{Ghosts as Calls}
@@ -34,22 +36,24 @@ module _ {C R : Type 0} (handler : Calls C) (firing : Raise R) where
   halts_at xs i x s t h low is p q = inr (record { place = i; last = x; here = (low, is); before = t; taken = p; halts = q })
 
   -- a fire of all CPUs that ended the run, and one that did not
-  pub fire_halts : (now now' : ℕ) (s : Progress R C) (after : Advanced R C) (answers : List (Option (Result Fired FireRefused)))
+  pub fire_halts : (now now' : ℕ) (s : Progress R C) → is_suspended s.side.system ≡ false → (after : Advanced R C) (answers : List (Option (Result Fired FireRefused)))
       (n : ℕ) (why : Refusal)
       → now' ≡ now → AllFire handler firing now' s.side after → answers ≡ after.answers.items
       → IsFirstRefused answers n why
       → AdvanceHalts handler firing now s (halt.Fired n why)
-  fire_halts now now' s after answers n why e f is q = (
+  fire_halts now now' s awake after answers n why e f is q = (
+    awake,
     after,
     subst (λ m. AllFire handler firing m s.side after) e f,
     subst (λ xs. IsFirstRefused xs n why) is q,
   )
 
-  pub fires : (now now' : ℕ) (s : Progress R C) (after : Advanced R C) (answers : List (Option (Result Fired FireRefused)))
+  pub fires : (now now' : ℕ) (s : Progress R C) → is_suspended s.side.system ≡ false → (after : Advanced R C) (answers : List (Option (Result Fired FireRefused)))
       → now' ≡ now → AllFire handler firing now' s.side after → answers ≡ after.answers.items
       → ((n : ℕ) → refusal_at answers n ≡ None) → IsSound firing.view after.side.system
       → Fires handler firing now s (record { side = after.side; clock = now'; names = s.names })
-  fires now now' s after answers e f is none sound = record {
+  fires now now' s awake after answers e f is none sound = record {
+    awake = awake;
     after = after;
     fired = subst (λ m. AllFire handler firing m s.side after) e f;
     side = refl;

@@ -58,6 +58,12 @@ module _ {C : Type 0} (handler : Calls C) where
     seats = asked_all s.side.system.cpus.cpus t.side.system.cpus.cpus c.asked.cpus;
   }
 
+  keeps_sets : (now : ℕ) (s : Progress RaiseEnd C) → KeepsWell s (record s { clock = now })
+  keeps_sets now s w = record {
+    well = record { ready = w.ready; sound = w.sound };
+    seats = same_all s.side.system.cpus.cpus;
+  }
+
   keeps_fires : (now : ℕ) (s t : Progress RaiseEnd C) → Fires handler raise_end now s t → KeepsWell s t
   keeps_fires now s t f w = record {
     well = record {
@@ -70,7 +76,7 @@ module _ {C : Type 0} (handler : Calls C) where
   }
 
   pub runs_keep : (all : List Step) (s t : Progress RaiseEnd C) → Runs handler raise_end s all t → KeepsWell s t
-  runs_keep = runs_all handler raise_end KeepsWell keeps_same keeps_joined keeps_calls keeps_settles keeps_fires
+  runs_keep = runs_all handler raise_end KeepsWell keeps_same keeps_joined keeps_calls keeps_settles keeps_sets keeps_fires
 
   pub reports_keep : (lines : List Line) (s t : Progress RaiseEnd C) → Reports raise_end lines s t → KeepsWell s t
-  reports_keep = reports_all handler raise_end KeepsWell keeps_same keeps_joined keeps_calls keeps_settles keeps_fires
+  reports_keep = reports_all handler raise_end KeepsWell keeps_same keeps_joined keeps_calls keeps_settles keeps_sets keeps_fires

@@ -40,6 +40,8 @@ before now (steps.Softint a) e = tt
 before now (steps.Juggle a) e = tt
 before now (steps.Offline a) e = tt
 before now (steps.Online a) e = tt
+before now steps.Suspend e = tt
+before now steps.Resume e = tt
 
 pub fit_before : (xs : List Step) (i : ℕ) (x : Step) → i < length xs → x ≡ get_or xs i x → Fit (drop i xs) → IsBefore x
 fit_before xs i x low is (now, fit) = before now x (moments_fit_next now xs i x low is fit).0

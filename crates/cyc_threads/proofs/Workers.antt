@@ -166,7 +166,7 @@ module _ {C R D : Type 0} (handler : Calls C) (firing : Raise R) (draining : Dra
     where
       by : StepHalts handler firing h.last h.before (halt.Refused x) → x ≡ Memory
       by (inl none) = absurd none
-      by (inr (now, is, m)) = m
+      by (inr (now, is, (awake, m))) = m
 
   fired_why : (n : ℕ) (why : Refusal) → WhyHalted handler firing a steps (halt.Fired n why)
       → IsHalted handler firing a steps (halt.Fired n why)

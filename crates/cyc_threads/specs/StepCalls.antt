@@ -1,5 +1,6 @@
 -- What the thread that leads a run does between two steps of its script: calls of the system, and the wait until it has settled.
-use Rattle.std.specs.Prelude.{◌≡◌, ℕ, ◌<◌, List, length, slice_index_or, Option, Some, None, Result, Ok, Err}
+use Rattle.cyc_agreement.specs.Suspending.{is_suspended}
+use Rattle.std.specs.Prelude.{◌≡◌, ◌⊎◌, ℕ, ◌<◌, true, false, List, length, slice_index_or, Option, Some, None, Result, Ok, Err}
 use Rattle.std.specs.List.{FoldsTo}
 use Rattle.cyc_types.specs.declared.Calls.{Ghosts as Calls}
 use Rattle.cyc_types.specs.declared.Raise.{Ghosts as Raise}
@@ -68,9 +69,11 @@ pub record IsFirstRefused (answers : List (Option (Result Fired FireRefused))) (
   pub here : refusal_at answers n ≡ Some why
   pub first : (m : ℕ) → m < n → refusal_at answers m ≡ None
 
--- all online CPUs fired at this moment, each in a thread of its own, and none was refused; the clock stands at it
+-- the system was not suspended: all online CPUs fired at this moment, each in a thread of its own, and none was refused; the clock
+-- stands at it
 pub record Fires {C R : Type 0} (handler : Calls C)
     (firing : Raise R) (now : ℕ) (s t : Progress R C) : Type 0 where
+  pub awake : is_suspended s.side.system ≡ false
   pub after : Advanced R C
   pub fired : AllFire handler firing now s.side after
   pub side : t.side ≡ after.side
@@ -78,3 +81,8 @@ pub record Fires {C R : Type 0} (handler : Calls C)
   pub names : t.names ≡ s.names
   pub clock : t.clock ≡ now
   pub sound : IsSound firing.view t.side.system
+
+-- an `advance`: while the system is suspended no CPU fires and no thread is started, and the clock alone is set
+abbrev pub Advances : {C R : Type 0} → Calls C → Raise R → ℕ → Progress R C → Progress R C → Type 0
+Advances handler firing now s t =
+    ((is_suspended s.side.system ≡ true) × (t ≡ record s { clock = now })) ⊎ Fires handler firing now s t

@@ -1,5 +1,6 @@
 -- What becomes of a script in a run in threads, and why it may end early.
-use Rattle.std.specs.Prelude.{◌≡◌, ℕ, ◌<◌, ◌⊎◌, ⊤, List, length, take, slice_index_or}
+use Rattle.cyc_agreement.specs.Suspending.{is_suspended}
+use Rattle.std.specs.Prelude.{◌≡◌, ℕ, ◌<◌, ◌⊎◌, ⊤, false, List, length, take, slice_index_or}
 use Rattle.std.specs.List.{FoldsTo}
 use Rattle.cyc_types.specs.declared.Calls.{Ghosts as Calls}
 use Rattle.cyc_types.specs.declared.Raise.{Ghosts as Raise}
@@ -38,13 +39,13 @@ abbrev pub Runs : {C R : Type 0} → Calls C
 Runs {C} {R} handler firing s all t =
     (u : Progress R C) × TakesSteps handler firing s all u × Waits firing u t
 
--- why an `advance` to this moment ends a run: memory for it was refused, or the fire of a CPU was, and that of none
--- with a smaller number
+-- why an `advance` to this moment ends a run, where the system is not suspended: memory for it was refused, or the fire of a CPU
+-- was, and that of none with a smaller number
 abbrev pub AdvanceHalts : {C R : Type 0} → Calls C
     → Raise R → ℕ → Progress R C → Halt → Type 0
-AdvanceHalts {C} {R} handler firing now s (halt.Fired n why) = (after : Advanced R C)
+AdvanceHalts {C} {R} handler firing now s (halt.Fired n why) = (is_suspended s.side.system ≡ false) × (after : Advanced R C)
     × AllFire handler firing now s.side after × IsFirstRefused after.answers.items n why
-AdvanceHalts handler firing now s (halt.Refused e) = e ≡ Memory
+AdvanceHalts handler firing now s (halt.Refused e) = (is_suspended s.side.system ≡ false) × (e ≡ Memory)
 AdvanceHalts handler firing now s (halt.Told id) = ⊥
 
 -- why one step ended a run: it is an `advance` that does; or in the wait before it the lead heard that a draining thread was

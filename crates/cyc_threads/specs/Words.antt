@@ -8,10 +8,10 @@ use Rattle.cyc_types.specs.declared.refusal.Refusal.{Refusal}
 use Rattle.cyc_script.specs.declared.step.Step.{Step}
 use Rattle.cyc_script.specs.declared.step.Step.TheVariants as steps
 use Rattle.cyc_system_laws.specs.SystemRemoval.{SystemRemoval}
-use Rattle.cyc_system_workers.specs.Calls.{Add, AddOmni, Bind, BeginRemove, Juggle, Offline, Online, reprograms}
+use Rattle.cyc_system_workers.specs.Calls.{Add, AddOmni, Bind, BeginRemove, Juggle, Offline, Online, Suspend, Resume, reprograms}
 use Rattle.cyc_threads.specs.declared.progress.Progress.{Progress}
 use Rattle.cyc_threads.specs.Names.{named_at, id_of}
-use Rattle.cyc_threads.specs.StepCalls.{CallsFor, Waits, Fires}
+use Rattle.cyc_threads.specs.StepCalls.{CallsFor, Waits, Advances}
 
 -- the numbers of a step are those of a series; a step with others does nothing
 abbrev pub WithSeries : ℤ → ℤ → (When → Type 0) → Type 0 → Type 0
@@ -45,7 +45,7 @@ Does handler firing (steps.Reprogram r) s t = WithMoment r.moment (λ moment. Wi
     × CallsFor firing r.name (reprograms r.cpu id moment answer) s t) (t ≡ s)) (t ≡ s)
 Does handler firing (steps.Remove name) s t = WithId (id_of (named_at s.names name))
     (λ id. (answer : Result SystemRemoval Refusal) × CallsFor firing name (BeginRemove id answer) s t) (t ≡ s)
-Does handler firing (steps.Advance now) s t = Fires handler firing now s t
+Does handler firing (steps.Advance now) s t = Advances handler firing now s t
 Does handler firing (steps.Softint i) s t = t ≡ s
 Does handler firing (steps.Juggle n) s t =
     (answer : Result JuggleReport Refusal) × CallsFor firing 0 (Juggle n answer) s t
@@ -53,6 +53,8 @@ Does handler firing (steps.Offline n) s t =
     (answer : Result (Unit {0}) Refusal) × CallsFor firing 0 (Offline n answer) s t
 Does handler firing (steps.Online n) s t =
     (answer : Result (Unit {0}) Refusal) × CallsFor firing 0 (Online n s.clock answer) s t
+Does handler firing steps.Suspend s t = (answer : Result (Unit {0}) Refusal) × CallsFor firing 0 (Suspend answer) s t
+Does handler firing steps.Resume s t = (answer : Result (Unit {0}) Refusal) × CallsFor firing 0 (Resume answer) s t
 
 -- every word but `advance` and `remove` waits first until no removal is open and all CPUs have settled
 abbrev pub waits_first : Step → Bool

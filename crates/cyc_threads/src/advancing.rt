@@ -2,7 +2,7 @@
 
 ghost use Rattle.std.specs.Prelude.{◌≡◌, ◌<◌, ◌≤◌, ℕ, length, None, IfOk, IfErr, IfNone, IfSome};
 ghost use Rattle.cyc_types.specs.Series.{never};
-ghost use Rattle.cyc_threads.specs.StepCalls.{Fires, IsReady, IsFirstRefused, refusal_at, refusal_of};
+ghost use Rattle.cyc_threads.specs.StepCalls.{Advances, IsReady, IsFirstRefused, refusal_at, refusal_of};
 ghost use Rattle.cyc_threads.specs.Steps.{AdvanceHalts};
 
 use crate::halt::Halt;
@@ -58,7 +58,8 @@ fn moment_of(nanoseconds: u64) -> Moment
     Moment::new(nanoseconds as i64).unwrap_or(Moment::NEVER)
 }
 
-/// The word `advance`: sets the clock, and all online CPUs fire, each in a thread of its own. It ends when these have ended.
+/// The word `advance`: sets the clock, and all online CPUs fire, each in a thread of its own. It ends when these have ended. While the
+/// system is suspended the clock alone is set.
 ///
 /// Refuses with Memory where memory or a thread was refused, and then with the refusal of the smallest CPU whose fire was.
 pub(crate) fn advance_clock<W: Threads + Wait, R: Raise + Send + Drop, C: Calls + Send + Drop>(
@@ -69,10 +70,16 @@ pub(crate) fn advance_clock<W: Threads + Wait, R: Raise + Send + Drop, C: Calls 
 ) -> Result<Progress<R, C>, Halt>
     requires before { nanoseconds < never }
     requires ready { IsReady progress }
-    ensures fired { IfOk result (λ after. Fires C.Calls R.Raise nanoseconds progress after) }
+    ensures fired { IfOk result (λ after. Advances C.Calls R.Raise nanoseconds progress after) }
     ensures halted { IfErr result (λ h. AdvanceHalts C.Calls R.Raise nanoseconds progress h) }
 {
     let now = moment_of(nanoseconds);
+    if progress.side.system.is_suspended() {
+        return Ok(Progress {
+            clock: now,
+            ..progress
+        });
+    }
     let Progress {
         side,
         clock: _,

@@ -90,3 +90,19 @@ pub(crate) fn online<R: Raise, C: Calls>(progress: &mut Progress<R, C>, cpu: u32
     let _answer = progress.side.system.online(cpu, progress.clock);
     sound(&progress.side.system);
 }
+
+/// The word `suspend`.
+pub(crate) fn suspend<R: Raise, C: Calls>(progress: &mut Progress<R, C>)
+    ensures { Does C.Calls R.Raise steps.Suspend progress.old progress.new }
+{
+    let _answer = progress.side.system.suspend();
+    sound(&progress.side.system);
+}
+
+/// The word `resume`.
+pub(crate) fn resume<R: Raise, C: Calls>(progress: &mut Progress<R, C>)
+    ensures { Does C.Calls R.Raise steps.Resume progress.old progress.new }
+{
+    let _answer = progress.side.system.resume();
+    sound(&progress.side.system);
+}

@@ -9,7 +9,7 @@ ghost use Rattle.cyc_threads.specs.Steps.{IsTold, IsBefore, Runs, StepHalts, Why
 
 use crate::adding::{add, add_omni};
 use crate::advancing::advance_clock;
-use crate::changing::{bind, juggle, offline, online, reprogram};
+use crate::changing::{bind, juggle, offline, online, reprogram, resume, suspend};
 use crate::halt::Halt;
 use crate::progress::Progress;
 use crate::removing::remove;
@@ -75,6 +75,8 @@ fn do_step<W: Threads + Wait, R: Raise + Send + Drop, C: Calls + Send + Drop>(
         Step::Juggle(cpu) => juggle(&mut progress, *cpu),
         Step::Offline(cpu) => offline(&mut progress, *cpu),
         Step::Online(cpu) => online(&mut progress, *cpu),
+        Step::Suspend => suspend(&mut progress),
+        Step::Resume => resume(&mut progress),
     }
     Ok(progress)
 }
@@ -99,8 +101,8 @@ fn take_step<W: Threads + Wait + Sync, R: Raise + Send + Drop, C: Calls + Send +
 /// Takes the steps of a script, one after another, and then waits until no removal is open and every CPU has settled.
 ///
 /// Each word is one call of the system, at the clock; a refused one changes nothing and the steps go on, also where memory
-/// was refused. An `advance` fires all online CPUs, each in a thread of its own, and ends when they have; a `softint` does
-/// nothing, since other threads drain the levels all the while. Every other word but `remove` waits first until each open
+/// was refused. An `advance` fires all online CPUs, each in a thread of its own, and ends when they have; while the system is
+/// suspended it sets the clock alone, and starts no thread. A `softint` does nothing, since other threads drain the levels all the while. Every other word but `remove` waits first until each open
 /// removal has answered and each CPU has settled, and wakes the draining workers between two questions.
 ///
 /// It ends early where memory or a thread for an `advance` was refused, or a fire was, and where a handler of a draining worker

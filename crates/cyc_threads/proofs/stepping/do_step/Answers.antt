@@ -1,7 +1,7 @@
 use Rattle.std.proofs.Common.{refl}
 use Rattle.cyc_threads.proofs.Taking.{does_same}
 use Rattle.cyc_threads.proofs.stepping.do_step.Goals.{in-Add, in-Omni, in-Bind, in-Unbind, in-Reprogram, in-Remove, in-Softint}
-use Rattle.cyc_threads.proofs.stepping.do_step.Goals.{in-Juggle, in-Offline, in-Online}
+use Rattle.cyc_threads.proofs.stepping.do_step.Goals.{in-Juggle, in-Offline, in-Online, in-Suspend, in-Resume}
 use Rattle.cyc_threads.proofs.stepping.do_step.Goals as goal
 
 pub returns-clause-did : goal.returns-clause-did
@@ -17,4 +17,6 @@ returns-clause-did g c =
       | in-Juggle w ↦ does_same g.C.Calls g.R.Raise _ _ _ _ _ w.in-Juggle.is w.progress-is w.juggle.ensures
       | in-Offline w ↦ does_same g.C.Calls g.R.Raise _ _ _ _ _ w.in-Offline.is w.progress-is w.offline.ensures
       | in-Online w ↦ does_same g.C.Calls g.R.Raise _ _ _ _ _ w.in-Online.is w.progress-is w.online.ensures
+      | in-Suspend w ↦ does_same g.C.Calls g.R.Raise _ _ _ _ _ w.in-Suspend.is w.progress-is w.suspend.ensures
+      | in-Resume w ↦ does_same g.C.Calls g.R.Raise _ _ _ _ _ w.in-Resume.is w.progress-is w.resume.ensures
     ]
