@@ -46,3 +46,5 @@ module _ {C R : Type 0} (handler : Calls C) (firing : Raise R) where
   given_met (steps.Juggle n) s t d name e = absurd (let odd : false ≡ true = e in cc)
   given_met (steps.Offline n) s t d name e = absurd (let odd : false ≡ true = e in cc)
   given_met (steps.Online n) s t d name e = absurd (let odd : false ≡ true = e in cc)
+  given_met steps.Suspend s t d name e = absurd (let odd : false ≡ true = e in cc)
+  given_met steps.Resume s t d name e = absurd (let odd : false ≡ true = e in cc)

@@ -1,4 +1,10 @@
 -- The steps of a calm script are met as the closed form says, one after another.
+use Rattle.cyc_thread_calls.proofs.Moving.{stays_move}
+use Rattle.std.proofs.Common.{◌<◌}
+use Rattle.cyc_types.specs.Series.{never}
+use Rattle.cyc_threads.specs.Calls.{SystemCall}
+use Rattle.cyc_threads.specs.Keeping.{TouchesRecord}
+use Rattle.cyc_thread_calls.proofs.Keeping.{IsMove}
 use Rattle.std.proofs.Common.{◌≡◌, ◌∙◌, ℕ, ◌≤◌, ◌⊎◌, inl, inr, Bool, true, false, cond}
 use Rattle.std.proofs.Common.{Option, Some, None, Result, List, [], ◌∷◌, ◌++◌, length, replicate, refl, sym, ap, subst, arith}
 use Rattle.std.specs.Prelude.{◌&&◌, is_ok}
@@ -63,6 +69,8 @@ one_more k (steps.Softint i) = omega arith
 one_more k (steps.Juggle n) = omega arith
 one_more k (steps.Offline n) = omega arith
 one_more k (steps.Online n) = omega arith
+one_more k steps.Suspend = omega arith
+one_more k steps.Resume = omega arith
 
 -- no name is taken back
 pub more_names : (k : ℕ) (xs : List Step) → k ≤ names_after_all k xs
@@ -110,7 +118,7 @@ module _ {C R : Type 0} (firing : Raise R) (cpus names given : ℕ)
   reprogram_met name moment cpu OnAll (Removed receipt) s t d is stays h w still = absurd is
 
   -- a step that changes nothing of what the names have
-  same_has : (b : Bool) (t : Progress R C) → Fits firing cpus names given has t
+  pub same_has : (b : Bool) (t : Progress R C) → Fits firing cpus names given has t
       → Fits firing cpus names given (cond b has has) t
   same_has true t h = h
   same_has false t h = h
@@ -133,27 +141,51 @@ module _ {C R : Type 0} (firing : Raise R) (cpus names given : ℕ)
         },
       )
 
+module _ {C R : Type 0} (firing : Raise R) (cpus names given : ℕ) (has : ℕ → Standing) where
+  -- a word that is about no name, and moves nothing
+  pub marks_stay : (call : SystemCall) (s t : Progress R C) (c : CallsFor firing 0 call s t) → IsMove firing call
+      → ((id : ℕ) → TouchesRecord id call → ⊥) → t.names ≡ s.names → Fits firing cpus names given has s
+      → Stays firing cpus names given has s t
+  marks_stay call s t c move other same h = stays_move firing cpus names given has 0 call s t c move same other h
+
+  -- the clock alone is set
+  pub set_fits : (now : ℕ) (s : Progress R C) → now < never → Fits firing cpus names given has s
+      → Fits firing cpus names given has (record s { clock = now })
+  set_fits now s early h = record {
+    rising = h.rising;
+    above = h.above;
+    few = h.few;
+    early = early;
+    long = h.long;
+    online = h.online;
+    many = h.many;
+    ready = h.ready;
+    each = h.each;
+    ids = h.ids;
+    own = h.own;
+  }
+
 module _ {C R : Type 0} (handler : Calls C)
-    (firing : Raise R) (cpus names : ℕ) (few : names ≤ most_cyclics) where
+    (firing : Raise R) (cpus names : ℕ) (few : names ≤ most_cyclics) (suspended : Bool) where
   -- a word that leaves what the names have, and is met so
   pub stays_next : (given : ℕ) (has : ℕ → Standing) (x : Step) (s t : Progress R C)
       (d : Does handler firing x s t) → names_after given x ≡ given → after_step x has ≡ has
-      → OnlyMoves x ⊎ (accepted handler firing x s t d ≡ is_taken cpus has x)
+      → OnlyMoves x ⊎ (accepted handler firing x s t d ≡ is_taken cpus suspended has x)
       → Stays firing cpus names given has s t
-      → NextCalm handler firing cpus names few given has x s t d
+      → NextCalm handler firing cpus names few suspended given has x s t d
   stays_next given has x s t d none same agree stays = record {
     next = record {
       agree = agree;
-      fits = subst (λ (k : ℕ). Fits firing cpus names k (cond (is_taken cpus has x) (after_step x has) has) t) (sym none)
-          (subst (λ (f : ℕ → Standing). Fits firing cpus names given (cond (is_taken cpus has x) f has) t) (sym same)
-          (same_has firing cpus names given has (is_taken cpus has x) t stays.fits));
+      fits = subst (λ (k : ℕ). Fits firing cpus names k (cond (is_taken cpus suspended has x) (after_step x has) has) t) (sym none)
+          (subst (λ (f : ℕ → Standing). Fits firing cpus names given (cond (is_taken cpus suspended has x) f has) t) (sym same)
+          (same_has firing cpus names given has (is_taken cpus suspended has x) t stays.fits));
     };
     calm = stays.calm;
   }
 
   pub reprogram_next : (given : ℕ) (has : ℕ → Standing) (r : ReprogramStep) (s t : Progress R C)
       (d : Does handler firing (steps.Reprogram r) s t) → Fits firing cpus names given has s
-      → HasWaited firing s → NextCalm handler firing cpus names few given has (steps.Reprogram r) s t d
+      → HasWaited firing s → NextCalm handler firing cpus names few suspended given has (steps.Reprogram r) s t d
   reprogram_next given has r s t (inl (moment, is, d)) h w =
       let q = waited_calm firing s w in
       stays_next given has (steps.Reprogram r) s t (inl (moment, is, d)) refl refl

@@ -1,4 +1,8 @@
 -- Before the first step no name has anything, all CPUs are online, and nothing is open.
+use Rattle.std.proofs.Common.{refl}
+use Rattle.std.proofs.Common.{false}
+use Rattle.std.specs.Option.{option_map, option_map_or}
+use Rattle.cyc_agreement.specs.Suspending.{is_suspended}
 use Rattle.std.proofs.Common.{◌≡◌, ◌∙◌, ℕ, zero, suc, ◌-◌, true, Some, None, List, [], ◌∷◌, length, map, replicate}
 use Rattle.std.proofs.Common.{sym, ap, subst, arith}
 use Rattle.std.specs.List.{slice_get}
@@ -30,6 +34,12 @@ new_still : (ends : List (RaiseEnd × RaiseEnd)) (n : ℕ) (x : CpuView RaiseEnd
 new_still [] n x at = absurd (none_some at)
 new_still (e ∷ ends) zero x at = ap (λ (z : CpuView RaiseEnd). z.removal) (sym (same_some at))
 new_still (e ∷ ends) (suc n) x at = new_still ends n x at
+
+-- and is not suspended
+new_awake : (ends : List (RaiseEnd × RaiseEnd)) → option_map_or (λ suspended. suspended)
+    (option_map (λ cpu. cpu.suspended) (slice_get (map (λ e. new_cpu most e.0 e.1) ends) 0)) false ≡ false
+new_awake [] = refl
+new_awake (e ∷ ends) = refl
 
 no_records : (rs : List Record) → rs ≡ [] → HasRisingIds rs × HasNoRecord 0 rs
 no_records [] e = (λ i j r s less a b. absurd (none_some a), λ k d low. absurd (omega (arith, low)))
@@ -77,3 +87,7 @@ module _ {C : Type 0} (names cpus : ℕ) (all : List (Seated C)) (p : Progress R
     still = λ n x at. new_still first.ends n x
         (sym (ap (λ (v : CpusView RaiseEnd). slice_get v.cpus n) first.cpus) ∙ at);
   }
+
+  pub first_awake : is_suspended p.side.system ≡ false
+  first_awake = ap (λ (v : CpusView RaiseEnd). option_map_or (λ suspended. suspended)
+      (option_map (λ cpu. cpu.suspended) (slice_get v.cpus 0)) false) first.cpus ∙ new_awake first.ends

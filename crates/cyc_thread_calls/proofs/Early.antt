@@ -84,13 +84,16 @@ module _ {C R : Type 0} (handler : Calls C) (firing : Raise R) where
   does_early now (steps.Reprogram r) s t (inr (bad, e)) fits = none_late
   does_early now (steps.Remove name) s t d fits = with_early SystemRemoval (λ id answer. BeginRemove id answer) name s t
       (id_of (named_at s.names name)) d (λ own answer. tt)
-  does_early now (steps.Advance moment) s t d fits =
+  does_early now (steps.Advance moment) s t (inl suspended) fits = none_late
+  does_early now (steps.Advance moment) s t (inr d) fits =
       let below = and_right (nat_le now moment) (nat_lt moment never) fits in
       one_early (FireAll moment) (grind (arith, nat_tests, below))
   does_early now (steps.Softint i) s t d fits = none_late
   does_early now (steps.Juggle n) s t (answer, did) fits = one_early _ tt
   does_early now (steps.Offline n) s t (answer, did) fits = one_early _ tt
   does_early now (steps.Online n) s t (answer, did) fits = one_early _ tt
+  does_early now steps.Suspend s t (answer, did) fits = one_early _ tt
+  does_early now steps.Resume s t (answer, did) fits = one_early _ tt
 
   steps_early : (now : ℕ) (s : Progress R C) (xs : List Step) (t : Progress R C)
       (takes : TakesSteps handler firing s xs t) → moments_fit now xs ≡ true

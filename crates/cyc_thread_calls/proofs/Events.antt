@@ -51,7 +51,7 @@ module _ (i k : ℕ) where
   event_met clock x b = cond b (event_of k clock x) Passes
 
   abbrev pub clock_met : ℕ → Step → Bool → ℕ
-  clock_met clock x b = cond b (clock_after x clock) clock
+  clock_met clock x b = clock_after x clock
 
   pub one_met : (x : Step) (b : Bool) (ms : List Met) (clock : ℕ) (t : Told)
       → told_by (events_of k clock (record { step = x; accepted = b } ∷ ms)) t

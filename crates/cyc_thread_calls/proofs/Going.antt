@@ -100,11 +100,14 @@ module _ {C R : Type 0} (handler : Calls C) (firing : Raise R) where
   does_go (steps.Reprogram r) s t (inr (odd, e)) = goes_none s t e
   does_go (steps.Remove name) s t d = with_goes SystemRemoval (λ id answer. BeginRemove id answer) name s t
       (id_of (named_at s.names name)) d
-  does_go (steps.Advance now) s t f = fires_go now s t f
+  does_go (steps.Advance now) s t (inl (suspended, e)) = ap (λ (p : Progress R C). p.side) (sym e)
+  does_go (steps.Advance now) s t (inr f) = fires_go now s t f
   does_go (steps.Softint i) s t e = goes_none s t e
   does_go (steps.Juggle n) s t (answer, did) = goes_one 0 _ s t did
   does_go (steps.Offline n) s t (answer, did) = goes_one 0 _ s t did
   does_go (steps.Online n) s t (answer, did) = goes_one 0 _ s t did
+  does_go steps.Suspend s t (answer, did) = goes_one 0 _ s t did
+  does_go steps.Resume s t (answer, did) = goes_one 0 _ s t did
 
   pub step_goes : (s : Progress R C) (x : Step) (t : Progress R C) (d : TakesStep handler firing s x t)
       → Goes s (step_calls handler firing s x t d) t

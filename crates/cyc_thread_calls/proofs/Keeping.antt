@@ -1,4 +1,8 @@
 -- What the calls of a system keep of its CPUs: which are online, and that no removal is open.
+use Rattle.std.proofs.Common.{zero, suc, length}
+use Rattle.cyc_agreement.specs.Suspending.{on_each}
+use Rattle.cyc_cpu.specs.Calls.{Suspend as CpuSuspend, Resume as CpuResume}
+use Rattle.cyc_threads.specs.Calls.{Suspend, Resume}
 use Rattle.std.proofs.Common.{◌≡◌, ◌∙◌, ℕ, ◌⊎◌, inl, inr, Option, Some, None, Result, Ok, Err, List, [], ◌∷◌, ◌++◌, refl}
 use Rattle.std.proofs.Common.{true, false, sym, ap, subst}
 use mathlib.Core.Logic.{dite}
@@ -60,6 +64,10 @@ plain_on : (xs ys : List CallOn) → ArePlain xs → ArePlain ys → ArePlain (x
 plain_on [] ys a b = b
 plain_on (x ∷ xs) ys a b = (a.0, plain_on xs ys a.1 b)
 
+plain_each : (call : CpuCall) (n : ℕ) → IsPlain call → ArePlain (on_each call n)
+plain_each call zero plain = tt
+plain_each call (suc n) plain = plain_on (on_each call n) (on n call ∷ []) (plain_each call n plain) (plain, tt)
+
 plain_rooms : (more : ℕ) (ns : List ℕ) → ArePlain (rooms more ns)
 plain_rooms more [] = tt
 plain_rooms more (n ∷ ns) = (tt, plain_rooms more ns)
@@ -91,6 +99,8 @@ module _ {R : Type 0} (firing : Raise R) where
   still_one x y (TakeNow id (Ok taken)) (was, (c, counts, is, polled, leaves)) plain none = leaves.removal
   still_one x y (AskSettled true) d plain none = d.0.kept.removal ∙ none
   still_one x y (AskSettled false) d plain none = d.0.kept.removal ∙ none
+  still_one x y CpuSuspend d plain none = ap (λ (z : CpuView R). z.removal) d ∙ none
+  still_one x y CpuResume d plain none = ap (λ (z : CpuView R). z.removal) d ∙ none
   still_one x y call d plain none = absurd plain
 
   -- the same CPUs are online, and no removal opens
@@ -208,6 +218,8 @@ module _ {R : Type 0} (firing : Raise R) where
   IsQuiet (Reprogram own moment answer) = Unit {0}
   IsQuiet (ReprogramOn own n moment answer) = Unit {0}
   IsQuiet (Juggle n answer) = Unit {0}
+  IsQuiet (Suspend answer) = Unit {0}
+  IsQuiet (Resume answer) = Unit {0}
   IsQuiet call = ⊥
 
   pub keeps_call : (s t : SystemView R) (call : SystemCall) → Changes firing s call t → IsQuiet call → Keeps s.cpus t.cpus
@@ -223,6 +235,10 @@ module _ {R : Type 0} (firing : Raise R) where
       (λ g. keeps_works (on n (CpuReprogram own moment (Ok tt)) ∷ []) s.cpus t.cpus (tt, tt) g.1.0)
   keeps_call s t (Juggle n answer) d quiet = refused_or _ _ answer s t _ d
       (λ g. (let (report, is, moves) = g in keeps_turns n (single_ids n s) report s t moves))
+  keeps_call s t (Suspend answer) d quiet = refused_or _ _ answer s t _ d
+      (λ g. keeps_works (on_each CpuSuspend (length s.cpus.cpus)) s.cpus t.cpus (plain_each CpuSuspend (length s.cpus.cpus) tt) g.1.0)
+  keeps_call s t (Resume answer) d quiet = refused_or _ _ answer s t _ d
+      (λ g. keeps_works (on_each CpuResume (length s.cpus.cpus)) s.cpus t.cpus (plain_each CpuResume (length s.cpus.cpus) tt) g.1.0)
   keeps_call s t call d quiet = absurd quiet
 
   -- ---- a removal takes no CPU offline, and gives no id
@@ -316,6 +332,8 @@ module _ {R : Type 0} (firing : Raise R) where
   IsMove (Reprogram own moment answer) = Unit {0}
   IsMove (ReprogramOn own n moment answer) = Unit {0}
   IsMove (Juggle n answer) = Unit {0}
+  IsMove (Suspend answer) = Unit {0}
+  IsMove (Resume answer) = Unit {0}
   IsMove call = ⊥
 
   pub last_move : (s t : SystemView R) (call : SystemCall) → Changes firing s call t → IsMove call → t.last ≡ s.last
@@ -326,6 +344,8 @@ module _ {R : Type 0} (firing : Raise R) where
   last_move s t (ReprogramOn own n moment answer) d move = last_or _ _ answer s t _ d (λ g. g.1.2)
   last_move s t (Juggle n answer) d move = last_or _ _ answer s t _ d
       (λ g. (let (report, is, moves) = g in last_turns n (single_ids n s) report s t moves))
+  last_move s t (Suspend answer) d move = last_or _ _ answer s t _ d (λ g. g.1.2)
+  last_move s t (Resume answer) d move = last_or _ _ answer s t _ d (λ g. g.1.2)
   last_move s t call d move = absurd move
 
   pub quiet_move : (call : SystemCall) → IsMove call → IsQuiet call
@@ -333,4 +353,6 @@ module _ {R : Type 0} (firing : Raise R) where
   quiet_move (Reprogram own moment answer) move = tt
   quiet_move (ReprogramOn own n moment answer) move = tt
   quiet_move (Juggle n answer) move = tt
+  quiet_move (Suspend answer) move = tt
+  quiet_move (Resume answer) move = tt
   quiet_move call move = absurd move

@@ -195,6 +195,8 @@ module _ {C R : Type 0} (handler : Calls C) (firing : Raise R) where
   does_level name id (steps.Juggle n) s t d e = absurd (none_some e)
   does_level name id (steps.Offline n) s t d e = absurd (none_some e)
   does_level name id (steps.Online n) s t d e = absurd (none_some e)
+  does_level name id steps.Suspend s t d e = absurd (none_some e)
+  does_level name id steps.Resume s t d e = absurd (none_some e)
 
   abbrev SameLevel : ℕ → ℕ → List Step → List LeadCall → Type 0
   SameLevel name id xs way = (level : Level) × (level_in id way ≡ Some level) × (level_named name xs ≡ Some level)

@@ -34,6 +34,7 @@ pub mod Moving
 pub mod Stepping
 pub mod Ending
 pub mod Agreeing
+pub mod Marks
 pub mod Walking
 pub mod Beginning
 pub mod Spacing

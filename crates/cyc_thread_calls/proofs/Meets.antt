@@ -1,5 +1,6 @@
 -- Each step of a run is to a name what its call is to the id of the name.
-use Rattle.std.proofs.Common.{◌≡◌, ◌==◌, ◌∙◌, ℕ, inl, inr, Bool, true, false, cond, List, [], ◌∷◌, ◌++◌, Option, Some, None}
+use Rattle.cyc_threads.specs.Calls.{Suspend, Resume}
+use Rattle.std.proofs.Common.{◌≡◌, ◌==◌, ◌∙◌, ℕ, inl, inr, Bool, true, false, List, [], ◌∷◌, ◌++◌, Option, Some, None}
 use Rattle.std.proofs.Common.{Result, Ok, Err, refl, sym, ap, subst}
 use Rattle.std.specs.Prelude.{⊤}
 use Rattle.std.specs.List.{FoldsTo}
@@ -71,11 +72,11 @@ module _ {C R : Type 0} (handler : Calls C) (firing : Raise R) where
       pub owns : Owns i k t.names
       pub clock : t.clock ≡ clock_met i k s.clock x b
 
-    idle : (s t : Progress R C) (x : Step) → t ≡ s → Owns i k s.names → Meets s t x None false
-    idle s t x e owns = record {
+    idle : (s t : Progress R C) (x : Step) → t ≡ s → clock_after x s.clock ≡ s.clock → Owns i k s.names → Meets s t x None false
+    idle s t x e still owns = record {
       same = refl;
       owns = subst (λ (p : Progress R C). Owns i k p.names) (sym e) owns;
-      clock = ap (λ (p : Progress R C). p.clock) e;
+      clock = ap (λ (p : Progress R C). p.clock) e ∙ sym still;
     }
 
     called_one : (name : ℕ) (call : SystemCall) (s t : Progress R C) (x : Step) → CallsFor firing name call s t
@@ -85,8 +86,7 @@ module _ {C R : Type 0} (handler : Calls C) (firing : Raise R) where
     called_one name call s t x did owns fits still same = record {
       same = same;
       owns = subst (Owns i k) (sym did.told) (owns_noted i k name call s.names owns fits);
-      clock = did.clock ∙ (sym (cond_same (is_taken (Make call)) s.clock)
-          ∙ ap (λ (c : ℕ). cond (is_taken (Make call)) c s.clock) (sym still));
+      clock = did.clock ∙ sym still;
     }
 
     with_one : (Answer : Type 0) (call : ℕ → Result Answer Refusal → SystemCall) (name : ℕ) (s t : Progress R C) (x : Step)
@@ -101,7 +101,7 @@ module _ {C R : Type 0} (handler : Calls C) (firing : Raise R) where
         let mine = owns name own is in
         called_one name (call own answer) s t x did owns
         (λ d f. subst (λ (q : ℕ). (q == i) ≡ (name == k)) (fits own d answer f) mine) still (same own answer mine)
-    with_one Answer call name s t x None is e owns fits still same = idle s t x e owns
+    with_one Answer call name s t x None is e owns fits still same = idle s t x e still owns
 
     -- one that is about no id
     apart : (call : SystemCall) (s t : Progress R C) (x : Step) → CallsFor firing 0 call s t → Owns i k s.names
@@ -121,13 +121,13 @@ module _ {C R : Type 0} (handler : Calls C) (firing : Raise R) where
         (λ d f. gives d (for_added d a.level when s.clock answer f)) refl
         (add_event i k a when s.clock answer starts lasts
         (λ d e. gives d (ap (λ (q : Result ℕ Refusal). given_by (Make (Add a.level when s.clock q))) e)))
-    does_meets (steps.Add a) s t (inr (bad, e)) owns gives = idle s t (steps.Add a) e owns
+    does_meets (steps.Add a) s t (inr (bad, e)) owns gives = idle s t (steps.Add a) e refl owns
     does_meets (steps.Omni a) s t (inl (when, starts, lasts, long, (answer, did))) owns gives =
         called_one a.name (AddOmni a.level when a.skew s.clock answer) s t (steps.Omni a) did owns
         (λ d f. gives d (for_omni d a.level when a.skew s.clock answer f)) refl
         (omni_event i k a when s.clock answer starts lasts
         (λ d e. gives d (ap (λ (q : Result ℕ Refusal). given_by (Make (AddOmni a.level when a.skew s.clock q))) e)))
-    does_meets (steps.Omni a) s t (inr (bad, e)) owns gives = idle s t (steps.Omni a) e owns
+    does_meets (steps.Omni a) s t (inr (bad, e)) owns gives = idle s t (steps.Omni a) e refl owns
     does_meets (steps.Bind b) s t d owns gives = with_one (Unit {0}) (λ id answer. Bind id (Some b.cpu) answer) b.name s t
         (steps.Bind b) (id_of (named_at s.names b.name)) refl d owns (λ own q answer f. absurd f) refl
         (λ own answer mine. sym (cond_same (is_ok answer) Passes))
@@ -138,11 +138,16 @@ module _ {C R : Type 0} (handler : Calls C) (firing : Raise R) where
         with_one (Unit {0}) (λ id answer. reprograms r.cpu id moment answer) r.name s t
         (steps.Reprogram r) (id_of (named_at s.names r.name)) refl d owns (λ own q answer f. for_set r.cpu q own moment answer f)
         refl (λ own answer mine. set_event i k r own moment s.clock answer is mine)
-    does_meets (steps.Reprogram r) s t (inr (bad, e)) owns gives = idle s t (steps.Reprogram r) e owns
+    does_meets (steps.Reprogram r) s t (inr (bad, e)) owns gives = idle s t (steps.Reprogram r) e refl owns
     does_meets (steps.Remove name) s t d owns gives = with_one SystemRemoval (λ id answer. BeginRemove id answer) name s t
         (steps.Remove name) (id_of (named_at s.names name)) refl d owns (λ own q answer f. f) refl
         (λ own answer mine. remove_event i k name own s.clock answer mine)
-    does_meets (steps.Advance now) s t d owns gives = record {
+    does_meets (steps.Advance now) s t (inl (suspended, e)) owns gives = record {
+      same = refl;
+      owns = subst (λ (p : Progress R C). Owns i k p.names) (sym e) owns;
+      clock = ap (λ (p : Progress R C). p.clock) e;
+    }
+    does_meets (steps.Advance now) s t (inr d) owns gives = record {
       same = refl;
       owns = subst (Owns i k) (sym d.names) owns;
       clock = d.clock;
@@ -158,6 +163,10 @@ module _ {C R : Type 0} (handler : Calls C) (firing : Raise R) where
         (λ d f. f) refl (offline_event i k n s.clock answer)
     does_meets (steps.Online n) s t (answer, did) owns gives = apart (Online n s.clock answer) s t (steps.Online n) did owns
         (λ d f. f) refl (online_event i k n s.clock answer)
+    does_meets steps.Suspend s t (answer, did) owns gives = apart (Suspend answer) s t steps.Suspend did owns
+        (λ d f. f) refl (sym (cond_same (is_ok answer) Passes))
+    does_meets steps.Resume s t (answer, did) owns gives = apart (Resume answer) s t steps.Resume did owns
+        (λ d f. f) refl (sym (cond_same (is_ok answer) Passes))
 
     -- ---- the waits
 

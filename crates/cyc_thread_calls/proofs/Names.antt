@@ -189,13 +189,16 @@ module _ {C R : Type 0} (handler : Calls C) (firing : Raise R) (many : ℕ) wher
   does_held g way (steps.Remove name) s t d k =
       with_held SystemRemoval (λ id answer. BeginRemove id answer) g way name s t
       (λ id answer has did held. begins g way name id answer s t has did held) (id_of (named_at s.names name)) refl d k
-  does_held g way (steps.Advance now) s t f k =
+  does_held g way (steps.Advance now) s t (inl (suspended, e)) k = same_held g way (record s { clock = now }) t e k
+  does_held g way (steps.Advance now) s t (inr f) k =
       holds_quiet many g way s.names s.side.system.last k (FireAll now) t.names t.side.system.last (λ own. refl) f.names
       (let a = ap (λ p. p.system.last) f.side in let b = f.fired.last in omega (arith, a, b))
   does_held g way (steps.Softint i) s t e k = same_held g way s t e k
   does_held g way (steps.Juggle n) s t (answer, did) k = quiet g way 0 _ s t did refl (λ own. refl) k
   does_held g way (steps.Offline n) s t (answer, did) k = quiet g way 0 _ s t did refl (λ own. refl) k
   does_held g way (steps.Online n) s t (answer, did) k = quiet g way 0 _ s t did refl (λ own. refl) k
+  does_held g way steps.Suspend s t (answer, did) k = quiet g way 0 _ s t did refl (λ own. refl) k
+  does_held g way steps.Resume s t (answer, did) k = quiet g way 0 _ s t did refl (λ own. refl) k
 
   polls_held : (all : List Poll) (g : ℕ → Option ℕ) (way : List LeadCall) (s t : Progress R C) → FoldsTo (Polls firing) s all t
       → Held g way s → Held g (way ++ poll_calls all) t

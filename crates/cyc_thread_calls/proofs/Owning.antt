@@ -109,11 +109,14 @@ module _ {C R : Type 0} (handler : Calls C) (firing : Raise R) where
   does_next k id level (steps.Reprogram r) s t (inr nothing) fit e = absurd (none_some e)
   does_next k id level (steps.Remove name) s t d fit e = absurd (none_some (sym (with_none SystemRemoval
       (λ own answer. BeginRemove own answer) name id s t (λ own answer. refl) (id_of (named_at s.names name)) d) ∙ e))
-  does_next k id level (steps.Advance now) s t d fit e = absurd (none_some e)
+  does_next k id level (steps.Advance now) s t (inl suspended) fit e = absurd (none_some e)
+  does_next k id level (steps.Advance now) s t (inr f) fit e = absurd (none_some e)
   does_next k id level (steps.Softint i) s t d fit e = absurd (none_some e)
   does_next k id level (steps.Juggle n) s t d fit e = absurd (none_some e)
   does_next k id level (steps.Offline n) s t d fit e = absurd (none_some e)
   does_next k id level (steps.Online n) s t d fit e = absurd (none_some e)
+  does_next k id level steps.Suspend s t d fit e = absurd (none_some e)
+  does_next k id level steps.Resume s t d fit e = absurd (none_some e)
 
   abbrev pub HasName : ℕ → ℕ → (xs : List Step) (s t : Progress R C) → TakesSteps handler firing s xs t → Type 0
   HasName k id xs s t run = (name : ℕ) × (name < names_after_all k xs)

@@ -367,11 +367,14 @@ module _ {C R : Type 0} (handler : Calls C) (firing : Raise R) (many : ℕ) wher
       (id_of (named_at s.names r.name)) d (λ own answer. reprogram_news r.cpu own moment answer) (none refl))
   does_open (steps.Reprogram r) s t (inr (odd, e)) none k = none_open t (same_none s t e (none refl))
   does_open (steps.Remove name) s t d none k = remove_open name s t (id_of (named_at s.names name)) refl d k
-  does_open (steps.Advance now) s t f none k = fires_open now s t f k
+  does_open (steps.Advance now) s t (inl (suspended, e)) none k = subst AllOpen (sym e) k.opens
+  does_open (steps.Advance now) s t (inr f) none k = fires_open now s t f k
   does_open (steps.Softint i) s t e none k = none_open t (same_none s t e (none refl))
   does_open (steps.Juggle n) s t (answer, did) none k = none_open t (one_none 0 _ s t did refl (none refl))
   does_open (steps.Offline n) s t (answer, did) none k = none_open t (one_none 0 _ s t did refl (none refl))
   does_open (steps.Online n) s t (answer, did) none k = none_open t (one_none 0 _ s t did refl (none refl))
+  does_open steps.Suspend s t (answer, did) none k = none_open t (one_none 0 _ s t did refl (none refl))
+  does_open steps.Resume s t (answer, did) none k = none_open t (one_none 0 _ s t did refl (none refl))
 
   does_stands : (x : Step) (s t : Progress R C) → Does handler firing x s t
       → (waits_first x ≡ true → NoneLeaves s.names) → Stands s → Stands t
@@ -408,11 +411,14 @@ module _ {C R : Type 0} (handler : Calls C) (firing : Raise R) (many : ℕ) wher
   does_answered (steps.Reprogram r) s t (inr odd) = none_answered
   does_answered (steps.Remove name) s t d = with_answered SystemRemoval (λ id answer. BeginRemove id answer) name s t
       (id_of (named_at s.names name)) d (λ own answer. tt)
-  does_answered (steps.Advance now) s t f = one_answered _ tt
+  does_answered (steps.Advance now) s t (inl suspended) = none_answered
+  does_answered (steps.Advance now) s t (inr f) = one_answered _ tt
   does_answered (steps.Softint i) s t e = none_answered
   does_answered (steps.Juggle n) s t (answer, did) = one_answered _ tt
   does_answered (steps.Offline n) s t (answer, did) = one_answered _ tt
   does_answered (steps.Online n) s t (answer, did) = one_answered _ tt
+  does_answered steps.Suspend s t (answer, did) = one_answered _ tt
+  does_answered steps.Resume s t (answer, did) = one_answered _ tt
 
   -- ---- all steps
 

@@ -89,12 +89,16 @@ module _ {C R : Type 0} (handler : Calls C) (firing : Raise R) where
   does_rises (steps.Reprogram r) s t (inr (bad, e)) = unmoved s t e
   does_rises (steps.Remove name) s t d =
       id_rises (id_of (named_at s.names name)) name _ (λ id answer. BeginRemove id answer) s t d
-  does_rises (steps.Advance now) s t d =
+  does_rises (steps.Advance now) s t (inl (suspended, e)) =
+      let l = ap (λ (p : Progress R C). p.side.system.last) e in omega (arith, l)
+  does_rises (steps.Advance now) s t (inr d) =
       let a = d.fired.last in let b = ap (λ (p : _). p.system.last) d.side in omega (arith, a, b)
   does_rises (steps.Softint i) s t e = unmoved s t e
   does_rises (steps.Juggle n) s t (answer, did) = call_rises 0 _ s t did
   does_rises (steps.Offline n) s t (answer, did) = call_rises 0 _ s t did
   does_rises (steps.Online n) s t (answer, did) = call_rises 0 _ s t did
+  does_rises steps.Suspend s t (answer, did) = call_rises 0 _ s t did
+  does_rises steps.Resume s t (answer, did) = call_rises 0 _ s t did
 
   polls_rise : (polls : List Poll) (s t : Progress R C) → FoldsTo (Polls firing) s polls t → Rises s t
   polls_rise [] s t e = unmoved s t (sym e)
@@ -127,6 +131,8 @@ module _ {C R : Type 0} (handler : Calls C) (firing : Raise R) where
   does_gives n (steps.Juggle i) s t d fits = tt
   does_gives n (steps.Offline i) s t d fits = tt
   does_gives n (steps.Online i) s t d fits = tt
+  does_gives n steps.Suspend s t d fits = tt
+  does_gives n steps.Resume s t d fits = tt
 
   pub all_more : (P Q : ℕ → ℕ → Type 0) → ((j d : ℕ) → P j d → Q j d) → (s : Progress R C) (xs : List Step) (t : Progress R C)
       (takes : TakesSteps handler firing s xs t) → AllGive handler firing P s xs t takes

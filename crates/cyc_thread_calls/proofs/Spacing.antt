@@ -86,6 +86,8 @@ spaced b (steps.Reprogram x ∷ xs) a s k =
 spaced b (steps.Softint x ∷ xs) a s k = spaced true xs (apart_rest (steps.Softint x) xs a) (stay_rest (steps.Softint x) xs s) tt
 spaced b (steps.Juggle x ∷ xs) a s k = spaced true xs (apart_rest (steps.Juggle x) xs a) (stay_rest (steps.Juggle x) xs s) tt
 spaced b (steps.Online x ∷ xs) a s k = spaced true xs (apart_rest (steps.Online x) xs a) (stay_rest (steps.Online x) xs s) tt
+spaced b (steps.Suspend ∷ xs) a s k = spaced true xs (apart_rest steps.Suspend xs a) (stay_rest steps.Suspend xs s) tt
+spaced b (steps.Resume ∷ xs) a s k = spaced true xs (apart_rest steps.Resume xs a) (stay_rest steps.Resume xs s) tt
 
 pub calm_spaced : (script : Script) → IsCalm script → Spaced true script.steps.items
 calm_spaced script calm = spaced true script.steps.items calm.apart calm.online tt

@@ -73,7 +73,7 @@ pub no_moment_of : (number : ℤ) → number <ℤ pos 0 → is_moment number ≡
 no_moment_of number low = ap not (so_true _ low.lt)
 
 module _ {C R : Type 0} (handler : Calls C)
-    (firing : Raise R) (cpus names : ℕ) (few : names ≤ most_cyclics) where
+    (firing : Raise R) (cpus names : ℕ) (few : names ≤ most_cyclics) (suspended : Bool) where
   -- more names were introduced
   fits_more : (given : ℕ) (has : ℕ → Standing) (s : Progress R C) → Fits firing cpus names given has s
       → Fits firing cpus names (given + 1) has s
@@ -101,8 +101,8 @@ module _ {C R : Type 0} (handler : Calls C)
   -- A step was accepted as the closed form says, and what is true stays.
   pub record Next (given : ℕ) (has : ℕ → Standing) (x : Step) (s t : Progress R C)
       (d : Does handler firing x s t) : Type 0 where
-    pub agree : OnlyMoves x ⊎ (accepted handler firing x s t d ≡ is_taken cpus has x)
-    pub fits : Fits firing cpus names (names_after given x) (cond (is_taken cpus has x) (after_step x has) has) t
+    pub agree : OnlyMoves x ⊎ (accepted handler firing x s t d ≡ is_taken cpus suspended has x)
+    pub fits : Fits firing cpus names (names_after given x) (cond (is_taken cpus suspended has x) (after_step x has) has) t
 
   -- and nothing is open after it, as before it
   pub record NextCalm (given : ℕ) (has : ℕ → Standing) (x : Step) (s t : Progress R C)

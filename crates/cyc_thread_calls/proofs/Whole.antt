@@ -18,7 +18,7 @@ use Rattle.cyc_thread_calls.specs.Calm.{IsCalm}
 use Rattle.cyc_thread_calls.specs.Way.{calm_way}
 use Rattle.cyc_thread_calls.specs.Memory.{NoMemoryRefused}
 use Rattle.cyc_thread_calls.proofs.Walking.{run_agrees}
-use Rattle.cyc_thread_calls.proofs.Beginning.{first_fits, first_calm}
+use Rattle.cyc_thread_calls.proofs.Beginning.{first_fits, first_calm, first_awake}
 use Rattle.cyc_thread_calls.proofs.Spacing.{calm_spaced}
 
 module _ {C : Type 0} (handler : Calls C) (script : Script) (all : List (Seated C)) (first last : Progress RaiseEnd C)
@@ -30,7 +30,8 @@ module _ {C : Type 0} (handler : Calls C) (script : Script) (all : List (Seated 
       (calm_way script.cpus script.steps.items) × (length last.names ≡ length script.names.items)
   both = run_agrees handler raise_end script.cpus (length script.names.items) calm.few
       script.steps.items first last runs (first_fits (length script.names.items) script.cpus all first begins many)
-      (first_calm (length script.names.items) script.cpus all first begins many) (calm_spaced script calm)
+      (first_calm (length script.names.items) script.cpus all first begins many)
+      (first_awake (length script.names.items) script.cpus all first begins many) (calm_spaced script calm)
       script.well_formed.names_in_order script.well_formed.names_introduced script.well_formed.moments_in_order memory
 
   pub agrees : AgreeButMoves (way_of handler raise_end first script.steps.items last runs)

@@ -1,4 +1,5 @@
 -- The calls of the system that a run in threads made, in order: what led it, read off its steps as they were taken.
+use Rattle.cyc_threads.specs.Calls.{Suspend, Resume}
 use Rattle.std.specs.Prelude.{◌≡◌, ℕ, Bool, true, false, List, [], ◌∷◌, ◌++◌, map, Option, Some, None, Result}
 use Rattle.std.specs.Option.{option_map_or}
 use Rattle.std.specs.List.{FoldsTo}
@@ -81,11 +82,14 @@ module _ {C R : Type 0} (handler : Calls C) (firing : Raise R) where
   call_of (steps.Reprogram r) s t (inr nothing) = None
   call_of (steps.Remove name) s t does =
       call_with firing SystemRemoval (λ id answer. BeginRemove id answer) name s t (id_of (named_at s.names name)) does
-  call_of (steps.Advance now) s t does = Some (FireAll now)
+  call_of (steps.Advance now) s t (inl suspended) = None
+  call_of (steps.Advance now) s t (inr fires) = Some (FireAll now)
   call_of (steps.Softint i) s t does = None
   call_of (steps.Juggle n) s t (answer, did) = Some (Make (Juggle n answer))
   call_of (steps.Offline n) s t (answer, did) = Some (Make (Offline n answer))
   call_of (steps.Online n) s t (answer, did) = Some (Make (Online n s.clock answer))
+  call_of steps.Suspend s t (answer, did) = Some (Make (Suspend answer))
+  call_of steps.Resume s t (answer, did) = Some (Make (Resume answer))
 
   -- those of a step: of the wait before it, and its own
   abbrev pub step_calls : (s : Progress R C) (x : Step) (t : Progress R C) → TakesStep handler firing s x t → List LeadCall

@@ -1,4 +1,5 @@
 -- How the steps of a run in threads were met: which of them were accepted, read off the answers of their calls.
+use Rattle.cyc_threads.specs.Calls.{Suspend, Resume}
 use Rattle.std.specs.Prelude.{Bool, true, false, List, [], ◌∷◌}
 use Rattle.std.specs.Result.{is_ok}
 use Rattle.std.specs.Option.{option_map_or}
@@ -28,6 +29,8 @@ is_accepted (ReprogramOn id n moment answer) = is_ok answer
 is_accepted (Juggle n answer) = is_ok answer
 is_accepted (Offline n answer) = is_ok answer
 is_accepted (Online n now answer) = is_ok answer
+is_accepted (Suspend answer) = is_ok answer
+is_accepted (Resume answer) = is_ok answer
 is_accepted (FireOne n now answer) = is_ok answer
 is_accepted (SoftInterrupt n level budget answer) = is_ok answer
 
@@ -38,8 +41,8 @@ is_taken (FireAll now) = true
 is_taken AskAll = true
 
 module _ {C R : Type 0} (handler : Calls C) (firing : Raise R) where
-  -- A step was accepted where its call was not refused; one that did nothing was not. A `softint` makes no call, and is never
-  -- refused.
+  -- A step was accepted where its call was not refused; one that made no call was not, as an `advance` while the system is
+  -- suspended. A `softint` makes no call, and is never refused.
   abbrev pub accepted : (x : Step) (s t : Progress R C) → Does handler firing x s t → Bool
   accepted (Softint i) s t does = true
   accepted x s t does = option_map_or is_taken (call_of handler firing x s t does) false

@@ -3,7 +3,7 @@ use Rattle.std.specs.Prelude.{ℕ, ◌==◌, ◌&&◌, nat_lt, not, int_lt, ℤ,
 use Rattle.std.specs.Prelude.{Some, None}
 use Rattle.cyc_script.specs.declared.step.Step.{Step}
 use Rattle.cyc_script.specs.declared.step.Step.TheVariants.{Add, Omni, Bind, Unbind, Reprogram, Remove, Advance, Softint, Juggle}
-use Rattle.cyc_script.specs.declared.step.Step.TheVariants.{Offline, Online}
+use Rattle.cyc_script.specs.declared.step.Step.TheVariants.{Offline, Online, Suspend, Resume}
 use Rattle.cyc_expected.specs.Expected.{Met}
 
 -- what a name has
@@ -38,19 +38,22 @@ may_reprogram cpus OnAll None = false
 may_reprogram cpus OnAll (Some n) = nat_lt n cpus
 
 -- A step is accepted, where the names have this. Each CPU has room for all names. A word that moves cyclics, holds them where
--- they are or calls handlers counts as accepted, since it changes no count. No CPU goes offline, and so none comes back.
-abbrev pub is_taken : ℕ → (ℕ → Standing) → Step → Bool
-is_taken cpus has (Add a) = is_series a.start a.interval
-is_taken cpus has (Omni a) = is_series a.start a.interval
-is_taken cpus has (Reprogram r) = is_moment r.moment && may_reprogram cpus (has r.name) r.cpu
-is_taken cpus has (Remove name) = is_here (has name)
-is_taken cpus has (Advance now) = true
-is_taken cpus has (Bind b) = true
-is_taken cpus has (Unbind name) = true
-is_taken cpus has (Softint i) = true
-is_taken cpus has (Juggle n) = true
-is_taken cpus has (Offline n) = false
-is_taken cpus has (Online n) = false
+-- they are or calls handlers counts as accepted, since it changes no count. No CPU goes offline, and so none comes back. While the
+-- system is suspended no `advance` is accepted.
+abbrev pub is_taken : ℕ → Bool → (ℕ → Standing) → Step → Bool
+is_taken cpus suspended has (Add a) = is_series a.start a.interval
+is_taken cpus suspended has (Omni a) = is_series a.start a.interval
+is_taken cpus suspended has (Reprogram r) = is_moment r.moment && may_reprogram cpus (has r.name) r.cpu
+is_taken cpus suspended has (Remove name) = is_here (has name)
+is_taken cpus suspended has (Advance now) = not suspended
+is_taken cpus suspended has (Bind b) = true
+is_taken cpus suspended has (Unbind name) = true
+is_taken cpus suspended has (Softint i) = true
+is_taken cpus suspended has (Juggle n) = true
+is_taken cpus suspended has (Offline n) = false
+is_taken cpus suspended has (Online n) = false
+is_taken cpus suspended has Suspend = not suspended
+is_taken cpus suspended has Resume = suspended
 
 -- one name has another thing now
 abbrev pub with_standing : ℕ → Standing → (ℕ → Standing) → ℕ → Standing
@@ -63,12 +66,19 @@ after_step (Omni a) has = with_standing a.name OnAll has
 after_step (Remove name) has = with_standing name Absent has
 after_step step has = has
 
--- the steps, and which of them are accepted
-abbrev pub taken_from : ℕ → (ℕ → Standing) → List Step → List Met
-taken_from cpus has [] = []
-taken_from cpus has (step ∷ steps) = record { step = step; accepted = is_taken cpus has step }
-    ∷ taken_from cpus (if is_taken cpus has step then after_step step has else has) steps
+-- whether the system is suspended after a step
+abbrev pub suspended_after : Step → Bool → Bool
+suspended_after Suspend suspended = true
+suspended_after Resume suspended = false
+suspended_after step suspended = suspended
 
--- how a calm script over so many CPUs is met: at first no name has anything
+-- the steps, and which of them are accepted
+abbrev pub taken_from : ℕ → Bool → (ℕ → Standing) → List Step → List Met
+taken_from cpus suspended has [] = []
+taken_from cpus suspended has (step ∷ steps) = record { step = step; accepted = is_taken cpus suspended has step }
+    ∷ taken_from cpus (suspended_after step suspended)
+    (if is_taken cpus suspended has step then after_step step has else has) steps
+
+-- how a calm script over so many CPUs is met: at first no name has anything, and the system is not suspended
 abbrev pub calm_way : ℕ → List Step → List Met
-calm_way cpus steps = taken_from cpus (λ name. Absent) steps
+calm_way cpus steps = taken_from cpus false (λ name. Absent) steps
