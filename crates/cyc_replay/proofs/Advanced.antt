@@ -4,14 +4,14 @@ use Rattle.std.specs.Prelude.{nat_le}
 use Rattle.std.proofs.lemmas.Bool.Decides.{nat_tests}
 use Rattle.cyc_types.specs.Series.{never}
 use Rattle.cyc_types.specs.Tally.{TallyView, tally_count}
-use Rattle.cyc_types.specs.declared.refusal.Refusal.TheVariants.{BadNow}
+use Rattle.cyc_types.specs.declared.refusal.Refusal.TheVariants.{BadNow, Suspended}
 use Rattle.cyc_core.specs.Tables.{Tables}
 use Rattle.cyc_script.specs.Limits.{most_steps}
 use Rattle.cyc_script.specs.declared.step.Step.TheVariants.{Advance}
 use Rattle.cyc_system.specs.System.{RunningSystem, running_system}
 use Rattle.cyc_model.specs.State.{State, Outcome, online_cpus}
-use Rattle.cyc_types.specs.Reasons.{when, bad_now}
-use Rattle.cyc_model.specs.Advance.{advance}
+use Rattle.cyc_types.specs.Reasons.{when, or_else, bad_now}
+use Rattle.cyc_model.specs.Advance.{advance, advance_refusal}
 use Rattle.cyc_replay.specs.SystemAdvancing.{at_clock, fired_and_lost, HasFired, IsAdvanced}
 use Rattle.cyc_replay.specs.declared.machine.Machine.{Machine}
 use Rattle.cyc_replay.specs.Machine.{Holds, IsReached}
@@ -25,23 +25,42 @@ use Rattle.cyc_replay.specs.Advancing.{IsAdvancing}
 below_never : (now : ℕ) → now < never → nat_le never now ≡ false
 below_never now low = grind (arith, nat_tests)
 
-above_never : (now : ℕ) → never ≤ now → nat_le never now ≡ true
-above_never now high = grind (arith, nat_tests)
+in_time : (now : ℕ) (s : State) → now < never → s.suspended ≡ false → advance_refusal now s ≡ None
+in_time now s low awake = ap (λ b. or_else (when b Suspended) (or_else (bad_now now) None)) awake
+    ∙ ap (λ b. or_else (when b BadNow) None) (below_never now low)
 
-pub in_time : (now : ℕ) → now < never → bad_now now ≡ None
-in_time now low = ap (λ b. when b BadNow) (below_never now low)
+pub stands_still : (now : ℕ) (s : State) → s.suspended ≡ true → advance_refusal now s ≡ Some Suspended
+stands_still now s on = ap (λ b. or_else (when b Suspended) (or_else (bad_now now) None)) on
 
-pub too_late : (now : ℕ) → never ≤ now → bad_now now ≡ Some BadNow
-too_late now high = ap (λ b. when b BadNow) (above_never now high)
+-- the clock is set
+pub holds_at : (now : ℕ) (s : State) (m : Machine) → Holds s m → Holds (at_clock now s) (record m { clock = now })
+holds_at now s m h = record {
+  system = h.system;
+  shows = (let w = h.shows in
+      record { cpus = w.cpus; placed = w.placed; ended = w.ended; fresh = w.fresh; last = w.last });
+  clock = refl;
+  suspended = h.suspended;
+  called = h.called;
+  names = h.names;
+  remembers = remembers_on s (at_clock now s) m (record m { clock = now }) h.remembers
+      (record { names = refl; counted = refl; named = refl }) (let same : s.last_id ≤ s.last_id = omega arith in same)
+      (λ id low gone. gone) (λ id low gone. refl);
+  tally = h.tally;
+  most = h.most;
+  room = h.room;
+}
 
 pub begins : (step now : ℕ) (s : State) (m : Machine) → step ≤ most_steps → IsReached step s → Holds s m → now < never
+    → s.suspended ≡ false
     → HasFired tally_count 0 (fired_and_lost 0 0) (at_clock now s) (running_system m.tally m.system)
     (running_system m.tally m.system)
     → IsAdvancing step 0 0 0 s (running_system m.tally m.system) (record m { clock = now })
-begins step now s m few r h before fired = record {
+begins step now s m few r h before awake fired = record {
   reached = r;
   few = few;
   before = before;
+  awake = awake;
+  suspended = h.suspended;
   fired = fired;
   called = h.called;
   system = h.system;
@@ -74,13 +93,14 @@ advanced step k n expired lost now s first t a clock before d =
         system = a.system;
         shows = o.shows;
         clock = still.clock ∙ sym clock;
+        suspended = still.suspended ∙ a.suspended;
         called = λ id.
             let now_called = d.called k id in let was = a.called id in
-            let told = called_done [] (λ j. j) k (Advance now) s id (in_time now before) in
+            let told = called_done [] (λ j. j) k (Advance now) s id (in_time now s before a.awake) in
             omega (arith, now_called, was, told);
         names = still.names ∙ a.names;
         remembers = remembers_does [] (λ j. j) k (Advance now) s t t tt (reached_good step s a.reached)
-            (in_time now before) a.remembers
+            (in_time now s before a.awake) a.remembers
             (record { names = refl; counted = refl; named = refl }) (let last = still.last in omega (arith, last));
         tally = a.tally;
         most = a.most;
@@ -92,11 +112,12 @@ advanced step k n expired lost now s first t a clock before d =
 
 -- the word, and where it is refused
 pub advance_taken : (texts : List (List ℕ)) (step now : ℕ) (line : List ℕ) (s : State) (t : Machine) → now < never
+    → s.suspended ≡ false
     → line ≡ (advance step now s).line → Comes [] s (advance step now s) t → TakesWord texts step (Advance now) line s t
-advance_taken texts step now line s t before same comes = record {
+advance_taken texts step now line s t before awake same comes = record {
   given = [];
   line_is = λ indexes gives. same ∙ ap (λ (o : Outcome). o.line)
-      (sym (word_done texts indexes step (Advance now) s (in_time now before)));
-  comes = λ indexes gives. subst (λ o. Comes [] s o t) (sym (word_done texts indexes step (Advance now) s (in_time now before)))
-      comes;
+      (sym (word_done texts indexes step (Advance now) s (in_time now s before awake)));
+  comes = λ indexes gives. subst (λ o. Comes [] s o t)
+      (sym (word_done texts indexes step (Advance now) s (in_time now s before awake))) comes;
 }

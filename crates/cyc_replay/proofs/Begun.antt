@@ -1,6 +1,6 @@
 -- The beginning of a removal by the machine is that of the definition.
 use Rattle.std.proofs.Common.{◌≡◌, ◌≢◌, ℕ, zero, suc, true, ◌+◌, ◌++◌, append_assoc, length, inl, inr, arith, List, ◌∷◌, map}
-use Rattle.std.proofs.Common.{Some, ap, sym, ◌∙◌, [], subst, refl, None}
+use Rattle.std.proofs.Common.{Some, ap, sym, ◌∙◌, [], subst, refl}
 use Rattle.std.proofs.lemmas.List.{length-append}
 use Rattle.std.specs.Prelude.{replicate, slice_set, Result, Ok, Err, IfOk}
 use Rattle.cyc_types.specs.declared.receipt.Receipt.{Receipt}
@@ -28,8 +28,7 @@ use Rattle.cyc_model.specs.Remove.{busy_on_each, remove}
 use Rattle.cyc_model.specs.Report.{counts_of}
 use Rattle.cyc_model.proofs.Spread.{Good}
 use Rattle.cyc_model.specs.Script.{does, text_in, refusal_of}
-use Rattle.cyc_replay.specs.Shown.{IsSystem}
-use Rattle.cyc_replay.specs.SystemWords.{Gives, IsDone, IsRefusedFor}
+use Rattle.cyc_replay.specs.SystemWords.{Gives, IsRefusedFor}
 use Rattle.cyc_replay.specs.Removal.{told_by, IsRemoved, IsKept}
 use Rattle.cyc_replay.specs.declared.machine.Machine.{Machine}
 use Rattle.cyc_replay.specs.Machine.{Holds, Remembers, IsReached, id_at, told_of, number_of as id_number}
@@ -38,7 +37,7 @@ use Rattle.cyc_replay.specs.Words.{Accepts, Answers, TakesWord}
 use Rattle.cyc_model.proofs.Still.{still_remove}
 use Rattle.cyc_model.proofs.Answering.{counts_removed}
 use Rattle.cyc_replay.proofs.Doing.{Keeps, Leaves, accepts, refuses}
-use Rattle.cyc_replay.proofs.Remembering.{SameNames, remembers_on, remembers_ended}
+use Rattle.cyc_replay.proofs.Remembering.{remembers_on, remembers_ended}
 use Rattle.cyc_replay.proofs.Taking.{done_takes, refused_takes, truly_refused}
 use Rattle.cyc_replay.proofs.Named.{zero_unknown}
 use Rattle.cyc_replay.specs.Removing.{begun_line, counted_by, counted_begun}
@@ -90,7 +89,7 @@ as_many (suc n) = ap suc (as_many n)
 
 -- ---- the machine after it
 
-module _ (name id : ℕ) (s : State) (m n : Machine) (g : Good s) (h : Holds s m) (kept : Keeps n.system)
+module _ (name id : ℕ) (s : State) (m n : Machine) (g : Good s) (h : Holds s m) (kept : Keeps s n.system)
     (clock : n.clock ≡ m.clock)
     (tally : n.tally ≡ m.tally) (at : id_at m.names.items name ≡ Some id) (is_id : id_of name s ≡ id)
     (names : n.names.items ≡ m.names.items)
@@ -98,6 +97,7 @@ module _ (name id : ℕ) (s : State) (m n : Machine) (g : Good s) (h : Holds s m
   leaves : Leaves (Remove name) s n
   leaves = record {
     clock = λ texts indexes step. (still_remove step (text_in texts name) name s).clock;
+    suspended = λ texts indexes step. (still_remove step (text_in texts name) name s).suspended;
     names = λ texts indexes step. (still_remove step (text_in texts name) name s).names ∙ h.names
         ∙ sym (ap (map id_number) names);
     last = λ texts indexes step. let last = (still_remove step (text_in texts name) name s).last in omega (arith, last);

@@ -7,7 +7,7 @@ use Rattle.cyc_script.specs.declared.step.Step.{Step}
 use Rattle.cyc_model.specs.Acts.{calls_of}
 use Rattle.cyc_model.specs.Questions.{plain}
 use Rattle.cyc_model.specs.State.{State, Outcome}
-use Rattle.cyc_model.specs.Refusals.{unless, refusal}
+use Rattle.cyc_model.specs.Refusals.{unless, refusal, refused_at}
 use Rattle.cyc_model.specs.Script.{refusal_of, does, word}
 use Rattle.cyc_model.proofs.Events.{calls_append}
 use Rattle.cyc_model.proofs.Telling.{tells_steps}
@@ -19,6 +19,7 @@ use Rattle.cyc_replay.specs.Words.{Comes, Accepts, AcceptsWith, Answers}
 use Rattle.cyc_core.specs.Tables.{Tables}
 use Rattle.cyc_system.specs.System.{SystemView}
 use Rattle.cyc_system.specs.Agreement.{most_on}
+use Rattle.cyc_agreement.specs.Suspending.{is_suspended}
 use Rattle.cyc_model.proofs.Known.{IsLasting}
 use Rattle.cyc_replay.specs.Room.{HaveAllRoom}
 use Rattle.cyc_replay.proofs.Mosts.{most_kept}
@@ -28,12 +29,12 @@ use Rattle.cyc_replay.proofs.Remembering.{SameNames, remembers_on, remembers_doe
 -- the word of a step that is not refused, and of one that is
 pub word_done : (texts : List (List ℕ)) (indexes : ℕ → ℕ) (step : ℕ) (x : Step) (s : State) → refusal_of plain x s ≡ None
     → word plain texts indexes step x s ≡ does plain texts indexes step x s
-word_done texts indexes step x s none = ap (λ o. unless o step (does plain texts indexes step x) s) none
+word_done texts indexes step x s none = ap (λ o. unless o step x (does plain texts indexes step x) s) none
 
 pub word_refused : (texts : List (List ℕ)) (indexes : ℕ → ℕ) (step : ℕ) (x : Step) (s : State) (e : Refusal)
     → refusal_of plain x s ≡ Some e
-    → word plain texts indexes step x s ≡ refusal step e s
-word_refused texts indexes step x s e some = ap (λ o. unless o step (does plain texts indexes step x) s) some
+    → word plain texts indexes step x s ≡ refusal step e (refused_at x s)
+word_refused texts indexes step x s e some = ap (λ o. unless o step x (does plain texts indexes step x) s) some
 
 -- each id was called as often as the acts say
 pub called_word : (texts : List (List ℕ)) (indexes : ℕ → ℕ) (step : ℕ) (x : Step) (s : State) (id : ℕ)
@@ -51,26 +52,34 @@ called_done texts indexes step x s id none =
     subst (λ (o : Outcome). o.state.called id ≡ s.called id + calls_of id o.acts) (word_done texts indexes step x s none)
     (called_word texts indexes step x s id)
 
--- what the definition left of the clock, of the names and of the ids that were given
+-- what the definition left of the clock, of the mark of a suspension, of the names and of the ids that were given
 pub record Leaves (x : Step) (s : State) (n : Machine) : Type 0 where
   pub clock : (texts : List (List ℕ)) (indexes : ℕ → ℕ) (step : ℕ) → (does plain texts indexes step x s).state.clock ≡ s.clock
+  pub suspended : (texts : List (List ℕ)) (indexes : ℕ → ℕ) (step : ℕ)
+      → (does plain texts indexes step x s).state.suspended ≡ s.suspended
   pub names : (texts : List (List ℕ)) (indexes : ℕ → ℕ) (step : ℕ)
       → (does plain texts indexes step x s).state.names ≡ map number_of n.names.items
   pub last : (texts : List (List ℕ)) (indexes : ℕ → ℕ) (step : ℕ) → s.last_id ≤ (does plain texts indexes step x s).state.last_id
 
--- what each call of a system keeps
-pub record Keeps (v : SystemView Tables) : Type 0 where
+-- what each call of a system keeps, but that a suspend and a resume do not keep the mark
+pub record Keeps (s : State) (v : SystemView Tables) : Type 0 where
   pub system : IsSystem v
   pub most : AllMost v.cpus
   pub room : HaveAllRoom v.cpus
+  pub suspended : s.suspended ≡ is_suspended v
 
 pub keeps : (s : State) (m : Machine) (w : SystemView Tables) → Holds s m → IsSystem w
     → ((n : ℕ) → most_on n w.cpus ≡ most_on n m.system.cpus)
-    → HaveAllRoom w.cpus → Keeps w
-keeps s m w h system most room = record { system = system; most = most_kept m.system.cpus w.cpus most h.most; room = room }
+    → HaveAllRoom w.cpus → is_suspended w ≡ is_suspended m.system → Keeps s w
+keeps s m w h system most room mark = record {
+  system = system;
+  most = most_kept m.system.cpus w.cpus most h.most;
+  room = room;
+  suspended = h.suspended ∙ sym mark;
+}
 
 -- what the definition comes to, where the step calls no handler
-pub done_comes : (x : Step) (s : State) (m n : Machine) → Holds s m → Keeps n.system → (done : IsDone x s n.system)
+pub done_comes : (x : Step) (s : State) (m n : Machine) → Holds s m → Keeps s n.system → (done : IsDone x s n.system)
     → n.clock ≡ m.clock
     → n.tally ≡ m.tally → Leaves x s n
     → ((texts : List (List ℕ)) (indexes : ℕ → ℕ) (step : ℕ) → Remembers (does plain texts indexes step x s).state n)
@@ -83,6 +92,7 @@ done_comes x s m n h kept done clock tally leaves remembers texts indexes step g
         system = kept.system;
         shows = o.shows;
         clock = leaves.clock texts indexes step ∙ h.clock ∙ sym clock;
+        suspended = leaves.suspended texts indexes step ∙ kept.suspended;
         called = λ id.
             let told = called_done texts indexes step x s id done.accepted in
             let none = done.quiet texts indexes step gives id in
@@ -100,7 +110,7 @@ done_comes x s m n h kept done clock tally leaves remembers texts indexes step g
     }
 
 -- a step that calls no handler
-pub accepts : (x : Step) (s : State) (m n : Machine) → Holds s m → Keeps n.system → IsDone x s n.system → n.clock ≡ m.clock
+pub accepts : (x : Step) (s : State) (m n : Machine) → Holds s m → Keeps s n.system → IsDone x s n.system → n.clock ≡ m.clock
     → n.tally ≡ m.tally → Leaves x s n
     → ((texts : List (List ℕ)) (indexes : ℕ → ℕ) (step : ℕ) → Remembers (does plain texts indexes step x s).state n)
     → Accepts x s n
@@ -111,13 +121,14 @@ accepts x s m n h kept done clock tally leaves remembers = record {
 }
 
 -- a step that is refused leaves the machine as it shows it
-pub refuses : (s : State) (m n : Machine) → Holds s m → Keeps n.system → ShowsSystem s n.system → n.clock ≡ m.clock
+pub refuses : (s : State) (m n : Machine) → Holds s m → Keeps s n.system → ShowsSystem s n.system → n.clock ≡ m.clock
     → n.tally ≡ m.tally
     → SameNames m n → Holds s n
 refuses s m n h kept shows clock tally same = record {
   system = kept.system;
   shows = shows;
   clock = h.clock ∙ sym clock;
+  suspended = kept.suspended;
   called = λ id. ap (λ t. tally_count t id) tally ∙ h.called id;
   names = h.names ∙ sym (ap (map number_of) same.names);
   remembers = remembers_on s s m n h.remembers same (omega arith) (λ id low gone. gone) (λ id low gone. refl);
@@ -127,7 +138,7 @@ refuses s m n h kept shows clock tally same = record {
 }
 
 -- a step that is done, gives no id and ends no removal
-pub lasts : (step : ℕ) (x : Step) (s : State) (m n : Machine) → IsReached step s → IsLasting x → Holds s m → Keeps n.system
+pub lasts : (step : ℕ) (x : Step) (s : State) (m n : Machine) → IsReached step s → IsLasting x → Holds s m → Keeps s n.system
     → IsDone x s n.system
     → n.clock ≡ m.clock → n.tally ≡ m.tally → SameNames m n → Leaves x s n → Accepts x s n
 lasts step x s m n r is h kept done clock tally same leaves = accepts x s m n h kept done clock tally leaves
@@ -137,7 +148,7 @@ lasts step x s m n r is h kept done clock tally same leaves = accepts x s m n h 
 -- one that says no more than whether it was done
 pub answered : (step : ℕ) (x : Step) (answer : Result (Unit {0}) Refusal) (s : State) (m n : Machine) → IsReached step s
     → IsLasting x
-    → Holds s m → Keeps n.system
+    → Holds s m → Keeps s n.system
     → (answer ≡ Ok tt → IsDone x s n.system) → ((e : Refusal) → answer ≡ Err e → IsRefusedFor e x s n.system)
     → n.clock ≡ m.clock → n.tally ≡ m.tally → SameNames m n → Leaves x s n → Answers x answer s n
 answered step x (Ok done) s m n r is h kept accepted refused clock tally same leaves =
@@ -148,7 +159,7 @@ answered step x (Err e) s m n r is h kept accepted refused clock tally same leav
 -- one whose line tells more
 pub lasts_with : (line : ℕ → List ℕ) (step : ℕ) (x : Step) (s : State) (m n : Machine) → IsReached step s → IsLasting x
     → Holds s m
-    → Keeps n.system → IsDoneWith line x s n.system → n.clock ≡ m.clock → n.tally ≡ m.tally → SameNames m n → Leaves x s n
+    → Keeps s n.system → IsDoneWith line x s n.system → n.clock ≡ m.clock → n.tally ≡ m.tally → SameNames m n → Leaves x s n
     → AcceptsWith line x s n
 lasts_with line step x s m n r is h kept told clock tally same leaves = record {
   accepted = told.done.accepted;

@@ -10,7 +10,7 @@ use Rattle.cyc_types.specs.Series.{late}
 use Rattle.cyc_types.specs.Tally.{TallyView, tally_count, TallyRefuses}
 use Rattle.cyc_types.specs.contracts.tally.TallyCalls.TheImpl.{ghosts as tally_calls}
 use Rattle.cyc_types.specs.declared.refusal.Refusal.{Refusal}
-use Rattle.cyc_types.specs.declared.refusal.Refusal.TheVariants.{NoCpu, Offline, BadNow}
+use Rattle.cyc_types.specs.declared.refusal.Refusal.TheVariants.{NoCpu, Offline}
 use Rattle.cyc_types.specs.declared.level.Level.TheVariants.{High}
 use Rattle.cyc_core.specs.Tables.{Tables}
 use Rattle.cyc_types.specs.Expirations.{times_of, expirations}
@@ -21,12 +21,14 @@ use Rattle.cyc_timers.specs.declared.fire.Fired.{Fired}
 use Rattle.cyc_timers.specs.declared.fire.FireRefused.{FireRefused}
 use Rattle.cyc_timers.specs.Made.{Stops}
 use Rattle.cyc_cpu.specs.Cpu.{CpuView, running}
-use Rattle.cyc_cpu.specs.Calls.{Fire, no_interrupts, Does as DoesHere}
+use Rattle.cyc_cpu.specs.Calls.{Fire, WhyNoFire, no_interrupts, Does as DoesHere}
+use Rattle.cyc_cpu.proofs.Calling.{refused_not}
 use Rattle.cyc_cpu.specs.Soft.{raise_tables}
 use Rattle.cyc_system.specs.Cpus.{IsCpu}
 use Rattle.cyc_system.specs.System.{SystemView, RunningSystem, running_system, is_online}
 use Rattle.cyc_system.proofs.Spots.{same_some, none_some}
 use Rattle.cyc_system.specs.Calls.{Does, FireOne, no_fire}
+use Rattle.cyc_agreement.specs.Suspending.{is_suspended}
 use Rattle.cyc_model.specs.Acts.{calls_of}
 use Rattle.cyc_model.specs.Cpu.{Cyclic, Cpu}
 use Rattle.cyc_model.specs.Firing.{fire_here}
@@ -43,6 +45,7 @@ use Rattle.cyc_replay.specs.declared.machine.Machine.{Machine}
 use Rattle.cyc_replay.specs.Machine.{IsWide, AllMost, number_of}
 use Rattle.cyc_replay.specs.Advancing.{IsAdvancing}
 use Rattle.cyc_replay.proofs.Mosts.{most_changed}
+use Rattle.cyc_replay.proofs.SystemSuspending.{mark_at}
 use Rattle.cyc_replay.proofs.Named.{reached_good}
 use Rattle.cyc_replay.proofs.Unrefused.{IsFew, EachTimer, same_range, still_wide, never_stopped}
 use Rattle.cyc_model.proofs.Growing.{few_times, grows_fires}
@@ -92,7 +95,7 @@ module _ (n now : ℕ) (e : FireRefused) (s t : RunningSystem TallyView Tables) 
     where
       by : DoesHere tally_calls raise_tables no_interrupts (running s.calls did.before)
           (Fire now (Err e)) (running t.calls did.after) → ⊥
-      by (inl (early, bad, same)) = let no : BadNow ≡ Offline = sym (ap (λ (x : FireRefused). x.why) bad) ∙ is in cc
+      by (inl (why, none, same)) = subst (λ x. WhyNoFire now did.before x) is why
       by (inr (late_enough, same, f)) = let (tm, found, stops) = f.stops in offline_stops did.before.most f.at tm e.why is stops
 
 -- ---- the CPUs that have not fired yet
@@ -213,7 +216,10 @@ module _ (step n expired lost : ℕ) (s : State) (first : RunningSystem TallyVie
     where
       by : DoesHere tally_calls raise_tables no_interrupts (running m.tally did.before)
           (Fire m.clock (Err e)) (running t.calls did.after) → ⊥
-      by (inl (early, bad, same)) = let before = a.before in absurd (omega (arith, early, before))
+      by (inl (why, none, same)) = refused_not m.clock did.before e.why (record {
+        awake = mark_at m.system a.system.agrees n did.before did.here ∙ sym a.suspended ∙ a.awake;
+        early = λ late. let before = a.before in omega (arith, late, before);
+      }) why
       by (inr (late_enough, same, f)) =
           let ts = same_timers did.before did.here in
           never_stopped m.clock 65535 (65536 * 16000000032) did.before did.after m.tally t.calls e f (omega arith)
@@ -264,6 +270,8 @@ passed_on step n expired lost s first m t a same clock names next =
       reached = a.reached;
       few = a.few;
       before = omega (arith, before, clock);
+      awake = a.awake;
+      suspended = a.suspended ∙ ap is_suspended (sym system);
       fired = subst (λ k. HasFired tally_count (n + 1) (fired_and_lost (expired + 0) k) (at_clock t.clock s) first
           (running_system t.tally t.system)) (none lost)
           (subst (λ k. HasFired tally_count (n + 1) (fired_and_lost k lost) (at_clock t.clock s) first

@@ -13,7 +13,7 @@ use Rattle.cyc_level.specs.Level.{SoftLevel, count}
 use Rattle.cyc_types.specs.Expirations.{Expiration}
 use Rattle.cyc_script.specs.declared.step.Step.{Step}
 use Rattle.cyc_script.specs.declared.step.Step.TheVariants.{Add, Omni, Bind, Unbind, Reprogram, Remove, Advance, Softint, Juggle}
-use Rattle.cyc_script.specs.declared.step.Step.TheVariants.{Offline, Online}
+use Rattle.cyc_script.specs.declared.step.Step.TheVariants.{Offline, Online, Suspend, Resume}
 use Rattle.cyc_model.specs.Acts.{Act, At, Call, at_own, events_at}
 use Rattle.cyc_model.specs.Cpu.{Cpu, handler_level_of, new_cpu}
 use Rattle.cyc_model.specs.Firing.{raised, expiry, expire_here, expire_all, due_here, fire_here}
@@ -132,10 +132,12 @@ below_does texts step (Softint i) s = below_shaped texts step (Softint i) s tt
 below_does texts step (Juggle n) s = below_shaped texts step (Juggle n) s tt
 below_does texts step (Offline n) s = below_shaped texts step (Offline n) s tt
 below_does texts step (Online n) s = below_shaped texts step (Online n) s tt
+below_does texts step Suspend s = below_shaped texts step Suspend s tt
+below_does texts step Resume s = below_shaped texts step Resume s tt
 
 below_unless : (why : Option Refusal) (texts : List (List ℕ)) (step : ℕ) (x : Step) (s : State)
-    → Below (unless why step (does plain texts own_number step x) s).acts s.admissions
-    (unless why step (does plain texts own_number step x) s).state.admissions
+    → Below (unless why step x (does plain texts own_number step x) s).acts s.admissions
+    (unless why step x (does plain texts own_number step x) s).state.admissions
 below_unless None texts step x s = below_does texts step x s
 below_unless (Some why) texts step x s = (omega arith, tt)
 

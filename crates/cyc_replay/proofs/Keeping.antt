@@ -49,7 +49,8 @@ use Rattle.cyc_system.specs.GoingOffline.{quiet, Retires, offline_at, Leaves}
 use Rattle.cyc_system.specs.Omni.{entering_each}
 use Rattle.cyc_system.specs.Online.{GoesOnline, staying, is_staying, returns, after_return, switched_on}
 use Rattle.cyc_system.specs.Calls.{SystemCall, Add, AddOmni, Bind, BeginRemove, PollRemove, AskTotals, Reprogram, ReprogramOn}
-use Rattle.cyc_system.specs.Calls.{Juggle, Offline, Online, FireOne, SoftInterrupt, Changes, Does}
+use Rattle.cyc_system.specs.Calls.{Juggle, Offline, Online, FireOne, SoftInterrupt, Suspend, Resume, Changes, Does}
+use Rattle.cyc_agreement.specs.Suspending.{on_each}
 use Rattle.cyc_cpu_model.proofs.Stopping.{tied_always}
 use Rattle.cyc_replay.specs.Shown.{IsSystem}
 use Rattle.cyc_replay.specs.Room.{HaveAllRoom}
@@ -406,6 +407,10 @@ changes_keep (Offline n answer) v w h (inr (none, (report, moved, turns, leaves)
     kept_then v moved w one (kept_leaves n report answer moved w one.half leaves)
 changes_keep (Online n now answer) v w h (inl (e, some, said, same)) = kept_same v w h same
 changes_keep (Online n now answer) v w h (inr (none, did)) = kept_online n now answer v w h did
+changes_keep (Suspend answer) v w h (inl (e, some, said, same)) = kept_same v w h same
+changes_keep (Suspend answer) v w h (inr (none, (ok, only))) = kept_only (on_each cpu.Suspend (length v.cpus.cpus)) v w h only
+changes_keep (Resume answer) v w h (inl (e, some, said, same)) = kept_same v w h same
+changes_keep (Resume answer) v w h (inr (none, (ok, only))) = kept_only (on_each cpu.Resume (length v.cpus.cpus)) v w h only
 changes_keep (FireOne n now answer) v w h did = absurd did
 changes_keep (SoftInterrupt n level budget answer) v w h did = absurd did
 
@@ -458,6 +463,8 @@ module _ {C : Type 0} (handler : Calls C) where
   does_keep (Juggle n answer) s t h (did, calls) = changes_keep (Juggle n answer) s.system t.system h did
   does_keep (Offline n answer) s t h (did, calls) = changes_keep (Offline n answer) s.system t.system h did
   does_keep (Online n now answer) s t h (did, calls) = changes_keep (Online n now answer) s.system t.system h did
+  does_keep (Suspend answer) s t h (did, calls) = changes_keep (Suspend answer) s.system t.system h did
+  does_keep (Resume answer) s t h (did, calls) = changes_keep (Resume answer) s.system t.system h did
 
   pub kept : (call : SystemCall) (s t : RunningSystem C Tables)
       → Does handler raise_tables (Interrupts handler) s call t → IsSystem s.system

@@ -22,6 +22,8 @@ mod Spreading
 mod Returning
 mod Rooms
 mod Keeping
+mod Suspensions
+pub mod SystemSuspending
 mod Turning
 mod Juggling
 mod SystemOffline
@@ -31,6 +33,7 @@ pub mod Mosts
 pub mod Named
 pub mod Remembering
 pub mod Doing
+pub mod Suspended
 pub mod Taking
 pub mod Start
 pub mod Indexes

@@ -84,7 +84,7 @@ module _ (texts : List (List ℕ)) (step : ℕ) (i : SoftintStep) (s : State) wh
     pub polling_next : (answer : Option Receipt) (n : Machine)
         → HavePolled texts step (ids ++ id ∷ []) (lines ++ answer_line step (text_of_id id texts s.names) answer)
         (interrupt step i s).state n.system
-        → Keeps n.system → n.clock ≡ m.clock → n.tally ≡ m.tally → n.names.items ≡ m.names.items
+        → Keeps (left ids) n.system → n.clock ≡ m.clock → n.tally ≡ m.tally → n.names.items ≡ m.names.items
         → Remembers (left (ids ++ id ∷ [])) n
         → IsPolling texts step (ids ++ id ∷ []) (lines ++ answer_line step (text_of_id id texts s.names) answer) i s n
     polling_next answer n next kept clock tally names remembers = record {
@@ -96,6 +96,8 @@ module _ (texts : List (List ℕ)) (step : ℕ) (i : SoftintStep) (s : State) wh
         shows = next.comes.shows;
         clock = ap (λ (t : State). t.clock) (left_next ids id) ∙ (still_polls texts step (id ∷ []) (left ids)).clock
             ∙ p.holds.clock ∙ sym clock;
+        suspended = ap (λ (t : State). t.suspended) (left_next ids id)
+            ∙ (still_polls texts step (id ∷ []) (left ids)).suspended ∙ kept.suspended;
         called = λ k. ap (λ t. tally_count t k) tally ∙ p.holds.called k ∙ p.polled.called k ∙ sym (next.called k);
         names = next.names ∙ sym p.polled.names ∙ p.holds.names ∙ sym (ap (map number_of) names);
         remembers = remembers;

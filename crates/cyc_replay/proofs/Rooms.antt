@@ -18,7 +18,7 @@ use Rattle.cyc_cpu.specs.Cpu.{CpuView, SameCpu, Reserves, Widens, MayWiden, size
 use Rattle.cyc_cpu.specs.Moving.{WhyNotTaken}
 use Rattle.cyc_cpu.specs.Soft.{raise_tables}
 use Rattle.cyc_cpu.specs.Calls.{CpuCall, Fire, SoftInterrupt, Add, Place, Reprogram, AskPending, AskTotals, AskRoom, Reserve}
-use Rattle.cyc_cpu.specs.Calls.{Widen, BeginRemove, PollRemove, TakeNow, AskSettled, Changes}
+use Rattle.cyc_cpu.specs.Calls.{Widen, BeginRemove, PollRemove, TakeNow, AskSettled, Suspend, Resume, Changes}
 use Rattle.cyc_system.specs.Cpus.{CpusView, IsCpu, CallOn, with_cpu, on, DoesAt}
 use Rattle.cyc_system.proofs.CpusSpots.{get_set_same, cpu_beside}
 use Rattle.cyc_system.proofs.Spots.{same_some}
@@ -96,6 +96,8 @@ module _ {R : Type 0} (firing : Raise R) where
   changes_room v w (TakeNow id (Err e)) d h = room_not_taken id v w e d h
   changes_room v w (AskSettled true) d h = room_same v w d.0.kept h
   changes_room v w (AskSettled false) d h = room_same v w d.0.kept h
+  changes_room v w Suspend d h = room_as v w (ap (λ (x : CpuView R). x.room) d) (ap (λ (x : CpuView R). x.size) d) h
+  changes_room v w Resume d h = room_as v w (ap (λ (x : CpuView R). x.room) d) (ap (λ (x : CpuView R). x.size) d) h
   changes_room v w (Fire now answer) d h = absurd d
   changes_room v w (SoftInterrupt level budget answer) d h = absurd d
 

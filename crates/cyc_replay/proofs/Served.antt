@@ -45,9 +45,9 @@ use Rattle.cyc_model.proofs.Whole.{all_back}
 use Rattle.cyc_model.proofs.Spread.{Good}
 use Rattle.cyc_replay.specs.Running.{IsServed}
 use Rattle.cyc_cpu_model.specs.Shown.{shown_cpu}
-use Rattle.cyc_replay.specs.Shown.{shown_list, ShowsSystem, IsSystem}
+use Rattle.cyc_replay.specs.Shown.{shown_list, ShowsSystem}
 use Rattle.cyc_replay.specs.declared.machine.Machine.{Machine}
-use Rattle.cyc_replay.specs.Machine.{Holds, IsReached, IsWide, AllMost}
+use Rattle.cyc_replay.specs.Machine.{Holds, IsReached, IsWide}
 use Rattle.cyc_model.proofs.Gone.{gone_interrupt}
 use Rattle.cyc_replay.proofs.Doing.{Keeps}
 use Rattle.cyc_replay.proofs.Remembering.{remembers_on}
@@ -236,12 +236,13 @@ module _ (i : SoftintStep) (s : State) (m : Machine) (t : RunningSystem TallyVie
 
 pub served_holds : (step : ℕ) (i : SoftintStep) (made : Ran) (s : State) (m : Machine) (t : RunningSystem TallyView Tables)
     → Good s → Holds s m
-    → IsServed tally_count i made s (running_system m.tally m.system) t → Keeps t.system → IsWide t.calls
+    → IsServed tally_count i made s (running_system m.tally m.system) t → Keeps s t.system → IsWide t.calls
     → Holds (interrupt step i s).state (record m { system = t.system; tally = t.calls })
 served_holds step i made s m t g h served kept wide = record {
   system = kept.system;
   shows = (served.comes step).shows;
   clock = h.clock;
+  suspended = kept.suspended;
   called = λ id. let a = served.called id in let b = h.called id in
       let c : (interrupt step i s).state.called id
       ≡ s.called id + calls_of id (interrupt_here i.cpu i.level i.budget (cpu_of i.cpu s)).acts = refl in

@@ -15,7 +15,9 @@ use Rattle.cyc_cpu.proofs.Fresh.{empty_is_fresh}
 use Rattle.cyc_cpu.specs.Soft.{firing_at}
 use Rattle.cyc_model.specs.Script.{start}
 use Rattle.cyc_replay.specs.Shown.{ShowsSystem, IsSystem}
-use Rattle.cyc_replay.specs.Kept.{AreNew}
+use Rattle.cyc_replay.specs.Kept.{AreNew, new_system}
+use Rattle.cyc_agreement.specs.Suspending.{is_suspended}
+use Rattle.std.specs.Option.{option_map, option_map_or}
 use Rattle.cyc_replay.specs.declared.machine.Machine.{Machine}
 use Rattle.cyc_replay.specs.Machine.{Holds, IsWide, AllMost, number_of, id_at}
 use Rattle.cyc_replay.specs.Beginning.{IsEmpty, HasReserved}
@@ -93,12 +95,14 @@ no_ids (suc n) = ap (λ ns. 0 ∷ ns) (no_ids n)
 
 pub held_new : (cpus ceiling names : ℕ) (m : Machine) → m.clock ≡ 0 → m.tally ≡ tally_made 1 65536 (2 ^ 64 - 1)
     → m.names.items ≡ replicate names None → length m.counted.items ≡ names → length m.named.items ≡ 65536 → AllMost m.system.cpus
-    → HaveAllRoom m.system.cpus → IsSystem m.system × ShowsSystem (start cpus ceiling names) m.system
+    → HaveAllRoom m.system.cpus → is_suspended m.system ≡ false
+    → IsSystem m.system × ShowsSystem (start cpus ceiling names) m.system
     → Holds (start cpus ceiling names) m
-held_new cpus ceiling names m clock tally ids counted named most room shown = record {
+held_new cpus ceiling names m clock tally ids counted named most room awake shown = record {
   system = shown.0;
   shows = shown.1;
   clock = sym clock;
+  suspended = sym awake;
   called = λ id. ap (λ t. tally_count t id) tally ∙ none_counted (nat_lt id 1) (id - 1) 65536;
   names = no_ids names ∙ sym (ap (map number_of) ids);
   remembers = record {
@@ -148,6 +152,7 @@ reserved_so v w e d = record {
   removal = d.0.removal;
   size = d.0.size;
   most = d.0.most;
+  suspended = d.0.suspended;
   lock = only_looked v.lock w.lock d.0.lock;
   low = only_looked v.low w.low d.0.low;
 }
@@ -231,6 +236,7 @@ come_back (v ∷ vs) (w ∷ ws) empty two =
         removal = h.removal;
         size = h.size;
         most = h.most;
+        suspended = h.suspended;
         lock = same_end (level_of v.lock) (level_of w.lock) h.lock;
         low = same_end (level_of v.low) (level_of w.low) h.low;
       },
@@ -284,6 +290,19 @@ two_long [] (y ∷ ys) two = absurd two
 two_long (x ∷ xs) [] two = absurd two
 two_long (x ∷ xs) (y ∷ ys) two = ap suc (two_long xs ys two.1)
 
+-- no CPU of a new system is suspended
+pub awake_new : (most : ℕ) (ends : List (Tables × Tables)) → is_suspended (new_system most ends) ≡ false
+awake_new most [] = refl
+awake_new most (e ∷ ends) = refl
+
+same_marks : (vs ws : List (CpuView Tables)) → EachTwo HasReserved vs ws
+    → option_map (λ (cpu : CpuView Tables). cpu.suspended) (slice_get ws 0)
+    ≡ option_map (λ (cpu : CpuView Tables). cpu.suspended) (slice_get vs 0)
+same_marks [] [] two = refl
+same_marks [] (y ∷ ys) two = absurd two
+same_marks (x ∷ xs) [] two = absurd two
+same_marks (x ∷ xs) (y ∷ ys) two = ap Some two.0.suspended
+
 module _ (v w : SystemView Tables) (two : EachTwo HasReserved v.cpus.cpus w.cpus.cpus) (online : w.cpus.online ≡ v.cpus.online)
     (records : w.records ≡ v.records) (last : w.last ≡ v.last) where
   pub still_system : IsSystem v → Agrees w → IsSystem w
@@ -306,6 +325,9 @@ module _ (v w : SystemView Tables) (two : EachTwo HasReserved v.cpus.cpus w.cpus
 
   pub still_most : AllMost v.cpus → AllMost w.cpus
   still_most all n cpu is = let x = two_at v.cpus.cpus w.cpus.cpus n cpu two is in x.2.most ∙ all n x.0 x.1
+
+  pub still_awake : is_suspended v ≡ false → is_suspended w ≡ false
+  still_awake awake = ap (λ o. option_map_or (λ suspended. suspended) o false) (same_marks v.cpus.cpus w.cpus.cpus two) ∙ awake
 
   pub now_room : All IsEmpty v.cpus.cpus → HaveAllRoom w.cpus
   now_room empty n cpu is =

@@ -1,15 +1,17 @@
 -- A fire and a soft interrupt of a system are what the definition says.
-use Rattle.std.proofs.Common.{◌≡◌, ℕ, ◌+◌, inl, inr, [], ◌∷◌, length, get_or, Some, None, refl, ap, sym, ◌∙◌, arith}
+use Rattle.std.proofs.Common.{◌≡◌, ℕ, ◌+◌, inl, inr, true, false, [], ◌∷◌, length, get_or, Some, None, refl, ap, sym, ◌∙◌, arith}
 use Rattle.std.specs.Prelude.{slice_set, Result, Ok, Err}
 use Rattle.cyc_types.specs.declared.Calls.{Ghosts as Calls}
 use Rattle.cyc_types.specs.declared.refusal.Refusal.{Refusal}
+use Rattle.cyc_types.specs.declared.refusal.Refusal.TheVariants.{Suspended, BadNow}
 use Rattle.cyc_core.specs.Tables.{Tables}
 use Rattle.cyc_soft.specs.declared.Ran.{Ran}
 use Rattle.cyc_cpu.specs.Fired.{Fired}
 use Rattle.cyc_cpu.specs.FireRefused.{FireRefused}
 use Rattle.cyc_script.specs.declared.step.Softint.{Softint as SoftintStep}
 use Rattle.cyc_cpu.specs.Soft.{raise_tables, Interrupts}
-use Rattle.cyc_cpu.specs.Calls.{Fire, SoftInterrupt as CpuSoftInterrupt, no_interrupts}
+use Rattle.cyc_cpu.specs.Cpu.{CpuView, Running, running}
+use Rattle.cyc_cpu.specs.Calls.{Fire, SoftInterrupt as CpuSoftInterrupt, WhyNoFire, no_interrupts, Does as CpuDoes}
 use Rattle.cyc_system.specs.Cpus.{running_cpus}
 use Rattle.cyc_system.specs.declared.interrupting.SoftFault.{SoftFault}
 use Rattle.cyc_system.specs.declared.interrupting.SoftFault.TheVariants as fault
@@ -17,6 +19,8 @@ use Rattle.cyc_system.specs.System.{SystemView, RunningSystem}
 use Rattle.cyc_system.specs.Refusals as why
 use Rattle.cyc_system.specs.Calls.{Does, FireOne, SoftInterrupt, no_fire}
 use Rattle.cyc_system.proofs.Spots.{same_some, none_some}
+use Rattle.cyc_agreement.specs.Suspending.{is_suspended}
+use Rattle.std.proofs.lemmas.Option.{get_or_from_slice_get}
 use Rattle.cyc_model.specs.Acts.{calls_of, calls_in, losses_in}
 use Rattle.cyc_model.specs.Cpu.{Cpu, Here}
 use Rattle.cyc_model.specs.Firing.{due_here, fire_here}
@@ -31,6 +35,14 @@ use Rattle.cyc_replay.specs.Running.{IsFired, IsServed}
 use Rattle.cyc_replay.proofs.Cpus.{cpu_at, ran_at}
 use Rattle.cyc_replay.proofs.Asking.{same_no_cpu, same_offline, or_none}
 use Rattle.cyc_replay.proofs.Entering.{same_shown}
+use Rattle.cyc_replay.proofs.Lists.{set_get}
+use Rattle.cyc_replay.proofs.SystemSuspending.{mark_at}
+
+-- what refuses a fire of a suspended CPU
+only_suspended : (now : ℕ) (v : CpuView Tables) (e : Refusal) → (v.suspended ≡ false → ⊥) → WhyNoFire now v e → e ≡ Suspended
+only_suspended now v Suspended awake is = refl
+only_suspended now v BadNow awake is = absurd (awake is.0)
+only_suspended now v e awake is = absurd is
 
 -- the machine after what was done on one CPU
 pub on_shows : (n : ℕ) (f : Cpu → Here) (m : State) (v w : SystemView Tables) → ShowsSystem m v
@@ -85,6 +97,36 @@ module _ {C : Type 0} (handler : Calls C)
       let es : own ≡ e = same_some (sym some ∙ sym (no_cpu_there n) ∙ is) in
       (said ∙ ap (λ x. Err (no_fire x)) es, same)
   fire_refused n now e answer is (inr (none, did)) = absurd (none_some (sym none ∙ sym (no_cpu_there n) ∙ is))
+
+  -- where the system is suspended
+  pub fire_suspended : (n now : ℕ) (answer : Result Fired FireRefused)
+      → first_refusal (no_cpu n m ∷ offline_cpu n m ∷ []) ≡ None → is_suspended s.system ≡ true
+      → Does handler raise_tables no_interrupts s (FireOne n now answer) t → (answer ≡ Err (no_fire Suspended)) × (t ≡ s)
+  fire_suspended n now answer none on (inl (own, some, said, same)) = absurd (none_some (sym none ∙ no_cpu_there n ∙ some))
+  fire_suspended n now answer none on (inr (passed, (did, records, last))) = by answer did.change
+    where
+      marked : did.before.suspended ≡ true
+      marked = mark_at s.system sys.agrees n did.before did.here ∙ on
+
+      awake : did.before.suspended ≡ false → ⊥
+      awake off = let no : true ≡ false = sym marked ∙ off in cc
+
+      as_before : running t.calls did.after ≡ running s.calls did.before → t ≡ s
+      as_before same =
+          let put = ap (λ (x : Running C Tables). slice_set s.system.cpus.cpus n x.cpu) same
+          ∙ ap (slice_set s.system.cpus.cpus n) (sym (get_or_from_slice_get s.system.cpus.cpus n did.before did.before did.here))
+          ∙ set_get s.system.cpus.cpus n did.before in
+          let cpus : t.system.cpus ≡ s.system.cpus = did.rest ∙ (λ z. record s.system.cpus { cpus = put z }) in
+          let calls : t.calls ≡ s.calls = ap (λ (x : Running C Tables). x.calls) same in
+          λ z. record { system = record { cpus = cpus z; records = records z; last = last z }; calls = calls z }
+
+      by : (a : Result Fired FireRefused) → CpuDoes handler raise_tables no_interrupts (running s.calls did.before)
+          (Fire now a) (running t.calls did.after)
+          → (a ≡ Err (no_fire Suspended)) × (t ≡ s)
+      by (Ok fired) d = absurd (awake d.0.awake)
+      by (Err e) (inl (is, none_made, same)) =
+          (ap Err (none_made ∙ ap no_fire (only_suspended now did.before e.why awake is)), as_before same)
+      by (Err e) (inr d) = absurd (awake d.0.awake)
 
   pub softint_accepted : (i : SoftintStep) (ran : Ran)
       → Does handler raise_tables (Interrupts handler) s

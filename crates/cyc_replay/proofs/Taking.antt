@@ -7,7 +7,7 @@ use Rattle.cyc_text.specs.Lines.{accepted}
 use Rattle.cyc_script.specs.declared.step.Step.{Step}
 use Rattle.cyc_model.specs.Questions.{plain}
 use Rattle.cyc_model.specs.State.{State, Outcome}
-use Rattle.cyc_model.specs.Refusals.{refusal}
+use Rattle.cyc_model.specs.Refusals.{refusal, refused_at}
 use Rattle.cyc_model.specs.Script.{refusal_of, does}
 use Rattle.cyc_cpu_model.specs.Answers.{IsRefused}
 use Rattle.cyc_replay.specs.declared.machine.Machine.{Machine}
@@ -25,9 +25,9 @@ pub truly_refused : (e : Refusal) (why : Option Refusal) → e ≢ Memory → Is
 truly_refused Memory why other is = absurd (other refl)
 truly_refused e why other is = is
 
--- a refused step does nothing
+-- a refused step does nothing, but that an `advance` sets the clock
 pub refused_takes : (texts : List (List ℕ)) (step : ℕ) (x : Step) (line : List ℕ) (e : Refusal) (s : State) (m : Machine)
-    → refusal_of plain x s ≡ Some e → line ≡ (refusal step e s).line → Holds s m → TakesWord texts step x line s m
+    → refusal_of plain x s ≡ Some e → line ≡ (refusal step e s).line → Holds (refused_at x s) m → TakesWord texts step x line s m
 refused_takes texts step x line e s m some same h = record {
   given = [];
   line_is = λ indexes gives. same ∙ ap (λ (o : Outcome). o.line) (sym (word_refused texts indexes step x s e some));
@@ -58,11 +58,13 @@ takes_with texts step says x line s m done same = record {
 
 pub taken : (texts : List (List ℕ)) (step : ℕ) (x : Step) (answer : Result (Unit {0}) Refusal) (line : List ℕ) (s : State)
     (m : Machine)
-    → SaysOk x → answer ≢ Err Memory → line ≡ answer_line step answer → Answers x answer s m → TakesWord texts step x line s m
-taken texts step x (Ok done) line s m says other is does_it =
+    → SaysOk x → refused_at x s ≡ s → answer ≢ Err Memory → line ≡ answer_line step answer → Answers x answer s m
+    → TakesWord texts step x line s m
+taken texts step x (Ok done) line s m says still other is does_it =
     done_takes texts step x line s m does_it (λ indexes. is ∙ sym (says texts indexes step s))
-taken texts step x (Err e) line s m says other is (why, h) =
-    refused_takes texts step x line e s m (truly_refused e (refusal_of plain x s) (λ memory. other (ap Err memory)) why) is h
+taken texts step x (Err e) line s m says still other is (why, h) =
+    refused_takes texts step x line e s m (truly_refused e (refusal_of plain x s) (λ memory. other (ap Err memory)) why) is
+    (subst (λ t. Holds t m) (sym still) h)
 
 -- what holds where the line was written
 pub on_ok : {A E : Type 0} (P Q R : Type 0) (r : Result A E) → (P → Q → R) → OnOk r P → OnOk r Q → OnOk r R

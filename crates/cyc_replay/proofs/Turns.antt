@@ -1,5 +1,5 @@
 -- A juggle and an offline as words.
-use Rattle.std.proofs.Common.{◌≡◌, ◌≢◌, ℕ, List, [], ◌∷◌, Option, refl, ap, ◌∙◌, arith}
+use Rattle.std.proofs.Common.{◌≡◌, ◌≢◌, ℕ, List, [], ◌∷◌, refl, ap, ◌∙◌, arith}
 use Rattle.std.specs.Prelude.{Result, Ok, Err}
 use Rattle.cyc_types.specs.declared.refusal.JuggleReport.{JuggleReport}
 use Rattle.cyc_types.specs.declared.refusal.Refusal.{Refusal}
@@ -23,13 +23,14 @@ use Rattle.cyc_replay.proofs.Taking.{truly_refused, refused_takes, takes_with}
 use Rattle.cyc_replay.specs.Offline.{Juggles, GoesOffline, juggle_line, offline_line}
 
 module _ (step n : ℕ) (s : State) (m : Machine) (t : SystemView Tables) (r : IsReached step s) (h : Holds s m)
-    (kept : Keeps t) where
+    (kept : Keeps s t) where
   same : SameNames m (record m { system = t })
   same = record { names = refl; counted = refl; named = refl }
 
   juggle_leaves : Leaves (steps.Juggle n) s (record m { system = t })
   juggle_leaves = record {
     clock = λ texts indexes k. (still_juggle indexes k n s).clock;
+    suspended = λ texts indexes k. (still_juggle indexes k n s).suspended;
     names = λ texts indexes k. (still_juggle indexes k n s).names ∙ h.names;
     last = λ texts indexes k. let as_it_was = (still_juggle indexes k n s).last in omega (arith, as_it_was);
   }
@@ -37,6 +38,7 @@ module _ (step n : ℕ) (s : State) (m : Machine) (t : SystemView Tables) (r : I
   offline_leaves : Leaves (steps.Offline n) s (record m { system = t })
   offline_leaves = record {
     clock = λ texts indexes k. (still_offline indexes k n s).clock;
+    suspended = λ texts indexes k. (still_offline indexes k n s).suspended;
     names = λ texts indexes k. (still_offline indexes k n s).names ∙ h.names;
     last = λ texts indexes k. let as_it_was = (still_offline indexes k n s).last in omega (arith, as_it_was);
   }

@@ -1,23 +1,26 @@
 -- How far the machine has come in an advance.
-use Rattle.std.specs.Prelude.{◌≡◌, ℕ, ◌<◌, ◌≤◌, map}
+use Rattle.std.specs.Prelude.{◌≡◌, ℕ, ◌<◌, ◌≤◌, false, map}
 use Rattle.cyc_types.specs.Series.{never}
 use Rattle.cyc_types.specs.Tally.{TallyView, tally_count}
 use Rattle.cyc_core.specs.Tables.{Tables}
 use Rattle.cyc_script.specs.Limits.{most_steps}
 use Rattle.cyc_model.specs.State.{State}
 use Rattle.cyc_system.specs.System.{RunningSystem, running_system}
+use Rattle.cyc_agreement.specs.Suspending.{is_suspended}
 use Rattle.cyc_replay.specs.Room.{HaveAllRoom}
 use Rattle.cyc_replay.specs.Shown.{IsSystem}
 use Rattle.cyc_replay.specs.SystemAdvancing.{at_clock, fired_and_lost, HasFired}
 use Rattle.cyc_replay.specs.declared.machine.Machine.{Machine}
 use Rattle.cyc_replay.specs.Machine.{IsReached, IsWide, AllMost, Remembers, number_of}
 
--- The clock is set, and the online CPUs below this number have fired: they made and lost so many expirations together. `first` is
--- the system with its tally before the first fire, which s shows.
+-- The clock is set on a machine that is not suspended, and the online CPUs below this number have fired: they made and lost so
+-- many expirations together. `first` is the system with its tally before the first fire, which s shows.
 pub record IsAdvancing (step n expired lost : ℕ) (s : State) (first : RunningSystem TallyView Tables) (m : Machine) : Type 0 where
   pub reached : IsReached step s
   pub few : step ≤ most_steps
   pub before : m.clock < never
+  pub awake : s.suspended ≡ false
+  pub suspended : s.suspended ≡ is_suspended m.system
   pub fired : HasFired tally_count n (fired_and_lost expired lost) (at_clock m.clock s) first (running_system m.tally m.system)
   pub called : (id : ℕ) → tally_count first.calls id ≡ s.called id
   pub system : IsSystem m.system

@@ -19,5 +19,6 @@ pub record HasReserved (v w : CpuView Tables) : Type 0 where
   pub removal : w.removal ≡ v.removal
   pub size : w.size ≡ v.size
   pub most : w.most ≡ v.most
+  pub suspended : w.suspended ≡ v.suspended
   pub lock : level_of w.lock ≡ level_of v.lock
   pub low : level_of w.low ≡ level_of v.low

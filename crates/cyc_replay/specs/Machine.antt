@@ -11,6 +11,7 @@ use Rattle.cyc_model.specs.Script.{run_on}
 use Rattle.cyc_core.specs.Tables.{Tables}
 use Rattle.cyc_cpu.specs.Cpu.{CpuView}
 use Rattle.cyc_system.specs.Cpus.{CpusView, IsCpu}
+use Rattle.cyc_agreement.specs.Suspending.{is_suspended}
 use Rattle.cyc_replay.specs.Room.{HaveAllRoom}
 use Rattle.cyc_replay.specs.Shown.{ShowsSystem, IsSystem}
 use Rattle.cyc_replay.specs.declared.machine.Counted.{Counted}
@@ -62,11 +63,13 @@ pub record Remembers (s : State) (m : Machine) : Type 0 where
   pub names : length m.counted.items ≡ length m.names.items
   pub ids : length m.named.items ≡ most_steps
 
--- the definition's machine shows this one: its clock, its CPUs with their cyclics, the calls of each id, and the id of each name
+-- the definition's machine shows this one: its clock, whether it is suspended, its CPUs with their cyclics, the calls of each
+-- id, and the id of each name
 pub record Holds (s : State) (m : Machine) : Type 0 where
   pub system : IsSystem m.system
   pub shows : ShowsSystem s m.system
   pub clock : s.clock ≡ m.clock
+  pub suspended : s.suspended ≡ is_suspended m.system
   pub called : (id : ℕ) → tally_count m.tally id ≡ s.called id
   pub names : s.names ≡ map number_of m.names.items
   pub remembers : Remembers s m

@@ -18,7 +18,8 @@ LevelsAreSound m = (n : ℕ) (cpu : CpuView Tables) → IsCpu n cpu m.system.cpu
     → IsSound (level_of cpu.lock) × IsSound (level_of cpu.low)
 
 -- The machine is the one that the script led to: there are free indexes with which the definition's run leaves a machine that
--- shows it, with its clock, each CPU with its cyclics and both levels, what ended, the calls of each id, and the id of each name.
+-- shows it, with its clock, whether it is suspended, each CPU with its cyclics and both levels, what ended, the calls of each id,
+-- and the id of each name.
 -- A level shows the index of each cyclic that is admitted there: those are the machine's own. At each soft level of each CPU each
 -- event of that run was enabled when it happened, and the level was lawful and conserved before the first of them, after each,
 -- and at the end.

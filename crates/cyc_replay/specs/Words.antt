@@ -1,10 +1,12 @@
 -- What a word of a script does to the machine, and the line that it puts.
-use Rattle.std.specs.Prelude.{◌≡◌, ℕ, ◌+◌, List, length, None, Result, Ok, Err}
+use Rattle.std.specs.Prelude.{◌≡◌, ℕ, ◌+◌, ◌<◌, ⊤, List, length, None, Result, Ok, Err}
 use Rattle.cyc_types.specs.declared.level.Soft.{Soft}
 use Rattle.cyc_types.specs.declared.refusal.Refusal.{Refusal}
 use Rattle.cyc_types.specs.Refusals.{number_of}
+use Rattle.cyc_types.specs.Series.{never}
 use Rattle.cyc_text.specs.Lines.{accepted, refused}
 use Rattle.cyc_script.specs.declared.step.Step.{Step}
+use Rattle.cyc_script.specs.declared.step.Step.TheVariants.{Advance}
 use Rattle.cyc_model.specs.Acts.{events_at}
 use Rattle.cyc_model.specs.Serving.{level_at}
 use Rattle.cyc_model.specs.Questions.{plain}
@@ -15,6 +17,11 @@ use Rattle.cyc_cpu_model.specs.Answers.{IsRefused}
 use Rattle.cyc_replay.specs.SystemWords.{Gives}
 use Rattle.cyc_replay.specs.declared.machine.Machine.{Machine}
 use Rattle.cyc_replay.specs.Machine.{Holds}
+
+-- the step sets the clock to no moment from never on: so it is in every script
+abbrev pub SetsBelowNever : Step → Type 0
+SetsBelowNever (Advance moment) = moment < never
+SetsBelowNever x = ⊤
 
 -- What the definition comes to is what the machine did: the definition's machine shows the one after it, so many cyclics were
 -- put on a CPU, and the index of each was free.

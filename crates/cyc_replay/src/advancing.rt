@@ -101,32 +101,16 @@ fn fire_all(machine: &mut Machine) -> Made
     made
 }
 
-/// The moment of so many nanoseconds, below never.
-fn moment_of(nanoseconds: u64) -> Option<Moment>
-    ensures some { IfSome result (λ moment. (moment ≡ nanoseconds) × (nanoseconds < never)) }
-    ensures none { IfNone result (never ≤ nanoseconds) }
+/// The moment of so many nanoseconds.
+fn moment_of(nanoseconds: u64) -> Moment
+    requires before { nanoseconds < never }
+    ensures { result ≡ nanoseconds }
 {
-    if nanoseconds >= Moment::NEVER.nanoseconds() {
-        return None;
-    }
-    Moment::new(nanoseconds as i64).ok()
+    Moment::new(nanoseconds as i64).unwrap()
 }
 
-/// Sets the clock to this moment, and the online CPUs fire.
-fn advance_clock(machine: &mut Machine, now: Moment) -> Made
-    requires before { now < never }
-    requires reached { (step : ℕ) × (s : State) × (step ≤ most_steps) × IsReached step s × Holds s machine.old }
-    ensures line { (step : ℕ) (s : State) → step ≤ most_steps → IsReached step s → Holds s machine.old
-        → (advance step now s).line ≡ fired_line step result.expired result.lost }
-    ensures comes { (step : ℕ) (s : State) → step ≤ most_steps → IsReached step s → Holds s machine.old
-        → Comes [] s (advance step now s) machine.new }
-{
-    advance_law::<Tally>();
-    machine.clock = now;
-    fire_all(machine)
-}
-
-/// The word `advance`: sets the clock, and every online CPU fires. It refuses with BadNow a moment that isn't below never.
+/// The word `advance`: sets the clock, and every online CPU fires. Where the machine is suspended it refuses with Suspended: no
+/// CPU fires, and the clock is set all the same.
 pub fn take_advance(
     machine: &mut Machine,
     line: &mut String,
@@ -134,15 +118,18 @@ pub fn take_advance(
     moment: u64,
 ) -> Result<(), RunFault>
     requires few { step ≤ most_steps }
+    requires before { moment < never }
     requires reached { (s : State) × IsReached step s × Holds s machine.old }
     ensures takes { OnOk result ((texts : List (List ℕ)) (s : State) → IsReached step s → Holds s machine.old
         → TakesWord texts step (steps.Advance moment) (string_bytes line.new) s machine.new) }
     ensures memory { IfErr result IsMemory }
 {
-    let Some(now) = moment_of(moment) else {
-        return write_answer(line, step, Err(Refusal::BadNow));
-    };
-    let made = advance_clock(machine, now);
+    advance_law::<Tally>();
+    machine.clock = moment_of(moment);
+    if machine.system.is_suspended() {
+        return write_answer(line, step, Err(Refusal::Suspended));
+    }
+    let made = fire_all(machine);
     write_fired(line, step, made.expired, made.lost)?;
     Ok(())
 }

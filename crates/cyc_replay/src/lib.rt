@@ -18,6 +18,7 @@
 //!   handler: `reports_add_up`
 //! - the line of a removal gives all calls that were ever made of the cyclic: `removals_tell_calls`
 //! - no call follows the answer of a removal: `nothing_follows_removal`
+//! - from a suspend to the next resume nothing expires: `nothing_expires_suspended`
 //! - a step that moves cyclics loses no cyclic, no call and no count: `moves_lose_nothing`
 //! - the text is the same whatever indexes the cyclics get: `text_tells_no_index`
 #![tactic(auto)]
@@ -37,6 +38,7 @@ mod report;
 mod run;
 mod script;
 mod steps;
+mod suspending;
 mod system_laws;
 
 pub use beginning::begin;
@@ -48,5 +50,6 @@ pub use run::put_steps;
 pub use script::{replay, run_script};
 pub use system_laws::{
     add_law, advance_law, begin_law, bind_law, fire_law, juggle_law, kept_law, offline_law,
-    omni_law, online_law, poll_law, remove_law, report_law, reprogram_law, softint_law, unbind_law,
+    omni_law, online_law, poll_law, remove_law, report_law, reprogram_law, resume_law, softint_law,
+    suspend_law, unbind_law,
 };

@@ -8,6 +8,7 @@ ghost use Rattle.cyc_model.specs.Questions.{plain};
 ghost use Rattle.cyc_model.specs.Script.{word, run_on, names_of, no_indexes};
 ghost use Rattle.cyc_text.specs.Status.{is_write, IsMemoryOrWrite};
 ghost use Rattle.cyc_replay.specs.Runs.{Runs};
+ghost use Rattle.cyc_replay.specs.Words.{SetsBelowNever};
 
 use crate::machine::Machine;
 use crate::steps::take_step;
@@ -24,6 +25,7 @@ fn put_step<S: Sink>(
     taken: &Step,
 ) -> Result<(), RunFault>
     requires few { step ≤ most_steps }
+    requires before { SetsBelowNever taken.now }
     requires runs { (done : List TheStep) × (step ≡ 1 + length done)
         × Runs script.now.cpus script.now.ceiling (names_of script.now) done machine.old }
     requires whole { S.has_failed sink.old ≡ false }

@@ -6,7 +6,7 @@ ghost use Rattle.cyc_script.specs.declared.step.Step.TheVariants as steps;
 ghost use Rattle.cyc_model.specs.State.{State};
 ghost use Rattle.cyc_text.specs.Status.{IsMemory};
 ghost use Rattle.cyc_replay.specs.Machine.{Holds, IsReached};
-ghost use Rattle.cyc_replay.specs.Words.{TakesWord};
+ghost use Rattle.cyc_replay.specs.Words.{SetsBelowNever, TakesWord};
 
 use crate::adding::{add_cyclic, add_omni};
 use crate::advancing::take_advance;
@@ -16,6 +16,7 @@ use crate::machine::Machine;
 use crate::moving::{bind_cyclic, online_cpu, reprogram_cyclic, unbind_cyclic};
 use crate::offline::{take_juggle, take_offline};
 use crate::removing::take_remove;
+use crate::suspending::{resume_machine, suspend_machine};
 use cyc_script::{Add, Bind, Name, Omni, Reprogram, Step};
 use cyc_text::RunFault;
 
@@ -111,6 +112,26 @@ fn take_online(
     write_answer(line, step, answer)
 }
 
+/// The word `suspend`.
+fn take_suspend(machine: &mut Machine, line: &mut String, step: u32) -> Result<(), RunFault>
+    ensures takes { OnOk result ((texts : List (List ℕ)) (s : State) → IsReached step s → Holds s machine.old
+        → TakesWord texts step steps.Suspend (string_bytes line.new) s machine.new) }
+    ensures memory { IfErr result IsMemory }
+{
+    let answer = suspend_machine(machine);
+    write_answer(line, step, answer)
+}
+
+/// The word `resume`.
+fn take_resume(machine: &mut Machine, line: &mut String, step: u32) -> Result<(), RunFault>
+    ensures takes { OnOk result ((texts : List (List ℕ)) (s : State) → IsReached step s → Holds s machine.old
+        → TakesWord texts step steps.Resume (string_bytes line.new) s machine.new) }
+    ensures memory { IfErr result IsMemory }
+{
+    let answer = resume_machine(machine);
+    write_answer(line, step, answer)
+}
+
 /// Takes a step, and writes its line, or its lines where removals were answered.
 pub(crate) fn take_step(
     machine: &mut Machine,
@@ -120,6 +141,7 @@ pub(crate) fn take_step(
     taken: &Step,
 ) -> Result<(), RunFault>
     requires few { step ≤ most_steps }
+    requires before { SetsBelowNever taken.now }
     requires reached { (s : State) × IsReached step s × Holds s machine.old }
     ensures takes { OnOk result ((s : State) → IsReached step s → Holds s machine.old
         → TakesWord (map string_bytes names.now) step taken.now (string_bytes line.new) s machine.new) }
@@ -137,5 +159,7 @@ pub(crate) fn take_step(
         Step::Juggle(cpu) => take_juggle(machine, line, step, *cpu),
         Step::Offline(cpu) => take_offline(machine, line, step, *cpu),
         Step::Online(cpu) => take_online(machine, line, step, *cpu),
+        Step::Suspend => take_suspend(machine, line, step),
+        Step::Resume => take_resume(machine, line, step),
     }
 }

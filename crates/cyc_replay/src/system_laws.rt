@@ -26,7 +26,8 @@ ghost use Rattle.cyc_system.specs.declared.interrupting.SoftFault.TheVariants as
 ghost use Rattle.cyc_system.specs.System.{SystemView, RunningSystem, is_online};
 ghost use Rattle.cyc_system.specs.Agreement.{Agrees, most_on};
 ghost use Rattle.cyc_system.specs.Calls.{SystemCall, Changes, Does, Add, AddOmni, Bind, BeginRemove, PollRemove, AskTotals};
-ghost use Rattle.cyc_system.specs.Calls.{Juggle, Offline, Online, FireOne, SoftInterrupt, no_fire, reprograms};
+ghost use Rattle.cyc_system.specs.Calls.{Juggle, Offline, Online, FireOne, SoftInterrupt, Suspend, Resume, no_fire, reprograms};
+ghost use Rattle.cyc_agreement.specs.Suspending.{is_suspended};
 ghost use Rattle.cyc_model.specs.State.{State, each};
 ghost use Rattle.cyc_model.specs.Places.{id_of, is_unknown};
 ghost use Rattle.cyc_types.specs.Reasons.{first_refusal};
@@ -43,7 +44,7 @@ ghost use Rattle.cyc_replay.specs.Removal.{told_by, told_in, answer_line, IsRemo
 ghost use Rattle.cyc_replay.specs.Removal.{IsInterrupted};
 ghost use Rattle.cyc_replay.specs.Room.{HaveAllRoom};
 ghost use Rattle.cyc_replay.specs.Shown.{ShowsSystem, IsSystem};
-ghost use Rattle.cyc_replay.specs.Kept.{AreNew, new_system};
+ghost use Rattle.cyc_replay.specs.Kept.{AreNew, new_system, LeavesMark};
 ghost use Rattle.cyc_replay.specs.Running.{IsFired, IsServed};
 ghost use Rattle.cyc_replay.specs.SystemAdvancing.{at_clock, fired_and_lost, HasFired, IsAdvanced};
 ghost use Rattle.cyc_replay.specs.SystemWords.{IsSeries, IsMoment, IsDone, IsDoneWith, IsRefusedFor, IsAtOnce};
@@ -59,8 +60,8 @@ pub fn begin_law()
 {}
 
 /// Each call of a system, also a fire or a soft interrupt that was refused or stopped, keeps what the laws here ask of a system
-/// beside what each system's own law says of it; each CPU's bound on the expirations of a cyclic; and on each CPU the memory for
-/// as many cyclics as one can have.
+/// beside what each system's own law says of it; each CPU's bound on the expirations of a cyclic; on each CPU the memory for as
+/// many cyclics as one can have; and, but for a suspend and a resume, whether the system is suspended.
 ///
 /// It does nothing when it runs: its clauses are the law.
 pub fn kept_law<C: Calls>()
@@ -73,6 +74,9 @@ pub fn kept_law<C: Calls>()
     ensures room { (call : SystemCall) (s t : RunningSystem C Tables)
         → Does C.Calls raise_tables (Interrupts C.Calls) s call t
         → IsSystem s.system → HaveAllRoom s.system.cpus → HaveAllRoom t.system.cpus }
+    ensures suspended { (call : SystemCall) (s t : RunningSystem C Tables)
+        → Does C.Calls raise_tables (Interrupts C.Calls) s call t
+        → LeavesMark call → is_suspended t.system ≡ is_suspended s.system }
 {}
 
 /// An `add` of a system is the word `add`: it gives the next id, and puts the cyclic where the definition puts it; or both are
@@ -196,8 +200,32 @@ pub fn offline_law()
         → Changes raise_tables v (Offline n (Err e)) w → IsRefusedFor e (steps.Offline n) s w }
 {}
 
+/// A `suspend` of a system is the word `suspend`, where the system is suspended as the definition's machine is: from now on it is
+/// suspended, and nothing else changes; or both are refused, for one reason.
+///
+/// It does nothing when it runs: its clauses are the law.
+pub fn suspend_law()
+    ensures accepted { (s : State) (v w : SystemView Tables) → IsSystem v → ShowsSystem s v → s.suspended ≡ is_suspended v
+        → Changes raise_tables v (Suspend (Ok tt)) w → IsDone steps.Suspend s w × (is_suspended w ≡ true) }
+    ensures refused { (e : Refusal) (s : State) (v w : SystemView Tables) → IsSystem v → ShowsSystem s v
+        → s.suspended ≡ is_suspended v
+        → Changes raise_tables v (Suspend (Err e)) w → IsRefusedFor e steps.Suspend s w × (w ≡ v) }
+{}
+
+/// A `resume` of a system is the word `resume`, where the system is suspended as the definition's machine is: from now on it is
+/// suspended no more, and nothing else changes; or both are refused, for one reason.
+///
+/// It does nothing when it runs: its clauses are the law.
+pub fn resume_law()
+    ensures accepted { (s : State) (v w : SystemView Tables) → IsSystem v → ShowsSystem s v → s.suspended ≡ is_suspended v
+        → Changes raise_tables v (Resume (Ok tt)) w → IsDone steps.Resume s w × (is_suspended w ≡ false) }
+    ensures refused { (e : Refusal) (s : State) (v w : SystemView Tables) → IsSystem v → ShowsSystem s v
+        → s.suspended ≡ is_suspended v
+        → Changes raise_tables v (Resume (Err e)) w → IsRefusedFor e steps.Resume s w × (w ≡ v) }
+{}
+
 /// A `fire_one` of a system that is not stopped is the definition's fire of that CPU, of which the word `advance` makes one for
-/// each; or both are refused.
+/// each; or both are refused. On a suspended system no fire is made: each is refused, as the word is.
 ///
 /// It does nothing when it runs: its clauses are the law.
 pub fn fire_law<C: Calls>()
@@ -209,6 +237,11 @@ pub fn fire_law<C: Calls>()
         → IsSystem s.system → ShowsSystem m s.system → first_refusal (no_cpu n m ∷ offline_cpu n m ∷ []) ≡ Some e
         → Does C.Calls raise_tables no_interrupts s (FireOne n now answer) t
         → (answer ≡ Err (no_fire e)) × (t ≡ s) }
+    ensures suspended { (n now : ℕ) (answer : Result Fired FireRefused) (m : State) (s t : RunningSystem C Tables)
+        → IsSystem s.system → ShowsSystem m s.system → first_refusal (no_cpu n m ∷ offline_cpu n m ∷ []) ≡ None
+        → is_suspended s.system ≡ true
+        → Does C.Calls raise_tables no_interrupts s (FireOne n now answer) t
+        → (answer ≡ Err (no_fire why.Suspended)) × (t ≡ s) }
 {}
 
 /// The fires of all online CPUs, one after the other by rising number, are the word `advance`: the clock is set; each fire that

@@ -35,7 +35,8 @@ returns-in_err-id c step s r low h =
     let after = running_system m.tally t in
     let kept = keeps s m t h (c.kept_law.ensures.system call before after (made, refl) h.system c.law.ensures)
     (c.kept_law.ensures.most call before after (made, refl) h.system)
-    (c.kept_law.ensures.room call before after (made, refl) h.system h.room) in
+    (c.kept_law.ensures.room call before after (made, refl) h.system h.room)
+    (c.kept_law.ensures.suspended call before after (made, refl) tt) in
     let p = err_from_is_err_and c.from_residual-in_err-id.result c.from_residual-in_err-id.ensures.1 in
     rw p.1 (
       subst (λ x. IsRefused x (refusal_of plain (steps.Omni a) s)) (sym p.2) refused.0,
@@ -54,13 +55,16 @@ returns c step s r low h =
     let after = running_system m.tally t in
     let kept = keeps s m t h (c.kept_law.ensures.system call before after (made, refl) h.system c.law.ensures)
     (c.kept_law.ensures.most call before after (made, refl) h.system)
-    (c.kept_law.ensures.room call before after (made, refl) h.system h.room) in
+    (c.kept_law.ensures.room call before after (made, refl) h.system h.room)
+    (c.kept_law.ensures.suspended call before after (made, refl) tt) in
     let names = c.set_id.ensures ∙ ap (λ k. slice_set m.names.items k (Some id)) c.number-name.ensures.value in
     let named = c.set_name.ensures ∙ ap (λ k. slice_set m.named.items (id - 1) k) c.number-name.ensures.value in
     let n = record m { system = t; names = c.set_id.new.names; named = c.set_name.new.named } in
     let few = (few_reached step s r low).0 in let first = given a.name (OnAll (everywhere a)) s in
     accepts (steps.Omni a) s m n h kept done.1 refl refl (record {
       clock = λ texts indexes k. (still_enters indexes (s.last_id + 1) (everywhere a) (online_cpus first) first).clock;
+      suspended = λ texts indexes k.
+          (still_enters indexes (s.last_id + 1) (everywhere a) (online_cpus first) first).suspended;
       names = λ texts indexes k. (still_enters indexes (s.last_id + 1) (everywhere a) (online_cpus first) first).names
           ∙ (λ z. slice_set (h.names z) a.name (sym done.0 z))
           ∙ sym (ap (map number_of) names ∙ map-set number_of m.names.items a.name (Some id));

@@ -1,4 +1,4 @@
-use Rattle.std.proofs.Common.{◌+◌, refl, sym, subst, arith}
+use Rattle.std.proofs.Common.{◌+◌, ◌∙◌, refl, sym, subst, arith}
 use Rattle.std.specs.Prelude.{Ok}
 use Rattle.cyc_types.specs.Tally.{tally_count}
 use Rattle.cyc_system.specs.System.{running_system}
@@ -25,6 +25,9 @@ returns-in-Ok-clause-next c step expired lost s first a =
       reached = a.reached;
       few = a.few;
       before = a.before;
+      awake = a.awake;
+      suspended = a.suspended
+          ∙ sym (c.kept_law.ensures.suspended (FireOne c.args.cpu m.clock (Ok fired)) before after c.in-Ok.ensures tt);
       fired = subst (λ k. HasFired tally_count (c.args.cpu + 1) (fired_and_lost (expired + k) (lost + c.from-in-Ok.result))
           (at_clock m.clock s) first after) (sym c.from.ensures)
           (subst (λ k. HasFired tally_count (c.args.cpu + 1) (fired_and_lost (expired + fired.expired) (lost + k))

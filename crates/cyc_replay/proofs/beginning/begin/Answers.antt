@@ -1,5 +1,6 @@
-use Rattle.std.proofs.Common.{◌≡◌, ◌-◌, sym, subst, ◌∙◌, refl, length, All}
+use Rattle.std.proofs.Common.{◌≡◌, ◌-◌, ap, sym, subst, ◌∙◌, refl, length, All}
 use Rattle.cyc_system.specs.Agreement.{Agrees}
+use Rattle.cyc_agreement.specs.Suspending.{is_suspended}
 use Rattle.cyc_system.specs.System.{SystemView}
 use Rattle.cyc_core.specs.Tables.{Tables}
 use Rattle.cyc_model.specs.Script.{start}
@@ -8,7 +9,8 @@ use Rattle.cyc_replay.specs.Kept.{new_system}
 use Rattle.cyc_replay.specs.Beginning.{IsEmpty}
 use Rattle.cyc_replay.specs.Machine.{AllMost}
 use Rattle.cyc_replay.proofs.Mosts.{most_new}
-use Rattle.cyc_replay.proofs.Start.{fresh_levels, held_new, new_empty, still_system, still_shows, still_most, now_room}
+use Rattle.cyc_replay.proofs.Start.{fresh_levels, held_new, new_empty, still_system, still_shows, still_most, still_awake}
+use Rattle.cyc_replay.proofs.Start.{awake_new, now_room}
 use Rattle.cyc_replay.proofs.beginning.begin.Goals as goal
 
 pub new-requires-clause-fresh : goal.new-requires-clause-fresh
@@ -39,7 +41,8 @@ returns-clause-holds c =
     (new_empty 18446744073709551615 c.args.ceiling ends c.in_ok-levels.ensures.new) in
     held_new c.args.cpus c.args.ceiling c.args.names _ refl
     c.in_ok-tally.ensures.tally c.in_ok-tally.ensures.ids c.in_ok-tally.ensures.counted c.in_ok-tally.ensures.named
-    (still_most v w two.0 two.1 rest.0 rest.1 most) (now_room v w two.0 two.1 rest.0 rest.1 empty) (
+    (still_most v w two.0 two.1 rest.0 rest.1 most) (now_room v w two.0 two.1 rest.0 rest.1 empty)
+    (still_awake v w two.0 two.1 rest.0 rest.1 (ap is_suspended is ∙ awake_new 18446744073709551615 ends)) (
       still_system v w two.0 two.1 rest.0 rest.1 here.0 c.law-2.ensures,
       still_shows v w two.0 two.1 rest.0 rest.1 (start c.args.cpus c.args.ceiling c.args.names)
           (subst (λ k. ShowsSystem (start k c.args.ceiling c.args.names) v) c.in_ok-levels.ensures.long here.1),

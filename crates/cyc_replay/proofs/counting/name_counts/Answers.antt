@@ -1,7 +1,6 @@
-use Rattle.std.proofs.Common.{◌≡◌, ℕ, Option, Some, None, refl, ap, sym, ◌∙◌, subst, cond}
+use Rattle.std.proofs.Common.{Some, None, refl, ap, sym, ◌∙◌, subst}
 use Rattle.cyc_system.specs.System.{running_system}
-use Rattle.cyc_cpu.specs.Soft.{fires, firing_at}
-use Rattle.cyc_system.specs.Calls.{Changes, AskTotals}
+use Rattle.cyc_system.specs.Calls.{AskTotals}
 use Rattle.cyc_replay.specs.Shown.{ShowsSystem}
 use Rattle.cyc_model.specs.Report.{counts_of}
 use Rattle.cyc_replay.specs.Machine.{id_at, counted_at}
@@ -40,7 +39,8 @@ returns-in_default-answer-clause-holds c = λ s h.
     let same = (c.report_law.ensures.none id s m.system w h.system h.shows did).1 in
     refuses s m (record m { system = w }) h
     (keeps s m w h system (kept.most call before after (did, refl) h.system)
-    (kept.room call before after (did, refl) h.system h.room))
+    (kept.room call before after (did, refl) h.system h.room)
+    (kept.suspended call before after (did, refl) tt))
     (subst (λ v. ShowsSystem s v) (sym same) h.shows) refl refl (record { names = refl; counted = refl; named = refl })
 
 pub returns-clause-counts : goal.returns-clause-counts
@@ -63,5 +63,6 @@ returns-clause-holds c = λ s h.
     let shows = (c.report_law.ensures.some id c.in-Some-answer.totals s m.system w h.system h.shows did).0 in
     refuses s m (record m { system = w }) h
     (keeps s m w h system (kept.most call before after (did, refl) h.system)
-    (kept.room call before after (did, refl) h.system h.room))
+    (kept.room call before after (did, refl) h.system h.room)
+    (kept.suspended call before after (did, refl) tt))
     shows refl refl (record { names = refl; counted = refl; named = refl })

@@ -1,5 +1,4 @@
-use Rattle.std.proofs.Common.{◌≡◌, ℕ, arith, None, Some, refl, ap, sym, subst, ◌∙◌}
-use Rattle.std.specs.Prelude.{Ok, Err}
+use Rattle.std.proofs.Common.{arith, None, Some, refl, ap, sym, subst, ◌∙◌}
 use Rattle.cyc_script.specs.declared.step.Step.TheVariants as steps
 use Rattle.cyc_system.specs.System.{running_system}
 use Rattle.cyc_system.specs.Calls.{Changes, Bind}
@@ -28,7 +27,8 @@ returns c step s r h =
     let after = running_system m.tally t in
     let kept = keeps s m t h (c.kept_law.ensures.system call before after (c.bind-answer.ensures, refl) h.system c.law.ensures)
     (c.kept_law.ensures.most call before after (c.bind-answer.ensures, refl) h.system)
-    (c.kept_law.ensures.room call before after (c.bind-answer.ensures, refl) h.system h.room) in
+    (c.kept_law.ensures.room call before after (c.bind-answer.ensures, refl) h.system h.room)
+    (c.kept_law.ensures.suspended call before after (c.bind-answer.ensures, refl) tt) in
     let did = subst (λ k. Changes raise_tables m.system (Bind k (Some b.cpu) answer) t) (sym named) c.bind-answer.ensures in
     answered step (steps.Bind b) answer s m (record m { system = t }) r tt h kept
     (λ is. c.bind_law.ensures.accepted b s m.system t h.system h.shows
@@ -37,6 +37,7 @@ returns c step s r h =
     (subst (λ a. Changes raise_tables m.system (Bind (id_of b.name s) (Some b.cpu) a) t) is did))
     refl refl (record { names = refl; counted = refl; named = refl }) (record {
       clock = λ texts indexes step. (still_bind indexes step b s).clock;
+      suspended = λ texts indexes step. (still_bind indexes step b s).suspended;
       names = λ texts indexes step. (still_bind indexes step b s).names ∙ h.names;
       last = λ texts indexes step. let same = (still_bind indexes step b s).last in omega (arith, same);
     })

@@ -1,5 +1,4 @@
-use Rattle.std.proofs.Common.{◌≡◌, ℕ, arith, None, Some, refl, ap, sym, subst, ◌∙◌}
-use Rattle.std.specs.Prelude.{Ok, Err}
+use Rattle.std.proofs.Common.{arith, None, Some, refl, ap, sym, subst, ◌∙◌}
 use Rattle.std.proofs.lemmas.Result.{err_from_is_err_and}
 use Rattle.cyc_script.specs.declared.step.Step.TheVariants as steps
 use Rattle.cyc_system.specs.System.{running_system}
@@ -12,7 +11,7 @@ use Rattle.cyc_model.specs.Places.{id_of}
 use Rattle.cyc_replay.specs.Machine.{id_at}
 use Rattle.cyc_replay.proofs.Doing.{keeps, answered}
 use Rattle.cyc_replay.proofs.Series.{is_moment, moment_refused, reprogram_nobody}
-use Rattle.cyc_replay.proofs.Moments.{same_kept}
+use Rattle.cyc_replay.proofs.Moments.{same_kept, leaves_mark}
 use Rattle.cyc_replay.proofs.Named.{same_id, nobody_first}
 use Rattle.cyc_replay.proofs.moving.reprogram_cyclic.Goals as goal
 
@@ -46,7 +45,8 @@ returns c step s r h =
     let after = running_system m.tally t in
     let made = same_kept b.cpu id moment answer m.tally m.system t c.reprogram_at.ensures.did in
     let kept = keeps s m t h (c.kept_law.ensures.system call before after made h.system c.reprogram_at.ensures.agrees)
-    (c.kept_law.ensures.most call before after made h.system) (c.kept_law.ensures.room call before after made h.system h.room) in
+    (c.kept_law.ensures.most call before after made h.system) (c.kept_law.ensures.room call before after made h.system h.room)
+    (c.kept_law.ensures.suspended call before after made (leaves_mark b.cpu id moment answer)) in
     let did = subst (λ k. Changes raise_tables m.system (reprograms b.cpu k moment answer) t)
     (sym named) c.reprogram_at.ensures.did in
     let is = is_moment b moment c.in_ok-moment.ensures.ok in
@@ -57,6 +57,7 @@ returns c step s r h =
     (subst (λ a. Changes raise_tables m.system (reprograms b.cpu (id_of b.name s) moment a) t) err did))
     refl refl (record { names = refl; counted = refl; named = refl }) (record {
       clock = λ texts indexes step. refl;
+      suspended = λ texts indexes step. refl;
       names = λ texts indexes step. h.names;
       last = λ texts indexes step. omega arith;
     })

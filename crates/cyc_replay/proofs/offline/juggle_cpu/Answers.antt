@@ -1,5 +1,4 @@
-use Rattle.std.proofs.Common.{◌≡◌, refl, subst}
-use Rattle.std.specs.Prelude.{Ok, Err}
+use Rattle.std.proofs.Common.{refl, subst}
 use Rattle.cyc_system.specs.System.{running_system}
 use Rattle.cyc_system.specs.Calls.{Changes, Juggle}
 use Rattle.cyc_cpu.specs.Soft.{raise_tables}
@@ -14,7 +13,8 @@ returns c step s r h =
     let call = Juggle n answer in let before = running_system m.tally m.system in let after = running_system m.tally t in
     let kept = keeps s m t h (c.kept_law.ensures.system call before after (did, refl) h.system c.law.ensures)
     (c.kept_law.ensures.most call before after (did, refl) h.system)
-    (c.kept_law.ensures.room call before after (did, refl) h.system h.room) in
+    (c.kept_law.ensures.room call before after (did, refl) h.system h.room)
+    (c.kept_law.ensures.suspended call before after (did, refl) tt) in
     juggles step n s m t r h kept answer
     (λ report is. c.juggle_law.ensures.accepted n report s m.system t h.system h.shows h.room
     (subst (λ a. Changes raise_tables m.system (Juggle n a) t) is did))

@@ -1,5 +1,4 @@
-use Rattle.std.proofs.Common.{◌≡◌, refl, subst}
-use Rattle.std.specs.Prelude.{Ok, Err}
+use Rattle.std.proofs.Common.{refl, subst}
 use Rattle.cyc_system.specs.System.{running_system}
 use Rattle.cyc_system.specs.Calls.{Changes, Offline}
 use Rattle.cyc_cpu.specs.Soft.{raise_tables}
@@ -15,7 +14,8 @@ returns c step s r h =
     let call = Offline n answer in let before = running_system m.tally m.system in let after = running_system m.tally t in
     let kept = keeps s m t h (c.kept_law.ensures.system call before after (did, refl) h.system c.law.ensures)
     (c.kept_law.ensures.most call before after (did, refl) h.system)
-    (c.kept_law.ensures.room call before after (did, refl) h.system h.room) in
+    (c.kept_law.ensures.room call before after (did, refl) h.system h.room)
+    (c.kept_law.ensures.suspended call before after (did, refl) tt) in
     goes_offline step n s m t r h kept answer
     (λ is. c.offline_law.ensures.accepted n s m.system t h.system h.shows h.room
     (subst (λ a. Changes raise_tables m.system (Offline n a) t) is did))

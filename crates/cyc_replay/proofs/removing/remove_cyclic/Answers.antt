@@ -29,10 +29,11 @@ returns-clause-answers c = λ step s r h.
     let most = kept.most (BeginRemove id answer) before after (c.begin_remove-answer.ensures, refl) h.system in
     let did = subst (λ k. Changes raise_tables m.system (BeginRemove k answer) t) (sym named) c.begin_remove-answer.ensures in
     let room = kept.room (BeginRemove id answer) before after (c.begin_remove-answer.ensures, refl) h.system h.room in
+    let mark = kept.suspended (BeginRemove id answer) before after (c.begin_remove-answer.ensures, refl) tt in
     let at = ap (id_at m.names.items) (sym c.number-place.ensures.value) ∙ sym (sym c.in-Some.is ∙ found) in
     let counted = c.keep_begun.ensures ∙ ap (λ k. counted_begun k answer m.counted.items) c.number-place.ensures.value in
     begun_answers name id s m (record m { system = t; counted = c.keep_begun.new.counted }) (reached_good step s r) h
-    (keeps s m t h system most room) refl refl at named refl refl answer counted c.begin_remove-answer.ensures
+    (keeps s m t h system most room mark) refl refl at named refl refl answer counted c.begin_remove-answer.ensures
     (begun name (id_of name s) answer s m.system t (λ receipt. law.answered name receipt s m.system t h.system h.shows)
     (λ waits. law.kept name waits s m.system t h.system h.shows) (λ e. law.refused name e s m.system t h.system h.shows) did)
 

@@ -6,6 +6,7 @@ use Rattle.cyc_text.specs.Puts.{AppendsPrefix}
 use Rattle.cyc_text.proofs.Puts.{prefix_more, stops}
 use Rattle.cyc_model.specs.Script.{names_of, no_indexes}
 use Rattle.cyc_replay.specs.Runs.{Runs}
+use Rattle.cyc_replay.proofs.Moments.{before_never}
 use Rattle.cyc_replay.proofs.RunningMachine.{take_on, number_on, whole_line, line_then}
 use Rattle.cyc_replay.proofs.run.put_steps.Goals as goal
 
@@ -14,6 +15,13 @@ put_step-requires-clause-few g c =
     let few = c.args.script.now.well_formed.few_steps in
     let low = subst (λ xs. c.loop-taken.taken-index < length xs) c.deref-taken-items.ensures.value c.loop-taken-test.true in
     let number = c.loop-taken.invariant.number in omega (arith, few, low, number)
+
+pub put_step-requires-clause-before : goal.put_step-requires-clause-before
+put_step-requires-clause-before g c =
+    let steps = c.args.script.now.steps.items in let i = c.loop-taken.taken-index in let x = c.taken-item.result in
+    let low = subst (λ xs. i < length xs) c.deref-taken-items.ensures.value c.loop-taken-test.true in
+    let here = subst (λ xs. x ≡ get_or xs i x) c.deref-taken-items.ensures.value c.taken-item.is in
+    before_never 0 steps c.args.script.now.well_formed.moments_in_order i x low here
 
 pub put_step-requires-clause-runs : goal.put_step-requires-clause-runs
 put_step-requires-clause-runs g c =

@@ -7,5 +7,5 @@ pub returns-clause-takes : goal.returns-clause-takes
 returns-clause-takes c = on_ok _ _ _ c.write_answer.result
     (λ line other texts s r h. taken texts c.args.step
     (steps.Unbind c.args.name) c.unbind_cyclic-answer.result _ s c.unbind_cyclic-answer.new.machine
-    (λ names indexes step t. refl) other line (c.unbind_cyclic-answer.ensures c.args.step s r h))
+    (λ names indexes step t. refl) refl other line (c.unbind_cyclic-answer.ensures c.args.step s r h))
     c.write_answer.ensures.line c.write_answer.ensures.other

@@ -1,4 +1,5 @@
 use Rattle.cyc_replay.proofs.Keeping.{kept, most_kept, room_kept}
+use Rattle.cyc_replay.proofs.Suspensions.{suspended_kept}
 use Rattle.cyc_replay.proofs.system_laws.kept_law.Goals as goal
 
 pub returns-clause-system : goal.returns-clause-system
@@ -9,3 +10,6 @@ returns-clause-most g c = λ call s t did sys. most_kept g.C.Calls call s t did 
 
 pub returns-clause-room : goal.returns-clause-room
 returns-clause-room g c = λ call s t did sys. room_kept g.C.Calls call s t did sys
+
+pub returns-clause-suspended : goal.returns-clause-suspended
+returns-clause-suspended g c = λ call s t did plain. suspended_kept g.C.Calls call s t did plain

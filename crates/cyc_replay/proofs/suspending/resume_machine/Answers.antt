@@ -1,0 +1,23 @@
+use Rattle.std.proofs.Common.{false, refl, subst}
+use Rattle.cyc_script.specs.declared.step.Step.TheVariants as steps
+use Rattle.cyc_system.specs.System.{running_system}
+use Rattle.cyc_system.specs.Calls.{Changes, Resume}
+use Rattle.cyc_cpu.specs.Soft.{raise_tables}
+use Rattle.cyc_replay.proofs.Mosts.{most_kept}
+use Rattle.cyc_replay.proofs.Suspended.{answers_marked}
+use Rattle.cyc_replay.proofs.suspending.resume_machine.Goals as goal
+
+pub returns : goal.returns
+returns c step s r h =
+    let m = c.args.machine.now in let t = c.resume-answer.new.self in let answer = c.resume-answer.result in
+    let did = c.resume-answer.ensures in
+    let call = Resume answer in let before = running_system m.tally m.system in let after = running_system m.tally t in
+    answers_marked steps.Resume false s m t h (λ texts indexes k. refl)
+    (c.kept_law.ensures.system call before after (did, refl) h.system c.law.ensures)
+    (most_kept m.system.cpus t.cpus (c.kept_law.ensures.most call before after (did, refl) h.system) h.most)
+    (c.kept_law.ensures.room call before after (did, refl) h.system h.room)
+    answer
+    (λ is. c.resume_law.ensures.accepted s m.system t h.system h.shows h.suspended
+    (subst (λ a. Changes raise_tables m.system (Resume a) t) is did))
+    (λ e is. c.resume_law.ensures.refused e s m.system t h.system h.shows h.suspended
+    (subst (λ a. Changes raise_tables m.system (Resume a) t) is did))
