@@ -1,5 +1,5 @@
 -- What is told of a name.
-use Rattle.std.proofs.Common.{◌≡◌, ℕ, ◌-◌, Bool, true, false, cond, List, Option, Some, None, refl, ap, sym, ◌∙◌}
+use Rattle.std.proofs.Common.{◌≡◌, ℕ, ◌-◌, Bool, true, false, cond, List, Option, None, refl, ap, ◌∙◌}
 use Rattle.std.specs.Prelude.{unwrap_or, nat_lt, slice_get, slice_index}
 use Rattle.std.proofs.lemmas.Option.{unwrap_or-slice_get}
 use Rattle.cyc_types.specs.Tally.{TallyView, tally_count, tally_get}

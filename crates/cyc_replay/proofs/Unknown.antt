@@ -1,12 +1,11 @@
 -- Which cyclics are known once removals began, and once they were polled.
-use Rattle.std.proofs.Common.{◌≡◌, ◌≢◌, ℕ, zero, suc, ◌==◌, eq-eqb, eqb-true, Bool, true, false, cond, List, [], ◌∷◌, map, find}
-use Rattle.std.proofs.Common.{Option, Some, None, refl, ap, sym, ◌∙◌, subst}
+use Rattle.std.proofs.Common.{◌≡◌, ◌≢◌, ℕ, zero, suc, ◌==◌, eq-eqb, Bool, true, false, cond, List, [], ◌∷◌, map, find}
+use Rattle.std.proofs.Common.{Option, Some, None, refl, ap, sym, ◌∙◌}
 use Rattle.std.specs.Prelude.{not, is_some}
 use Rattle.std.specs.Option.{option_map}
 use Rattle.std.specs.List.{slice_get}
 use Rattle.cyc_core.specs.Tables.{Tables}
 use Rattle.cyc_places.specs.declared.record.Record.{Record}
-use Rattle.cyc_places.specs.Places.{IsRecord}
 use Rattle.cyc_system.specs.System.{SystemView, has}
 use Rattle.cyc_system.specs.Agreement.{Agrees}
 use Rattle.cyc_system.proofs.Spots.{same_some, none_some}

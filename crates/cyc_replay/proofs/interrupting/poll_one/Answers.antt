@@ -1,6 +1,4 @@
-use Rattle.std.proofs.Common.{map, string_bytes, ap, ◌∙◌}
-use Rattle.cyc_model.specs.Softint.{text_of_id}
-use Rattle.cyc_replay.specs.Machine.{number_of}
+use Rattle.std.proofs.Common.{map, string_bytes}
 use Rattle.cyc_replay.proofs.Taking.{on_ok}
 use Rattle.cyc_replay.proofs.Polled.{answered_none, answered_some}
 use Rattle.cyc_replay.proofs.interrupting.poll_one.Goals as goal

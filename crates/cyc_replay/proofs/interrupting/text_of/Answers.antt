@@ -1,4 +1,4 @@
-use Rattle.std.proofs.Common.{◌≡◌, ◌<◌, Some, refl, map, string_bytes, ap, sym, ◌∙◌, subst}
+use Rattle.std.proofs.Common.{◌<◌, refl, map, string_bytes, ap, sym, ◌∙◌, subst}
 use Rattle.cyc_replay.specs.Machine.{id_at, name_at}
 use Rattle.cyc_replay.proofs.Remembering.{text_named, text_nameless}
 use Rattle.cyc_replay.proofs.Asked.{not_true}

@@ -1,4 +1,4 @@
-use Rattle.std.proofs.Common.{◌≡◌, ◌+◌, ◌++◌, ◌∷◌, [], List, ℕ, ap, ◌∙◌, map, length, string_bytes, subst, arith}
+use Rattle.std.proofs.Common.{List, ℕ, ap, ◌∙◌, map, string_bytes, subst, arith}
 use Rattle.std.proofs.lemmas.Result.{err_from_is_err_and}
 use Rattle.std.specs.Io.KnownBytes.{Appends}
 use Rattle.cyc_text.specs.Puts.{AppendsPrefix}

@@ -1,4 +1,4 @@
-use Rattle.std.proofs.Common.{◌+◌, ◌<◌, List, ℕ, length, subst, arith}
+use Rattle.std.proofs.Common.{◌+◌, List, ℕ, length, subst, arith}
 use Rattle.std.specs.Prelude.{Result, Ok, Err, OnOk}
 use Rattle.std.proofs.lemmas.Result.{err_from_is_err_and}
 use Rattle.cyc_text.specs.Puts.{Puts}
