@@ -129,11 +129,51 @@ expires now t reached last sound = elim (cases_lt (t.moment + t.interval + late)
       | inr here ↦ omega (arith, here)
     ]
 
+no_cons : (x : Expiration) (xs : List Expiration) → x ∷ xs ≡ [] → ⊥
+no_cons x xs e = let n = ap length e in omega (arith, n)
+
+first_or : Expiration → List Expiration → Expiration
+first_or d [] = d
+first_or d (p ∷ ps) = p
+
+no_sooner : (now : ℕ) (t u : Timer) → now < t.moment → is_before (next_of t) (next_of u) ≡ true → now < u.moment
+no_sooner now t u later h = grind (arith, nat_tests)
+
+-- where a list begins, its first expiration is due
+due_now : (now : ℕ) (c : Timer) (cs : List Timer) (x : Expiration) (xs : List Expiration) → expirations now (c ∷ cs) ≡ x ∷ xs →
+    (i : ℕ) (t : Timer) → i < length (c ∷ cs) → t ≡ get_or (c ∷ cs) i t → IsLeastAt (c ∷ cs) i → t.moment ≤ now
+due_now now c cs x xs left i t low is first = elim (cases_lt now t.moment) [
+  | inl later ↦ absurd (no_cons x xs (sym left ∙ expirations_none now (c ∷ cs) (all_later later)))
+  | inr here ↦ here
+]
+  where
+    all_later : now < t.moment → AllByRecursion (λ t. now < t.moment) (c ∷ cs)
+    all_later later = recursion_from_All (λ t. now < t.moment) (c ∷ cs)
+        (All-from_get_or (λ t. now < t.moment) (c ∷ cs) t (λ k h.
+        let o = subst (λ x. is_before (next_of x) (next_of (get_or (c ∷ cs) k t)) ≡ true) (sym is) (first k t h) in
+        no_sooner now t (get_or (c ∷ cs) k t) later o))
+
+-- the first expiration is the first of a later fire, too
+pub still_first : (now later : ℕ) (ts : List Timer) (x : Expiration) (xs : List Expiration) → now ≤ later
+    → expirations now ts ≡ x ∷ xs → (ys : List Expiration) × (expirations later ts ≡ x ∷ ys)
+unfolding first_or
+still_first now later [] x xs after left = absurd (no_cons x xs (sym left ∙ expirations_none now [] tt))
+still_first now later (c ∷ cs) x xs after left =
+    let (i, low, first) = least c cs in
+    let t = get_or (c ∷ cs) i c in
+    let is : t ≡ get_or (c ∷ cs) i t = get_or_default (c ∷ cs) i c t low in
+    let reached : t.moment ≤ now = due_now now c cs x xs left i t low is first in
+    let (tail, head) = expirations_first now (c ∷ cs) i t low is first reached in
+    let (ys, is_first) = expirations_first later (c ∷ cs) i t low is first (omega (arith, reached, after)) in
+    let same : next_of t ≡ x = ap (first_or x) (sym head ∙ left) in
+    (ys, is_first ∙ ap (λ p. p ∷ ys) same)
+
 -- where a fire stands, it makes what is left of its list
 pub goes_through : (now : ℕ) (xs rest made done : List Expiration) (ts base cur : List Timer) → now < never → HasDistinctIds ts
     → HasDistinctIds base → All IsSound cur →
     Firing now made ts cur → Firing now done base cur → expirations now cur ≡ xs ++ rest →
     (end : List Timer) × Firing now (made ++ xs) ts end × Firing now (done ++ xs) base end × All IsSound end
+unfolding first_or
 goes_through now [] rest made done ts base cur last apart other sound f g left = (
   cur,
   subst (λ m. Firing now m ts cur) (sym (append-nil made)) f,
@@ -142,15 +182,12 @@ goes_through now [] rest made done ts base cur last apart other sound f g left =
   sound,
 )
 goes_through now (x ∷ xs) rest made done ts base [] last apart other sound f g left =
-    absurd (no_cons (sym left ∙ expirations_none now [] tt))
-  where
-    no_cons : x ∷ xs ++ rest ≡ [] → ⊥
-    no_cons e = let n = ap length e in omega (arith, n)
+    absurd (no_cons x (xs ++ rest) (sym left ∙ expirations_none now [] tt))
 goes_through now (x ∷ xs) rest made done ts base (c ∷ cs) last apart other sound f g left =
     let (i, low, first) = least c cs in
     let t = get_or (c ∷ cs) i c in
     let is : t ≡ get_or (c ∷ cs) i t = get_or_default (c ∷ cs) i c t low in
-    let reached : t.moment ≤ now = due_now i t low is first in
+    let reached : t.moment ≤ now = due_now now c cs x (xs ++ rest) left i t low is first in
     let (u, e, few) = expires now t reached last (sound i c low) in
     let (tail, head) = expirations_first now (c ∷ cs) i t low is first reached in
     let same : next_of t ≡ x = ap (first_or x) (sym head ∙ left) in
@@ -177,27 +214,6 @@ goes_through now (x ∷ xs) rest made done ts base (c ∷ cs) last apart other s
       z,
     )
   where
-    first_or : Expiration → List Expiration → Expiration
-    first_or d [] = d
-    first_or d (p ∷ ps) = p
-
     rest_of : List Expiration → List Expiration
     rest_of [] = []
     rest_of (p ∷ ps) = ps
-
-    no_sooner : (now : ℕ) (t u : Timer) → now < t.moment → is_before (next_of t) (next_of u) ≡ true → now < u.moment
-    no_sooner now t u later h = grind (arith, nat_tests)
-
-    all_later : (i : ℕ) (t : Timer) → i < length (c ∷ cs) → t ≡ get_or (c ∷ cs) i t → IsLeastAt (c ∷ cs) i → now < t.moment
-        → AllByRecursion (λ t. now < t.moment) (c ∷ cs)
-    all_later i t low is first later = recursion_from_All (λ t. now < t.moment) (c ∷ cs)
-        (All-from_get_or (λ t. now < t.moment) (c ∷ cs) t (λ k h.
-        let o = subst (λ x. is_before (next_of x) (next_of (get_or (c ∷ cs) k t)) ≡ true) (sym is) (first k t h) in
-        no_sooner now t (get_or (c ∷ cs) k t) later o))
-
-    due_now : (i : ℕ) (t : Timer) → i < length (c ∷ cs) → t ≡ get_or (c ∷ cs) i t → IsLeastAt (c ∷ cs) i → t.moment ≤ now
-    due_now i t low is first = elim (cases_lt now t.moment) [
-      | inl later ↦ absurd (let n = ap length (sym (expirations_none now (c ∷ cs) (all_later i t low is first later)) ∙ left) in
-          omega (arith, n))
-      | inr here ↦ here
-    ]

@@ -1,5 +1,5 @@
 -- The parts of a fire, one after another, are one fire.
-use Rattle.std.proofs.Common.{◌≡◌, ◌≢◌, ℕ, suc, ◌+◌, ◌==◌, ◌<◌, Bool, true, false, cond, inl, inr, Option, Some, None, Result, Ok}
+use Rattle.std.proofs.Common.{◌≡◌, ℕ, suc, ◌+◌, ◌==◌, ◌<◌, Bool, true, false, cond, inl, inr, Option, Some, None, Result, Ok}
 use Rattle.std.proofs.Common.{Err, List, [], ◌∷◌, ◌++◌, All, length, map, sum_by, refl, sym, ap, ◌∙◌, subst, arith, append_assoc}
 use Rattle.std.proofs.Common.{append-nil, length-append, filter}
 use Rattle.std.specs.List.{FoldsTo, cons_option}
@@ -25,15 +25,18 @@ use Rattle.cyc_timers.specs.declared.fire.Fired.{Fired}
 use Rattle.cyc_timers.specs.declared.fire.FireRefused.{FireRefused}
 use Rattle.cyc_timers.proofs.Making.{same_id}
 use Rattle.cyc_cpu.specs.Cpu.{CpuView, SameCpu, sides}
-use Rattle.cyc_border.specs.Border.{grant, stopped_at}
+use Rattle.cyc_cpu.specs.Calls.{MayFire, WhyNoFire}
+use Rattle.cyc_border.specs.Border.{grant, stopped_at, handed_after}
 use Rattle.cyc_border.specs.Granted.{granted_called, granted_count, GrantedRefuses}
-use Rattle.cyc_border.specs.Parts.{Paused, paused, MakesPart, IsPaused, IsOneFire, IsHandedOut, expired_of, lost_of, handed_out}
+use Rattle.cyc_border.specs.Parts.{Paused, paused, PartCall, Part, Suspends, Resumes, MakesPart, IsRest, IsPaused, answers}
+use Rattle.cyc_border.specs.Parts.{asleep, awake, IsOneFire, IsHandedOut, expired_of, lost_of, handed_out}
 use Rattle.cyc_border.specs.Parts.{notes, noted}
 use Rattle.cyc_border.specs.declared.granted.Granted.{Granted}
 use Rattle.cyc_border.specs.declared.granted.Granted.TheVariants.{One}
 use Rattle.cyc_border.proofs.HandingOut.{handed_out as handed_is}
 use Rattle.cyc_border.proofs.Expiring.{goes_through}
 use Rattle.cyc_border.proofs.Composing.{makes_more}
+use Rattle.cyc_border.proofs.Resting.{marked, rest_keeps}
 
 -- the handler that the caller has called, if any
 abbrev pub pending : Option ℕ → List ℕ
@@ -60,12 +63,13 @@ one_at : (ts : List Timer) (p : Expiration) (rest : List Expiration) → is_at H
 one_at ts p rest high = ap (λ b. map (λ (q : Expiration). q.id)
     (cond b (p ∷ filter (is_at High ts) rest) (filter (is_at High ts) rest))) high
 
-first_is : (ts : List Timer) (p q : Expiration) (xs ys more : List Expiration) → p ∷ ys ≡ (q ∷ xs) ++ more → p ≡ q
+pub first_is : (ts : List Timer) (p q : Expiration) (xs ys more : List Expiration) → p ∷ ys ≡ (q ∷ xs) ++ more → p ≡ q
 unfolding head_or
 first_is ts p q xs ys more e = ap (head_or p) e
 
 -- where it makes anything, it calls just the handler that was handed out
-calls_pending : (now : ℕ) (high : Option ℕ) (ts : List Timer) (q : Expiration) (xs more : List Expiration) → ComesNext now high ts
+pub calls_pending : (now : ℕ) (high : Option ℕ) (ts : List Timer) (q : Expiration) (xs more : List Expiration)
+    → ComesNext now high ts
     → expirations now ts ≡ (q ∷ xs) ++ more →
     IsHandedOut high (ids_at High ts (q ∷ xs)) → ids_at High ts (q ∷ xs) ≡ pending high
 calls_pending now None ts q xs more next listed (inl none) = none
@@ -89,20 +93,18 @@ writes level ids (id ∷ more) = (
       (append_assoc ids (id ∷ []) more) (writes level (ids ++ id ∷ []) more),
 )
 
-same_cpu : {R : Type 0} (v : CpuView R) → SameCpu v v
-same_cpu v = record { removal = refl; size = refl; room = refl; most = refl }
-
-cpu_then : {R : Type 0} (u v w : CpuView R) → SameCpu u v → SameCpu v w → SameCpu u w
+-- all but the mark is the same as of the first, and the mark as of the second
+cpu_then : {R : Type 0} (u v w : CpuView R) → SameCpu (marked v.suspended u) v → SameCpu v w → SameCpu (marked w.suspended u) w
 cpu_then u v w a b = record {
   removal = b.removal ∙ a.removal;
   size = b.size ∙ a.size;
   room = b.room ∙ a.room;
-  most = b.most
-      ∙ a.most;
+  most = b.most ∙ a.most;
+  suspended = refl;
 }
 
 -- the cyclic that is found has the id
-found_id : (id : ℕ) (ts : List Timer) (t : Timer) → timer_of id ts ≡ Some t → t.id ≡ id
+pub found_id : (id : ℕ) (ts : List Timer) (t : Timer) → timer_of id ts ≡ Some t → t.id ≡ id
 found_id id [] t e = absurd cc
 found_id id (x ∷ xs) t e = here (x.id == id) refl e (found_id id xs t)
   where
@@ -120,12 +122,17 @@ distinct_after now made ts cur is distinct i j d low_i low_j e =
     (sym (same_id now made ts cur i d is low_i) ∙ e ∙ same_id now made ts cur j d is low_j)
 
 -- what its refusal says of the one in front of which a part stopped
-refused_is : (e : FireRefused) (id : ℕ) → stopped_at (Err e) ≡ Some id → e.why ≡ why.HandlerRefused id
+pub refused_is : (e : FireRefused) (id : ℕ) → stopped_at (Err e) ≡ Some id → e.why ≡ why.HandlerRefused id
 refused_is e id is = by_why e.why is
   where
     by_why : (w : Refusal) → stopped_at (Err (record e { why = w })) ≡ Some id → w ≡ why.HandlerRefused id
     by_why (why.HandlerRefused j) is = ap (λ (o : Option ℕ). why.HandlerRefused (elim o [ None ↦ j | Some z ↦ z ])) is
     by_why other is = absurd cc
+
+-- and what is handed out behind it
+pub handed_is_stop : (high : Option ℕ) (e : FireRefused) (id : ℕ) → stopped_at (Err e) ≡ Some id
+    → handed_after high (Err e) ≡ Some id
+handed_is_stop high e id is = ap (λ (w : Refusal). handed_after high (Err (record e { why = w }))) (refused_is e id is)
 
 module _ {R : Type 0} (firing : Raise R) (now : ℕ) (soon : now < never) where
   -- a part, as handlers that write down would have it
@@ -156,7 +163,7 @@ module _ {R : Type 0} (firing : Raise R) (now : ℕ) (soon : now < never) where
   record Stands (v : CpuView R) (made : List Expiration) (ids : List ℕ) (lost : ℕ) (s : Paused R) : Type 0 where
     pub fires : Firing now made (timers v.cyclics) (timers s.cpu.cyclics)
     pub sound : All IsSound (timers s.cpu.cyclics)
-    pub same : SameCpu v s.cpu
+    pub same : SameCpu (marked s.cpu.suspended v) s.cpu
     pub makes : Makes (at_level notes High) noted firing now made v.cyclics s.cpu.cyclics (sides [] v) (sides ids s.cpu) lost
     pub next : ComesNext now s.high (timers s.cpu.cyclics)
 
@@ -164,7 +171,7 @@ module _ {R : Type 0} (firing : Raise R) (now : ℕ) (soon : now < never) where
   at_start v sound = record {
     fires = fire_start now (timers v.cyclics);
     sound = sound;
-    same = same_cpu v;
+    same = record { removal = refl; size = refl; room = refl; most = refl; suspended = refl };
     makes = record {
       acts = record {
         lock_way = [];
@@ -246,54 +253,68 @@ module _ {R : Type 0} (firing : Raise R) (now : ℕ) (soon : now < never) where
       joined None = refl
       joined (Some x) = refl
 
+  at_once : (v : CpuView R) → MayFire now (awake v)
+  at_once v = record { awake = refl; early = λ e. omega (arith, e, soon) }
+
+  -- where it is not suspended at the end, it is the same as where it was not suspended at the beginning
+  wakes : (v w : CpuView R) → SameCpu (marked w.suspended v) w → w.suspended ≡ false → SameCpu (awake v) w
+  wakes v w same is = record {
+    removal = same.removal;
+    size = same.size;
+    room = same.room;
+    most = same.most;
+    suspended = is;
+  }
+
   -- what the whole comes to
   abbrev Whole : CpuView R → CpuView R → ℕ → Fired → List ℕ → ℕ → Type 0
-  Whole v w expired last ids lost = (now ≢ never) × SameCpu v w × (expired ≡ length (expirations now (timers v.cyclics)))
-      × (last.next ≡ earliest (timers w.cyclics))
+  Whole v w expired last ids lost = MayFire now (awake v) × SameCpu (awake v) w
+      × (expired ≡ length (expirations now (timers v.cyclics))) × (last.next ≡ earliest (timers w.cyclics))
       × Makes (at_level notes High) noted firing now (expirations now (timers v.cyclics)) v.cyclics w.cyclics (sides [] v)
       (sides ids w) lost
 
-  through : (v w : CpuView R) (parts : List (Result Fired FireRefused)) (last : Fired) (made : List Expiration) (ids : List ℕ)
-      (lost : ℕ) (s : Paused R) →
-      HasDistinctIds (timers v.cyclics) → Stands v made ids lost s → All IsPaused parts
-      → FoldsTo (MakesPart firing now) s (parts ++ Ok last ∷ []) (paused None w) →
-      Whole v w (length made + (sum_by expired_of parts + last.expired)) last (ids ++ (pending s.high ++ handed_out parts))
-      (lost + (sum_by lost_of parts + last.lost))
-  through v w [] last made ids lost s distinct at stops (m, fires, end) =
-      let (left, (later, same, expired, next, makes), stopped) = subst (λ x. MakesPart firing now s (Ok last) x) end fires in
-      let ts = timers s.cpu.cyclics in
-      let xs = expirations now ts in
-      let calls = calls_all s.high ts xs at.next refl (handed_is s.high (ids_at High ts xs) left makes.acts.called_in_order) in
-      let (at', none) = goes_on v made xs [] ids (ids ++ pending s.high) lost last.lost s (paused None w) distinct at
-      (sym (append-nil xs)) same
-      (as_noted s.high xs ids s.cpu w left last.lost calls makes) (λ e. tt) in
-      let whole : expirations now (timers v.cyclics) ≡ made ++ xs = at'.fires.whole ∙ ap (λ ys. (made ++ xs) ++ ys) none
-      ∙ append-nil (made ++ xs) in
-      let long = ap length whole in
-      let both = length-append made xs in
-      let ids_are : ids ++ pending s.high ≡ ids ++ (pending s.high ++ handed_out []) =
-      ap (λ ys. ids ++ ys) (sym (append-nil (pending s.high))) in
-      let lost_are : lost + last.lost ≡ lost + (sum_by lost_of [] + last.lost) = omega arith in (
-        later,
-        at'.same,
-        omega (arith, long, both, expired),
-        next,
-        subst (λ n. Makes (at_level notes High) noted firing now (expirations now (timers v.cyclics)) v.cyclics w.cyclics
-            (sides [] v) (sides (ids ++ (pending s.high ++ handed_out [])) w) n) lost_are
-            (subst (λ ns. Makes (at_level notes High) noted firing now (expirations now (timers v.cyclics)) v.cyclics w.cyclics
-            (sides [] v) (sides ns w) (lost + last.lost)) ids_are
-            (subst (λ ys. Makes (at_level notes High) noted firing now ys v.cyclics w.cyclics (sides [] v)
-            (sides (ids ++ pending s.high) w) (lost + last.lost)) (sym whole) at'.makes)),
+  -- after a call that makes nothing it stands where it stood
+  rests : (call : PartCall) (v : CpuView R) (made : List Expiration) (ids : List ℕ) (lost : ℕ) (s t : Paused R)
+      → Stands v made ids lost s → IsRest call → MakesPart firing s call t → Stands v made ids lost t × (t.high ≡ s.high)
+  rests call v made ids lost s t at is done =
+      let (high, cpu) = rest_keeps firing call s t is done in
+      let same : paused s.high (marked t.cpu.suspended s.cpu) ≡ t = λ i. paused (sym high i) (sym cpu i) in (
+        subst (λ x. Stands v made ids lost x) same (record {
+          fires = at.fires;
+          sound = at.sound;
+          same = record {
+            removal = at.same.removal;
+            size = at.same.size;
+            room = at.same.room;
+            most = at.same.most;
+            suspended = refl;
+          };
+          makes = at.makes;
+          next = at.next;
+        }),
+        high,
       )
-  through v w (Ok r ∷ parts) last made ids lost s distinct at stops way =
-      absurd (let (id, e) = stops 0 (Ok r) (omega arith) in none_some e)
+
+  -- what the whole comes to, after these answers and a last one
+  abbrev After : CpuView R → CpuView R → List Expiration → List (Result Fired FireRefused) → Fired → List ℕ → Option ℕ → ℕ
+      → Type 0
+  After v w made parts last ids high lost = Whole v w (length made + (sum_by expired_of parts + last.expired)) last
+      (ids ++ (pending high ++ handed_out parts)) (lost + (sum_by lost_of parts + last.lost))
+
+  -- a part that stopped in front of a high cyclic, and what comes after it
+  part : (v w : CpuView R) (answer : Result Fired FireRefused) (parts : List (Result Fired FireRefused)) (last : Fired)
+      (made : List Expiration) (ids : List ℕ) (lost : ℕ) (s m : Paused R) →
+      HasDistinctIds (timers v.cyclics) → Stands v made ids lost s → MakesPart firing s (Part now answer) m
+      → ((made : List Expiration) (ids : List ℕ) (lost : ℕ) → Stands v made ids lost m
+      → After v w made parts last ids m.high lost)
+      → (id : ℕ) → stopped_at answer ≡ Some id → After v w made (answer ∷ parts) last ids s.high lost
+  part v w (Ok r) parts last made ids lost s m distinct at done goes_on_with id paused_at = absurd (none_some paused_at)
     where
       none_some : {A : Type 0} {x : A} → None ≡ Some x → ⊥
       none_some e = cc
-  through v w (Err e ∷ parts) last made ids lost s distinct at stops (m, (left, inl (never_is, is, kept), stopped), rest) =
-      absurd (let z = never_is in omega (arith, z, soon))
-  through v w (Err e ∷ parts) last made ids lost s distinct at stops (m, (left, inr (later, same, st), stopped), rest) =
-      let (id, paused_at) = stops 0 (Err e) (omega arith) in
+  part v w (Err e) parts last made ids lost s m distinct at (left, inl (none, is, kept), stopped) goes_on_with id paused_at =
+      absurd (subst (λ x. WhyNoFire now s.cpu x) (refused_is e id paused_at) none)
+  part v w (Err e) parts last made ids lost s m distinct at (left, inr (may, same, st), stopped) goes_on_with id paused_at =
       let ts = timers s.cpu.cyclics in
       let (t, found, why_is) = st.stops in
       let (named, few, high, refuses) = subst (λ w. Stops GrantedRefuses s.cpu.most st.at t w) (refused_is e id paused_at) why_is
@@ -301,20 +322,19 @@ module _ {R : Type 0} (firing : Raise R) (now : ℕ) (soon : now < never) where
       let last_is : st.last.id ≡ id = sym (found_id st.last.id (timers m.cpu.cyclics) t found) ∙ sym named in
       let calls = calls_front s.high ts st.made st.last st.rest st.at at.next st.listed st.makes.acts.called_in_order
       (subst (λ n. GrantedRefuses st.at n) (sym last_is) refuses) in
-      let high_is : m.high ≡ Some id = stopped ∙ paused_at in
+      let high_is : m.high ≡ Some id = stopped ∙ handed_is_stop s.high e id paused_at in
       let is_high : is_at High (timers m.cpu.cyclics) st.last ≡ true = ap (is_of High) found ∙ ap (same_level High) high in
       let (at', left_is) = goes_on v made st.made (st.last ∷ st.rest) ids
       (ids ++ pending s.high) lost e.lost s m distinct at st.listed same
       (as_noted s.high st.made ids s.cpu m.cpu st.at e.lost calls st.makes)
       (λ left. subst (λ h. ComesNext now h (timers m.cpu.cyclics)) (sym high_is) (st.last, st.rest, left, last_is, is_high)) in
-      let (a, b, c, d, makes) = through v w parts last (made ++ st.made) (ids ++ pending s.high) (lost + e.lost) m distinct at'
-      (λ k x h. stops (suc k) x (omega (arith, h))) rest in
+      let (a, b, c, d, makes) = goes_on_with (made ++ st.made) (ids ++ pending s.high) (lost + e.lost) at' in
       let both = length-append made st.made in
       let count = st.expired in
       let ids_are : (ids ++ pending s.high) ++ (pending m.high ++ handed_out parts)
       ≡ ids ++ (pending s.high ++ handed_out (Err e ∷ parts)) =
       append_assoc ids (pending s.high) (pending m.high ++ handed_out parts)
-      ∙ ap (λ ys. ids ++ (pending s.high ++ ys)) (handed_first (Err e) parts m.high stopped) in
+      ∙ ap (λ ys. ids ++ (pending s.high ++ ys)) (handed_first (Err e) parts m.high (high_is ∙ sym paused_at)) in
       let sum_lost : sum_by lost_of (Err e ∷ parts) ≡ e.lost + sum_by lost_of parts = sum_by-cons lost_of (Err e) parts in
       let sum_expired : sum_by expired_of (Err e ∷ parts) ≡ e.expired + sum_by expired_of parts =
       sum_by-cons expired_of (Err e) parts in
@@ -330,12 +350,86 @@ module _ {R : Type 0} (firing : Raise R) (now : ℕ) (soon : now < never) where
             (sides [] v) (sides ns w) ((lost + e.lost) + (sum_by lost_of parts + last.lost))) ids_are makes),
       )
 
-  pub whole : (parts : List (Result Fired FireRefused)) (last : Fired) (v w : CpuView R) → HasDistinctIds (timers v.cyclics)
-      → All IsSound (timers v.cyclics) → All IsPaused parts →
-      FoldsTo (MakesPart firing now) (paused None v) (parts ++ Ok last ∷ []) (paused None w)
-      → IsOneFire firing now parts last v w
-  whole parts last v w distinct sound stops way =
-      let (a, b, c, d, makes) = through v w parts last [] [] 0 (paused None v) distinct (at_start v sound) stops way in
+  -- a fire that was refused counts for nothing
+  counts_none : (v w : CpuView R) (made : List Expiration) (parts : List (Result Fired FireRefused)) (last : Fired) (ids : List ℕ)
+      (high : Option ℕ) (lost : ℕ) → After v w made parts last ids high lost → After v w made (asleep ∷ parts) last ids high lost
+  counts_none v w made parts last ids high lost then =
+      let a = sum_by-cons expired_of asleep parts in
+      let b = sum_by-cons lost_of asleep parts in
+      let x : sum_by expired_of (asleep ∷ parts) ≡ sum_by expired_of parts = omega (arith, a) in
+      let y : sum_by lost_of (asleep ∷ parts) ≡ sum_by lost_of parts = omega (arith, b) in
+      subst (λ n. Whole v w (length made + (n + last.expired)) last (ids ++ (pending high ++ handed_out parts))
+      (lost + (sum_by lost_of (asleep ∷ parts) + last.lost))) (sym x)
+      (subst (λ n. Whole v w (length made + (sum_by expired_of parts + last.expired)) last
+      (ids ++ (pending high ++ handed_out parts)) (lost + (n + last.lost))) (sym y) then)
+
+  -- a part, or a fire that was refused, and what comes after it
+  any_part : (v w : CpuView R) (n : ℕ) (answer : Result Fired FireRefused) (parts : List (Result Fired FireRefused))
+      (last : Fired) (made : List Expiration) (ids : List ℕ) (lost : ℕ) (s m : Paused R) →
+      HasDistinctIds (timers v.cyclics) → Stands v made ids lost s → MakesPart firing s (Part n answer) m
+      → ((made : List Expiration) (ids : List ℕ) (lost : ℕ) → Stands v made ids lost m
+      → After v w made parts last ids m.high lost)
+      → IsPaused now (Part n answer) → After v w made (answer ∷ parts) last ids s.high lost
+  any_part v w n answer parts last made ids lost s m distinct at done goes_on_with (inl (is, id, paused_at)) =
+      part v w answer parts last made ids lost s m distinct at (subst (λ k. MakesPart firing s (Part k answer) m) is done)
+      goes_on_with id paused_at
+  any_part v w n answer parts last made ids lost s m distinct at done goes_on_with (inr is) =
+      let (at', high) = rests (Part n answer) v made ids lost s m at is done in
+      subst (λ a. After v w made (a ∷ parts) last ids s.high lost) (sym is)
+      (counts_none v w made parts last ids s.high lost
+      (subst (λ h. After v w made parts last ids h lost) high (goes_on_with made ids lost at')))
+
+  through : (v w : CpuView R) (calls : List PartCall) (last : Fired) (made : List Expiration) (ids : List ℕ)
+      (lost : ℕ) (s : Paused R) →
+      HasDistinctIds (timers v.cyclics) → Stands v made ids lost s → All (IsPaused now) calls
+      → FoldsTo (MakesPart firing) s (calls ++ Part now (Ok last) ∷ []) (paused None w) →
+      After v w made (answers calls) last ids s.high lost
+  through v w [] last made ids lost s distinct at stops (m, fires, end) =
+      let (left, (may, same, expired, next, makes), stopped) = subst (λ x. MakesPart firing s (Part now (Ok last)) x) end fires in
+      let ts = timers s.cpu.cyclics in
+      let xs = expirations now ts in
+      let calls = calls_all s.high ts xs at.next refl (handed_is s.high (ids_at High ts xs) left makes.acts.called_in_order) in
+      let (at', none) = goes_on v made xs [] ids (ids ++ pending s.high) lost last.lost s (paused None w) distinct at
+      (sym (append-nil xs)) same
+      (as_noted s.high xs ids s.cpu w left last.lost calls makes) (λ e. tt) in
+      let whole : expirations now (timers v.cyclics) ≡ made ++ xs = at'.fires.whole ∙ ap (λ ys. (made ++ xs) ++ ys) none
+      ∙ append-nil (made ++ xs) in
+      let long = ap length whole in
+      let both = length-append made xs in
+      let ids_are : ids ++ pending s.high ≡ ids ++ (pending s.high ++ handed_out []) =
+      ap (λ ys. ids ++ ys) (sym (append-nil (pending s.high))) in
+      let lost_are : lost + last.lost ≡ lost + (sum_by lost_of [] + last.lost) = omega arith in (
+        at_once v,
+        wakes v w at'.same (same.suspended ∙ may.awake),
+        omega (arith, long, both, expired),
+        next,
+        subst (λ n. Makes (at_level notes High) noted firing now (expirations now (timers v.cyclics)) v.cyclics w.cyclics
+            (sides [] v) (sides (ids ++ (pending s.high ++ handed_out [])) w) n) lost_are
+            (subst (λ ns. Makes (at_level notes High) noted firing now (expirations now (timers v.cyclics)) v.cyclics w.cyclics
+            (sides [] v) (sides ns w) (lost + last.lost)) ids_are
+            (subst (λ ys. Makes (at_level notes High) noted firing now ys v.cyclics w.cyclics (sides [] v)
+            (sides (ids ++ pending s.high) w) (lost + last.lost)) (sym whole) at'.makes)),
+      )
+  through v w (Suspends ∷ calls) last made ids lost s distinct at stops (m, done, rest) =
+      let (at', high) = rests Suspends v made ids lost s m at tt done in
+      subst (λ h. After v w made (answers calls) last ids h lost) high
+      (through v w calls last made ids lost m distinct at' (λ k x h. stops (suc k) x (omega (arith, h))) rest)
+  through v w (Resumes ∷ calls) last made ids lost s distinct at stops (m, done, rest) =
+      let (at', high) = rests Resumes v made ids lost s m at tt done in
+      subst (λ h. After v w made (answers calls) last ids h lost) high
+      (through v w calls last made ids lost m distinct at' (λ k x h. stops (suc k) x (omega (arith, h))) rest)
+  through v w (Part n answer ∷ calls) last made ids lost s distinct at stops (m, done, rest) =
+      any_part v w n answer (answers calls) last made ids lost s m distinct at done
+      (λ made' ids' lost' at'. through v w calls last made' ids' lost' m distinct at'
+      (λ k x h. stops (suc k) x (omega (arith, h))) rest) (stops 0 (Part n answer) (omega arith))
+
+  pub whole : (calls : List PartCall) (last : Fired) (v w : CpuView R) → HasDistinctIds (timers v.cyclics)
+      → All IsSound (timers v.cyclics) → All (IsPaused now) calls →
+      FoldsTo (MakesPart firing) (paused None v) (calls ++ Part now (Ok last) ∷ []) (paused None w)
+      → IsOneFire firing now (answers calls) last (awake v) w
+  whole calls last v w distinct sound stops way =
+      let (a, b, c, d, makes) = through v w calls last [] [] 0 (paused None v) distinct (at_start v sound) stops way in
+      let parts = answers calls in
       let n : 0 + (sum_by lost_of parts + last.lost) ≡ sum_by lost_of parts + last.lost = omega arith in (
         a,
         b,

@@ -83,6 +83,17 @@ stopped_at (Err e) = named e.why where
   named (why.HandlerRefused id) = Some id
   named other = None
 
+-- The high cyclic that is handed out behind a fire: the one in front of which it stopped. One that was refused at once, since the
+-- CPU is suspended or the moment is never, leaves the one that was handed out before.
+abbrev pub handed_after : Option ℕ → Result Fired FireRefused → Option ℕ
+handed_after high (Ok r) = None
+handed_after high (Err e) = by_reason e.why where
+  by_reason : Refusal → Option ℕ
+  by_reason (why.HandlerRefused id) = Some id
+  by_reason why.Suspended = high
+  by_reason why.BadNow = high
+  by_reason other = None
+
 -- the calls of a CPU over any firing ends
 module _ {R : Type 0} (firing : Raise R) where
   -- `cyclic_reprogram`: a negative moment is refused, and no cyclic has a number that is no id
@@ -115,12 +126,12 @@ module _ {R : Type 0} (firing : Raise R) where
   Adds n answer v w = ((e : Denied) × WhyNotAsked n.id n.level n.start n.interval n.now e × Denies e answer v w)
       ⊎ ((a : Asked) × IsAsked n.id n.level n.start n.interval n.now a × AddsAsked a answer v w)
 
-  -- One part of a fire: the handler in front of which the last part stopped has been called, and its call is granted. The fire
-  -- goes up to the next high expiration.
+  -- One part of a fire: the handler of the one that is handed out has been called, and its call is granted. The fire goes up to
+  -- the next high expiration, which is then the one that is handed out.
   abbrev pub Fires : ℕ → Result Fired FireRefused → Option ℕ → CpuView R → Option ℕ → CpuView R → Type 0
   Fires now answer high v high' w = (left : Granted)
       × Does granted_calls firing no_interrupts (running (grant high) v) (Fire now answer) (running left w)
-      × (high' ≡ stopped_at answer)
+      × (high' ≡ handed_after high answer)
 
 -- the same of a CPU on one thread, of which nothing else changes
 abbrev pub FiresCpu : ℕ → Result Fired FireRefused → Cpu → Cpu → Type 0

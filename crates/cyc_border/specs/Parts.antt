@@ -1,21 +1,23 @@
 -- What a fire that is made in parts has called: only what was handed out.
-use Rattle.std.specs.Prelude.{◌≡◌, ℕ, ◌+◌, ◌⊎◌, List, [], ◌∷◌, ◌++◌, length, sum_by, Option, Some, Result, Ok, Err}
+use Rattle.std.specs.Prelude.{◌≡◌, ℕ, ◌+◌, ◌⊎◌, false, List, [], ◌∷◌, ◌++◌, length, sum_by, Option, Some, Result, Ok, Err}
 use Rattle.std.specs.List.{filter_map}
 use Rattle.cyc_types.specs.Counting.{times}
 use Rattle.cyc_types.specs.declared.Calls.{Ghosts as Calls}
 use Rattle.cyc_types.specs.declared.Raise.{Ghosts as Raise}
 use Rattle.cyc_types.specs.declared.level.Level.{Level}
 use Rattle.cyc_types.specs.declared.level.Level.TheVariants.{High}
+use Rattle.cyc_types.specs.declared.refusal.Refusal.TheVariants as why
 use Rattle.cyc_types.specs.Expirations.{Expiration, expirations}
+use Rattle.cyc_types.specs.Timers.{Timer}
 use Rattle.cyc_timers.specs.Rows.{timers}
 use Rattle.cyc_timers.specs.Acts.{ids_at}
 use Rattle.cyc_timers.specs.declared.fire.Fired.{Fired}
 use Rattle.cyc_timers.specs.declared.fire.FireRefused.{FireRefused}
 use Rattle.cyc_cpu.specs.Cpu.{CpuView, running}
-use Rattle.cyc_cpu.specs.Calls.{Does, Fire, no_interrupts}
+use Rattle.cyc_cpu.specs.Calls.{Does, Fire, Suspend, Resume, Changes, no_interrupts}
 use Rattle.cyc_border.specs.Border.{Fires, stopped_at}
 
--- none, or the one in front of which the last part stopped, once
+-- none, or the one that was handed out, once
 abbrev pub IsHandedOut : Option ℕ → List ℕ → Type 0
 IsHandedOut high ids = (ids ≡ []) ⊎ ((id : ℕ) × (high ≡ Some id) × (ids ≡ id ∷ []))
 
@@ -28,23 +30,50 @@ IsPart now (Err e) high v = (made : List Expiration) × (rest : List Expiration)
     × (expirations now (timers v.cyclics) ≡ made ++ rest) × (e.expired ≡ length made)
     × IsHandedOut high (ids_at High (timers v.cyclics) made)
 
--- a CPU, and the high cyclic in front of which its fire stopped
+-- a CPU, and the high cyclic that is handed out
 pub record Paused (R : Type 0) : Type 0 where
   pub cpu : CpuView R
   pub high : Option ℕ
 
--- a fire stopped there
 abbrev pub paused : {R : Type 0} → Option ℕ → CpuView R → Paused R
 paused high cpu = record { cpu = cpu; high = high }
 
--- the next part of a fire at this moment
-abbrev pub MakesPart : {R : Type 0} → Raise R → ℕ
-    → Paused R → Result Fired FireRefused → Paused R → Type 0
-MakesPart firing now s answer t = Fires firing now answer s.high s.cpu t.high t.cpu
+-- a call while a fire is made in parts: a part at a moment with its answer, a suspend, or a resume
+pub data PartCall : Type 0 where
+  Part : ℕ → Result Fired FireRefused → PartCall
+  Suspends : PartCall
+  Resumes : PartCall
 
--- the part stopped in front of a high cyclic
-abbrev pub IsPaused : Result Fired FireRefused → Type 0
-IsPaused answer = (id : ℕ) × (stopped_at answer ≡ Some id)
+abbrev pub MakesPart : {R : Type 0} → Raise R → Paused R → PartCall → Paused R → Type 0
+MakesPart firing s (Part now answer) t = Fires firing now answer s.high s.cpu t.high t.cpu
+MakesPart firing s Suspends t = Changes firing s.cpu Suspend t.cpu × (t.high ≡ s.high)
+MakesPart firing s Resumes t = Changes firing s.cpu Resume t.cpu × (t.high ≡ s.high)
+
+-- what a fire answers while the CPU is suspended
+abbrev pub asleep : Result Fired FireRefused
+asleep = Err (record { why = why.Suspended; expired = 0; lost = 0 })
+
+-- a call that makes nothing
+abbrev pub IsRest : PartCall → Type 0
+IsRest (Part now answer) = answer ≡ asleep
+IsRest Suspends = Unit {0}
+IsRest Resumes = Unit {0}
+
+-- and one that may be a part at this moment, which stopped in front of a high cyclic
+abbrev pub IsPaused : ℕ → PartCall → Type 0
+IsPaused now (Part m answer) = ((m ≡ now) × (id : ℕ) × (stopped_at answer ≡ Some id)) ⊎ IsRest (Part m answer)
+IsPaused now call = IsRest call
+
+-- what the fires among these calls answered
+abbrev pub answers : List PartCall → List (Result Fired FireRefused)
+answers [] = []
+answers (Part now answer ∷ calls) = answer ∷ answers calls
+answers (Suspends ∷ calls) = answers calls
+answers (Resumes ∷ calls) = answers calls
+
+-- the CPU where it is not suspended
+abbrev pub awake : {R : Type 0} → CpuView R → CpuView R
+awake v = record v { suspended = false }
 
 -- the expirations that a part counted
 abbrev pub expired_of : Result Fired FireRefused → ℕ
@@ -84,3 +113,13 @@ abbrev pub IsOneFire : {R : Type 0} → Raise R → ℕ
     → List (Result Fired FireRefused) → Fired → CpuView R → CpuView R → Type 0
 IsOneFire firing now parts last v w = Does noting firing no_interrupts (running [] v) (Fire now (Ok (together parts last)))
     (running (handed_out parts) w)
+
+-- What was handed out is counted: the fire makes the expiration of this id first, and its handler is the only one that is called.
+pub record Counts (now : ℕ) (answer : Result Fired FireRefused) (id : ℕ) (ts : List Timer) : Type 0 where
+  pub first : Expiration
+  pub more : List Expiration
+  pub rest : List Expiration
+  pub named : first.id ≡ id
+  pub listed : expirations now ts ≡ (first ∷ more) ++ rest
+  pub expired : expired_of answer ≡ length (first ∷ more)
+  pub called : ids_at High ts (first ∷ more) ≡ id ∷ []

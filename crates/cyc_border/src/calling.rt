@@ -3,7 +3,7 @@
 ghost use Rattle.std.specs.Prelude.{◌≡◌, Some, None, IfSome, IfNone, IfOk, IfErr};
 ghost use Rattle.cyc_cpu.specs.Soft.{end_at, held_at, HasEmptyLists};
 ghost use Rattle.cyc_border.specs.Border.{IsAsked, WhyNotAsked, AddsAsked, Adds, Fires, FiresCpu, refused_at, Takes, Finishes};
-ghost use Rattle.cyc_border.specs.Border.{add_numbers, grant, stopped_at, call_at, with_call};
+ghost use Rattle.cyc_border.specs.Border.{add_numbers, grant, handed_after, call_at, with_call};
 
 use crate::cpu::Cpu;
 use crate::granted::Granted;
@@ -22,13 +22,14 @@ fn granted(called: Option<CyclicId>) -> Granted
     }
 }
 
-/// The high cyclic in front of which a fire stopped.
-fn stop_of(answer: &Result<Fired, FireRefused>) -> Option<CyclicId>
-    ensures { result ≡ stopped_at answer.now }
+/// The high cyclic that is handed out behind a fire, where `high` was before it.
+fn handed_after(high: Option<CyclicId>, answer: &Result<Fired, FireRefused>) -> Option<CyclicId>
+    ensures { result ≡ handed_after high answer.now }
 {
     match answer {
         Err(refused) => match refused.why {
             Refusal::HandlerRefused(id) => Some(id),
+            Refusal::Suspended | Refusal::BadNow => high,
             _ => None,
         },
         Ok(_) => None,
@@ -103,7 +104,12 @@ pub fn add<R: Raise>(
     }
 }
 
-/// Makes the expirations that are due, up to the next high one. `high` is the one in front of which the last fire stopped.
+/// Makes the expirations that are due, up to the next high one, which is then handed out in `high`: the caller calls its handler,
+/// and the next fire counts that call.
+///
+/// Refuses with Suspended while the CPU is suspended, then with BadNow where `now` is never; both leave what is handed out as it
+/// was. An expiration of a cyclic that has expired as often as it may is refused with CountSpent, and the high one in front of
+/// which it stops with HandlerRefused; those before it were made. Takes no memory.
 pub fn fire<R: Raise>(
     cpu: &mut Hard<R>,
     high: &mut Option<CyclicId>,
@@ -113,7 +119,7 @@ pub fn fire<R: Raise>(
 {
     let mut calls = granted(*high);
     let answer = cpu.fire(now, &mut calls);
-    *high = stop_of(&answer);
+    *high = handed_after(*high, &answer);
     answer
 }
 

@@ -10,7 +10,7 @@ use cyc_types::CyclicId;
 #[derive(Drop)]
 pub struct Cpu {
     pub hard: Hard<LevelCore>,
-    /// The high cyclic in front of which the last fire stopped.
+    /// The high cyclic that is handed out: the last fire stopped in front of it, but for those that were refused at once.
     pub high: Option<CyclicId>,
     /// The cyclic of the lock level whose call was taken and is not finished.
     pub lock: Option<CyclicId>,

@@ -1,6 +1,6 @@
 //! A CPU between threads: its firing side, its soft sides and its books.
 
-ghost use Rattle.std.specs.Prelude.{◌≡◌, None, IfSome, IfOk, IfErr};
+ghost use Rattle.std.specs.Prelude.{◌≡◌, None, false, IfSome, IfOk, IfErr};
 ghost use Rattle.cyc_types.specs.declared.refusal.Refusal.TheVariants.{Memory};
 ghost use Rattle.cyc_border.specs.Pair.{FiresSide, IsNewPair, IsClosedOf, SameRings};
 
@@ -17,7 +17,7 @@ use std::sync::Arc;
 #[derive(Drop)]
 pub struct Firing {
     pub hard: Hard<HeldEnd>,
-    /// The high cyclic in front of which the last fire stopped.
+    /// The high cyclic that is handed out: the last fire stopped in front of it, but for those that were refused at once.
     pub high: Option<CyclicId>,
 }
 
@@ -78,7 +78,7 @@ pub fn opened(
     most: u64,
 ) -> Result<(Firing, SoftSide, SoftSide), Refusal>
     ensures ok { IfOk result (λ r. IsNewPair ceiling r.0.hard.lock r.1 × IsNewPair ceiling r.0.hard.low r.2
-        × (r.0.hard.most ≡ most) × (r.0.high ≡ None)) }
+        × (r.0.hard.most ≡ most) × (r.0.hard.suspended ≡ false) × (r.0.high ≡ None)) }
     ensures err { IfErr result (λ e. e ≡ Memory) }
 {
     let (lock, lock_soft) = sides(alloc, ceiling)?;
@@ -104,7 +104,7 @@ pub fn closed(firing: Firing, lock: SoftSide, low: SoftSide) -> Option<Books>
 }
 
 impl Firing {
-    /// Makes the expirations that are due, up to the next high one.
+    /// Makes the expirations that are due, up to the next high one. Refuses as `calling::fire` does.
     pub fn fire(&mut self, now: Moment) -> Result<Fired, FireRefused>
         ensures { FiresSide now result self.old self.new }
     {

@@ -10,5 +10,6 @@ returns-clause-ok c =
       subst (λ (v : CpuView HeldEnd). IsNewPair c.args.ceiling v.lock c.in_ok-lock.lock_soft) (sym made) c.in_ok-lock.ensures.ok,
       subst (λ (v : CpuView HeldEnd). IsNewPair c.args.ceiling v.low c.in_ok-low.low_soft) (sym made) c.in_ok-low.ensures.ok,
       ap (λ (v : CpuView HeldEnd). v.most) made,
+      ap (λ (v : CpuView HeldEnd). v.suspended) made,
       refl,
     )
