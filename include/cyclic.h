@@ -65,6 +65,7 @@ extern "C" {
 #define CYCLIC_NO_CYCLIC 8u       /* there is no such cyclic, or its removal is open */
 #define CYCLIC_COUNT_SPENT 11u    /* the cyclic has expired as often as it may */
 #define CYCLIC_HANDLER_REFUSED 12u /* the handler of a cyclic is to be called: see cyclic_fire */
+#define CYCLIC_SUSPENDED 25u      /* the CPU is suspended: see cyclic_suspend */
 #define CYCLIC_MISUSED 64u        /* the handle is closed or open where it should not be, an argument is out of its range, or
                                      the call is out of turn */
 #define CYCLIC_TAKEN 65u          /* a cyclic here has this id */
@@ -84,6 +85,7 @@ extern "C" {
     EACH(CYCLIC_NO_CYCLIC, "NoCyclic", "there is no such cyclic, or its removal is open")                                    \
     EACH(CYCLIC_COUNT_SPENT, "CountSpent", "the cyclic has expired as often as it may")                                      \
     EACH(CYCLIC_HANDLER_REFUSED, "HandlerRefused", "the handler of a cyclic is to be called")                                \
+    EACH(CYCLIC_SUSPENDED, "Suspended", "the CPU is suspended")                                                              \
     EACH(CYCLIC_MISUSED, "Misused", "a handle, an argument or the turn of the call is not as it should be")                  \
     EACH(CYCLIC_TAKEN, "Taken", "a cyclic here has this id")
 
@@ -216,13 +218,35 @@ uint32_t cyclic_poll_remove(cyclic_cpu *cpu, cyclic_receipt *receipt);
  * handler, and calls cyclic_fire again with the same `now`, which counts that expiration and goes on. The counts of the
  * parts of a fire add up to those of one fire.
  * The caller owes: after this answer it has called the handler before it fires again, and meanwhile it makes no other call on
- * this CPU.
- * Refuses with CYCLIC_BAD_WHEN where `now` is negative, and `*fired` stays; with CYCLIC_BAD_NOW; and with CYCLIC_COUNT_SPENT
- * at an expiration of a cyclic that has expired as often as it may, `fired->id`: those before it were made and are counted.
+ * this CPU, unless it suspends it: see cyclic_suspend.
+ * Refuses with CYCLIC_BAD_WHEN where `now` is negative, and `*fired` stays; with CYCLIC_SUSPENDED while the CPU is suspended, and then
+ * with CYCLIC_BAD_NOW: both make nothing, and what was handed out stays handed out; and with CYCLIC_COUNT_SPENT at an expiration of a
+ * cyclic that has expired as often as it may, `fired->id`: those before it were made and are counted.
  * Stands in the CPU's thread: in the timer's interrupt where this comes between the other calls on the CPU and never in the middle of
  * one. The handlers of high cyclics stand in the fire.
  */
 uint32_t cyclic_fire(cyclic_cpu *cpu, int64_t now, cyclic_fired *fired);
+
+/*
+ * Suspends the CPU (cyclic_suspend), as before a machine sleeps: until cyclic_resume no fire is made on it, and cyclic_fire answers
+ * CYCLIC_SUSPENDED, with the counts 0. All else goes on: cyclics are added, reprogrammed and removed, calls are taken and finished,
+ * and cyclic_next tells the moment that comes next.
+ * Where a high expiration was handed out (CYCLIC_CALL_HANDLER) and no fire has counted it, it stays handed out: the refused fires
+ * leave it as it was, the first fire that is made after cyclic_resume counts it, and it isn't handed out a second time. So no
+ * expiration is called twice, and none is lost. The caller owes: it has called the handler before that fire, and until then it makes
+ * no cyclic_add, cyclic_reprogram or cyclic_begin_remove on this CPU.
+ * Where the CPU is suspended it changes nothing. Refuses with CYCLIC_MISUSED where the handle is closed. Takes no memory.
+ * Stands in the CPU's thread, also in the handler of a high cyclic.
+ */
+uint32_t cyclic_suspend(cyclic_cpu *cpu);
+
+/*
+ * Resumes the CPU (cyclic_resume): fires are made again. The next one makes all that is due by then, as any fire that comes late: a
+ * cyclic that is more than a second late expires once. Where the CPU is not suspended it changes nothing.
+ * Refuses with CYCLIC_MISUSED where the handle is closed. Takes no memory.
+ * Stands where cyclic_suspend does.
+ */
+uint32_t cyclic_resume(cyclic_cpu *cpu);
 
 /*
  * Takes the cyclic whose handler is to be called next at this soft level, in the order in which they were raised: `*id` is its
@@ -328,8 +352,10 @@ uint32_t cyclic_soft_drop(cyclic_soft *soft);
 /*
  * The calls of the firing side, each as the one above without `firing` in its name. What is said of calls that are outstanding
  * is what the loads of this call have found; the soft sides go on meanwhile.
- * Each stands on the firing side, and none in the handler of a high cyclic, which stands in the fire. cyclic_firing_add takes memory, so it
- * stands outside of interrupts, with the timer's interrupt held off; the others may stand in that interrupt, behind the fire.
+ * While the CPU is suspended the soft sides go on.
+ * Each stands on the firing side, and none but cyclic_firing_suspend and cyclic_firing_resume in the handler of a high cyclic, which
+ * stands in the fire. cyclic_firing_add takes memory, so it stands outside of interrupts, with the timer's interrupt held off; the others
+ * may stand in that interrupt, behind the fire.
  */
 uint32_t cyclic_firing_add(cyclic_firing *firing, uint64_t id, uint32_t level, int64_t start, int64_t interval, int64_t now,
                            uint64_t *busy);
@@ -337,6 +363,8 @@ uint32_t cyclic_firing_reprogram(cyclic_firing *firing, uint64_t id, int64_t mom
 uint32_t cyclic_firing_begin_remove(cyclic_firing *firing, uint64_t id, uint32_t *kept, cyclic_receipt *receipt, uint64_t *busy);
 uint32_t cyclic_firing_poll_remove(cyclic_firing *firing, cyclic_receipt *receipt);
 uint32_t cyclic_firing_fire(cyclic_firing *firing, int64_t now, cyclic_fired *fired);
+uint32_t cyclic_firing_suspend(cyclic_firing *firing);
+uint32_t cyclic_firing_resume(cyclic_firing *firing);
 uint32_t cyclic_firing_pending(cyclic_firing *firing, uint64_t id, uint32_t *pending);
 uint32_t cyclic_firing_totals(cyclic_firing *firing, uint64_t id, cyclic_totals_of *totals);
 uint32_t cyclic_firing_next(cyclic_firing *firing, int64_t *moment);

@@ -55,7 +55,7 @@ if have cc gcc; then
   sed -nE 's/^ *Refusal::([A-Za-z]+)(\(_\))? => ([0-9]+),$/\3 \1/p' crates/cyc_types/src/refusal.rt > "$work/defined"
   sed -nE 's/^version = "(.*)"$/version \1/p' rust/cyclic/Cargo.toml >> "$work/defined"
   printf '64 Misused\n65 Taken\n' >> "$work/defined"
-  if [ "$(grep -c '' "$work/out")" -ne 13 ] || grep -vxFf "$work/defined" "$work/out"; then
+  if [ "$(grep -c '' "$work/out")" -ne 14 ] || grep -vxFf "$work/defined" "$work/out"; then
     echo "embed: a refusal has another name or number in the definition, or the version is another one"
     failed=1
   fi

@@ -58,6 +58,10 @@ fn run() -> Result<(), Refusal> {
     assert_eq!(cpu.fire(35)?.next, 40);
     assert!(cpu.softint(Soft::Low, 8).idle);
     assert_eq!(calls.get(), 3);
+    cpu.suspend();
+    assert_eq!(cpu.fire(45).unwrap_err().why, Refusal::Suspended);
+    cpu.resume();
+    assert_eq!(cpu.fire(45)?.expired, 1);
     assert_eq!(
         format!("{}", cpu.fire(-1).unwrap_err().why),
         "the start or the moment is negative"

@@ -53,6 +53,8 @@ static void a_closed_handle_is_refused(void)
     WANT(busy, 7);
     WANT(cyclic_poll_remove(&cpu, &receipt), CYCLIC_MISUSED);
     WANT(cyclic_fire(&cpu, 1, &fired), CYCLIC_MISUSED);
+    WANT(cyclic_suspend(&cpu), CYCLIC_MISUSED);
+    WANT(cyclic_resume(&cpu), CYCLIC_MISUSED);
     WANT(cyclic_take(&cpu, CYCLIC_LOW, &id), CYCLIC_MISUSED);
     WANT(cyclic_finish(&cpu, CYCLIC_LOW), CYCLIC_MISUSED);
     WANT(cyclic_pending(&cpu, 1, &pending), CYCLIC_MISUSED);
@@ -284,6 +286,121 @@ static void busy_may_be_null(void)
     WANT(cyclic_cpu_close(&cpu), 0);
 }
 
+/* A fire of a suspended CPU, which writes no count and no id. */
+static void asleep(cyclic_cpu *cpu, int64_t now)
+{
+    cyclic_fired written = {7, 7, 7, 7};
+    WANT(cyclic_fire(cpu, now, &written), CYCLIC_SUSPENDED);
+    WANT(written.expired, 0);
+    WANT(written.lost, 0);
+    WANT(written.next, 0);
+    WANT(written.id, 0);
+}
+
+/* A whole fire: the expirations of its parts. The handlers of high cyclics are called in between. */
+static uint64_t fire_whole(cyclic_cpu *cpu, int64_t now, uint64_t *calls)
+{
+    uint64_t expired = 0;
+    uint32_t answer;
+    while ((answer = cyclic_fire(cpu, now, &fired)) == CYCLIC_CALL_HANDLER) {
+        expired += fired.expired;
+        ++*calls;
+    }
+    WANT(answer, 0);
+    return expired + fired.expired;
+}
+
+static void a_suspended_cpu_makes_no_fire(void)
+{
+    cyclic_cpu cpu;
+    uint64_t calls = 0;
+    opened(&cpu, 8, UINT64_MAX);
+    WANT(cyclic_add(&cpu, 1, CYCLIC_HIGH, 10, 10, 0, &busy), 0);
+    WANT(serve(&cpu, CYCLIC_LOW, 1), 0);
+    WANT(serve(&cpu, CYCLIC_LOCK, 1), 0);
+    WANT(cyclic_add(&cpu, 2, CYCLIC_LOW, 10, 10, 0, &busy), 0);
+    WANT(fire_whole(&cpu, 15, &calls), 2);
+    WANT(calls, 1);
+    WANT(cyclic_suspend(&cpu), 0);
+    WANT(cyclic_suspend(&cpu), 0);
+    asleep(&cpu, 35);
+    asleep(&cpu, CYCLIC_NEVER);
+    WANT(cyclic_fire(&cpu, -1, &fired), CYCLIC_BAD_WHEN);
+    WANT(cyclic_totals(&cpu, 1, &totals), 0);
+    WANT(totals.expired, 1);
+
+    /* All else goes on. */
+    WANT(serve(&cpu, CYCLIC_LOW, 8), 1);
+    WANT(serve(&cpu, CYCLIC_LOCK, 8), 0);
+    WANT(cyclic_add(&cpu, 3, CYCLIC_HIGH, 25, 25, 15, &busy), 0);
+    WANT(cyclic_reprogram(&cpu, 3, 27), 0);
+    WANT(cyclic_begin_remove(&cpu, 2, &kept, &receipt, &busy), 0);
+    WANT(receipt.id, 2);
+    WANT(receipt.expired, 1);
+    WANT(cyclic_next(&cpu, &moment), 0);
+    WANT(moment, 20);
+    asleep(&cpu, 35);
+
+    /* At 36 what was missed: 1 at 20, 3 at 27, 1 at 30. */
+    WANT(cyclic_resume(&cpu), 0);
+    WANT(cyclic_resume(&cpu), 0);
+    WANT(fire_whole(&cpu, 36, &calls), 3);
+    WANT(calls, 4);
+    WANT(fired.next, 40);
+    WANT(cyclic_cpu_close(&cpu), 0);
+
+    /* More than a second late it expires once. */
+    calls = 0;
+    opened(&cpu, 8, UINT64_MAX);
+    WANT(cyclic_add(&cpu, 1, CYCLIC_HIGH, 100000000, 100000000, 0, &busy), 0);
+    WANT(cyclic_suspend(&cpu), 0);
+    asleep(&cpu, 1200000001);
+    WANT(cyclic_resume(&cpu), 0);
+    WANT(fire_whole(&cpu, 1200000001, &calls), 1);
+    WANT(calls, 1);
+    WANT(cyclic_cpu_close(&cpu), 0);
+}
+
+static void what_was_handed_out_stays_so(void)
+{
+    cyclic_cpu cpu;
+    opened(&cpu, 8, UINT64_MAX);
+    WANT(cyclic_add(&cpu, 1, CYCLIC_HIGH, 10, 10, 0, &busy), 0);
+    WANT(serve(&cpu, CYCLIC_LOW, 1), 0);
+    WANT(serve(&cpu, CYCLIC_LOCK, 1), 0);
+    WANT(cyclic_add(&cpu, 2, CYCLIC_HIGH, 10, 10, 0, &busy), 0);
+    WANT(cyclic_fire(&cpu, 10, &fired), CYCLIC_CALL_HANDLER);
+    WANT(fired.id, 1);
+    WANT(cyclic_suspend(&cpu), 0);
+    asleep(&cpu, 10);
+    asleep(&cpu, 12);
+    asleep(&cpu, CYCLIC_NEVER);
+    WANT(cyclic_fire(&cpu, -1, &fired), CYCLIC_BAD_WHEN);
+    WANT(cyclic_totals(&cpu, 1, &totals), 0);
+    WANT(totals.expired, 0);
+    WANT(cyclic_next(&cpu, &moment), 0);
+    WANT(moment, 10);
+    WANT(cyclic_resume(&cpu), 0);
+    WANT(cyclic_suspend(&cpu), 0);
+    asleep(&cpu, 12);
+    WANT(cyclic_resume(&cpu), 0);
+
+    /* 1 is counted, and not handed out again. A fire at never leaves what is handed out, too. */
+    WANT(cyclic_fire(&cpu, 13, &fired), CYCLIC_CALL_HANDLER);
+    WANT(fired.id, 2);
+    WANT(fired.expired, 1);
+    WANT(cyclic_fire(&cpu, CYCLIC_NEVER, &fired), CYCLIC_BAD_NOW);
+    WANT(fired.expired, 0);
+    WANT(cyclic_fire(&cpu, 13, &fired), 0);
+    WANT(fired.expired, 1);
+    WANT(fired.next, 20);
+    WANT(cyclic_totals(&cpu, 1, &totals), 0);
+    WANT(totals.expired, 1);
+    WANT(cyclic_totals(&cpu, 2, &totals), 0);
+    WANT(totals.expired, 1);
+    WANT(cyclic_cpu_close(&cpu), 0);
+}
+
 int main(void)
 {
     a_closed_handle_is_refused();
@@ -294,6 +411,8 @@ int main(void)
     a_call_is_taken_and_finished();
     a_removal_waits_for_its_calls();
     busy_may_be_null();
+    a_suspended_cpu_makes_no_fire();
+    what_was_handed_out_stays_so();
     puts("cpu: every answer is as it should be");
     return 0;
 }

@@ -46,6 +46,8 @@ static void every_answer(void)
     WANT(busy, 7);
     WANT(cyclic_firing_poll_remove(&firing, &receipt), CYCLIC_MISUSED);
     WANT(cyclic_firing_fire(&firing, 1, &fired), CYCLIC_MISUSED);
+    WANT(cyclic_firing_suspend(&firing), CYCLIC_MISUSED);
+    WANT(cyclic_firing_resume(&firing), CYCLIC_MISUSED);
     WANT(cyclic_firing_pending(&firing, 1, &pending), CYCLIC_MISUSED);
     WANT(cyclic_firing_totals(&firing, 1, &totals), CYCLIC_MISUSED);
     WANT(cyclic_firing_next(&firing, &moment), CYCLIC_MISUSED);
@@ -162,6 +164,47 @@ static void every_answer(void)
     WANT(cyclic_soft_drop(&low), 0);
 }
 
+/* A suspended firing side makes no fire, and keeps what it handed out; its soft sides go on. */
+static void a_suspended_side(void)
+{
+    cyclic_firing firing = CYCLIC_CLOSED;
+    cyclic_soft lock = CYCLIC_CLOSED, low = CYCLIC_CLOSED;
+    cyclic_fired fired;
+    cyclic_totals_of totals;
+    uint64_t id;
+
+    WANT(cyclic_open(8, UINT64_MAX, &firing, &lock, &low), 0);
+    WANT(cyclic_firing_add(&firing, 1, CYCLIC_LOW, 10, 10, 0, NULL), 0);
+    WANT(cyclic_firing_fire(&firing, 10, &fired), 0);
+    WANT(cyclic_firing_add(&firing, 2, CYCLIC_HIGH, 15, 10, 10, NULL), 0);
+    WANT(cyclic_firing_fire(&firing, 15, &fired), CYCLIC_CALL_HANDLER);
+    WANT(fired.id, 2);
+    WANT(cyclic_firing_suspend(&firing), 0);
+    WANT(cyclic_firing_fire(&firing, 15, &fired), CYCLIC_SUSPENDED);
+    WANT(fired.expired, 0);
+    WANT(fired.id, 0);
+    WANT(cyclic_soft_take(&low, &id), 0);
+    WANT(id, 1);
+    WANT(cyclic_soft_finish(&low), 0);
+    WANT(cyclic_firing_fire(&firing, CYCLIC_NEVER, &fired), CYCLIC_SUSPENDED);
+    WANT(cyclic_firing_totals(&firing, 2, &totals), 0);
+    WANT(totals.expired, 0);
+    WANT(cyclic_firing_resume(&firing), 0);
+
+    /* At 31: 2 at 15, whose call was made, 1 at 20, 2 at 25, 1 at 30. */
+    WANT(cyclic_firing_fire(&firing, 31, &fired), CYCLIC_CALL_HANDLER);
+    WANT(fired.id, 2);
+    WANT(fired.expired, 2);
+    WANT(cyclic_firing_fire(&firing, 31, &fired), 0);
+    WANT(fired.expired, 2);
+    WANT(fired.next, 35);
+    WANT(cyclic_firing_totals(&firing, 2, &totals), 0);
+    WANT(totals.expired, 2);
+    WANT(cyclic_firing_drop(&firing), 0);
+    WANT(cyclic_soft_drop(&lock), 0);
+    WANT(cyclic_soft_drop(&low), 0);
+}
+
 /* A soft side with the calls that its thread makes, and the word that tells it to end. */
 struct drainer {
     cyclic_soft soft;
@@ -248,6 +291,7 @@ static void hand_overs(uint64_t wanted)
 int main(int count, char **words)
 {
     every_answer();
+    a_suspended_side();
     hand_overs(count > 1 ? strtoull(words[1], NULL, 10) : 1000000);
     return 0;
 }

@@ -1,3 +1,4 @@
+pub mod Asleep
 pub mod Values
 pub mod Seals
 pub mod Passing

@@ -14,7 +14,7 @@ use Rattle.cyc_types.specs.Timers.{earliest}
 use Rattle.cyc_timers.specs.Rows.{timers}
 use Rattle.cyc_core.specs.Tables.{Tables}
 use Rattle.cyc_cpu.specs.Cpu.{CpuView}
-use Rattle.cyc_cpu.specs.Calls.{PollRemove, Changes}
+use Rattle.cyc_cpu.specs.Calls.{PollRemove, Suspend, Resume, Changes}
 use Rattle.cyc_cpu.specs.Soft.{end_at, held_at, HasEmptyLists}
 use Rattle.cyc_cpu.specs.declared.removing.Removal.TheVariants.{Done, Kept}
 use Rattle.cyc_border.specs.Border.{AddNumbers, Reprograms, Adds, AsksPending, AsksTotals, BeginsRemoval, Takes, Finishes}
@@ -124,6 +124,13 @@ module _ {R X : Type 0} (firing : Raise R)
   abbrev pub NextOut : ℕ → ℤ → X → X → Type 0
   NextOut r moment v w = (r ≡ 0) × on (λ a b. (moment ≡ pos (earliest (timers a.cyclics))) × (b ≡ a)) v w
 
+  -- a suspend and a resume: each is done, and changes whether the CPU is suspended, and nothing else
+  abbrev pub SuspendsOut : ℕ → X → X → Type 0
+  SuspendsOut r v w = (r ≡ 0) × on (λ a b. Changes firing a Suspend b) v w
+
+  abbrev pub ResumesOut : ℕ → X → X → Type 0
+  ResumesOut r v w = (r ≡ 0) × on (λ a b. Changes firing a Resume b) v w
+
 -- A take: a number that is no soft level is refused; else the id of the call that is next goes out. Where there is one it is in
 -- the hand of its level, and where there is none nothing waits there.
 abbrev pub TakesOut : ℕ → ℕ → ℕ → ℕ → Cpu → Cpu → Type 0
@@ -152,3 +159,7 @@ abbrev pub FiresOut : {X : Type 0} → (ℕ → Result Fired FireRefused → X �
 FiresOut part now r out v w = ((now <ℤ pos 0) × (r ≡ number_of (Refused why.BadWhen)) × (out.new ≡ out.old) × (w ≡ v))
     ⊎ ((m : ℕ) × (pos m ≡ now) × (answer : Result Fired FireRefused) × (r ≡ fire_number answer) × WritesFired answer out.new
     × part m answer v w)
+
+-- what a fire of a suspended CPU answers and writes: no count, and no id
+abbrev pub AnswersSuspended : ℕ → CyclicFired → Type 0
+AnswersSuspended r f = (r ≡ number_of (Refused why.Suspended)) × (f.expired ≡ 0) × (f.lost ≡ 0) × (f.next ≡ pos 0) × (f.id ≡ 0)

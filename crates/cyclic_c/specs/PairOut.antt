@@ -1,5 +1,5 @@
 -- What the exports of a CPU between threads do.
-use Rattle.std.specs.Prelude.{◌≡◌, ◌≢◌, ℕ, ◌<◌, ◌⊎◌, Option, Some, None}
+use Rattle.std.specs.Prelude.{◌≡◌, ◌≢◌, ℕ, ◌<◌, ◌⊎◌, false, Option, Some, None}
 use Rattle.cyc_types.specs.declared.refusal.Refusal.TheVariants as why
 use Rattle.cyc_types.specs.declared.draining.Finished.{Finished}
 use Rattle.cyc_ring.specs.Books.{IsBook, IsFree}
@@ -37,7 +37,8 @@ abbrev pub OpensPair : ℕ → ℕ → ℕ → Handles → Handles → Type 0
 OpensPair ceiling most r g h =
     ((r ≡ 0) × (0 < ceiling) × (0 < most) × AreClosed g
     × (hard : Firing) × (lock : SoftSide) × (low : SoftSide) × (h.firing ≡ Some hard) × (h.lock ≡ Some lock) × (h.low ≡ Some low)
-    × IsNewPair ceiling hard.hard.lock lock × IsNewPair ceiling hard.hard.low low × (hard.hard.most ≡ most) × (hard.high ≡ None))
+    × IsNewPair ceiling hard.hard.lock lock × IsNewPair ceiling hard.hard.low low × (hard.hard.most ≡ most)
+    × (hard.hard.suspended ≡ false) × (hard.high ≡ None))
     ⊎ ((r ≡ number_of Misused)
     × ((ceiling ≡ 0) ⊎ (most ≡ 0) ⊎ (g.firing ≢ None) ⊎ (g.lock ≢ None) ⊎ (g.low ≢ None)) × AreSame g h)
     ⊎ ((r ≡ number_of (Refused why.Memory)) × (0 < ceiling) × (0 < most) × AreClosed g × AreClosed h)

@@ -5,7 +5,7 @@ ghost use Rattle.std.specs.Borrow.{sem};
 ghost use denote.RawPtr.{Testable};
 ghost use Rattle.cyc_border.specs.Border.{Through};
 ghost use Rattle.cyclic_c.specs.Exports.{Opens, Closes, ReprogramsOut, AddsOut, PendingOut, TotalsOut, PollsOut, TakesOut};
-ghost use Rattle.cyclic_c.specs.Exports.{FinishesOut, FiresOut, RemovesOut, NextOut, OnHard};
+ghost use Rattle.cyclic_c.specs.Exports.{FinishesOut, FiresOut, RemovesOut, NextOut, SuspendsOut, ResumesOut, OnHard};
 ghost use Rattle.cyc_border.specs.Border.{FiresCpu, add_numbers};
 ghost use Rattle.cyclic_c.specs.Exports.{written};
 ghost use Rattle.cyclic_c.specs.OutParameters.{number_behind, pointer_of, number_of};
@@ -222,7 +222,7 @@ pub extern "C" fn cyclic_finish(alloc: Global, cpu: &mut CyclicCpu, level: u32) 
 }
 
 /// Makes the expirations that are due, up to the next high one, whose handler the caller is then to call before it goes on with
-/// the same moment.
+/// the same moment. While the CPU is suspended it answers Suspended, and changes nothing (`suspended_fire_law`).
 #[unsafe(no_mangle)]
 pub extern "C" fn cyclic_fire(
     alloc: Global,
@@ -301,5 +301,33 @@ pub extern "C" fn cyclic_next(alloc: Global, cpu: &mut CyclicCpu, moment: &mut i
     let next = open.hard.next();
     cpu.put(open);
     *moment = next.nanoseconds() as i64;
+    0
+}
+
+/// Suspends the CPU: no fire is made until `cyclic_resume`, and all else goes on. Refuses with Misused where it is closed, and
+/// nothing else, also where it is suspended. Takes no memory.
+#[unsafe(no_mangle)]
+pub extern "C" fn cyclic_suspend(alloc: Global, cpu: &mut CyclicCpu) -> u32
+    ensures { Through cpu.old.inner.held cpu.new.inner.held result (SuspendsOut raise_tables OnHard result) }
+{
+    let Some(mut open) = cpu.take(alloc) else {
+        return MISUSED;
+    };
+    open.hard.suspend();
+    cpu.put(open);
+    0
+}
+
+/// Resumes the CPU: fires are made again. Refuses with Misused where it is closed, and nothing else, also where it is not
+/// suspended. Takes no memory.
+#[unsafe(no_mangle)]
+pub extern "C" fn cyclic_resume(alloc: Global, cpu: &mut CyclicCpu) -> u32
+    ensures { Through cpu.old.inner.held cpu.new.inner.held result (ResumesOut raise_tables OnHard result) }
+{
+    let Some(mut open) = cpu.take(alloc) else {
+        return MISUSED;
+    };
+    open.hard.resume();
+    cpu.put(open);
     0
 }

@@ -7,6 +7,7 @@ ghost use Rattle.cyc_border.specs.Border.{Through, add_numbers};
 ghost use Rattle.cyclic_c.specs.Exports.{written};
 ghost use Rattle.cyclic_c.specs.OutParameters.{number_behind, pointer_of, number_of};
 ghost use Rattle.cyclic_c.specs.Exports.{ReprogramsOut, AddsOut, PendingOut, TotalsOut, PollsOut, FiresOut, RemovesOut, NextOut};
+ghost use Rattle.cyclic_c.specs.Exports.{SuspendsOut, ResumesOut};
 ghost use Rattle.cyc_border.specs.Pair.{raise_held, OnSide, FiresSide};
 
 use crate::answers::{
@@ -156,7 +157,7 @@ pub extern "C" fn cyclic_firing_poll_remove(
 }
 
 /// Makes the expirations that are due, up to the next high one, whose handler the caller is then to call before it goes on with
-/// the same moment.
+/// the same moment. While the CPU is suspended it answers Suspended, and changes nothing (`suspended_fire_law`).
 #[unsafe(no_mangle)]
 pub extern "C" fn cyclic_firing_fire(
     alloc: Global,
@@ -234,5 +235,33 @@ pub extern "C" fn cyclic_firing_next(
     let next = open.hard.next();
     firing.put(open);
     *moment = next.nanoseconds() as i64;
+    0
+}
+
+/// Suspends the CPU: no fire is made until `cyclic_firing_resume`, and all else goes on, on the soft sides too. Refuses with
+/// Misused where it is closed, and nothing else, also where it is suspended. Takes no memory.
+#[unsafe(no_mangle)]
+pub extern "C" fn cyclic_firing_suspend(alloc: Global, firing: &mut CyclicFiring) -> u32
+    ensures { Through firing.old.inner.held firing.new.inner.held result (SuspendsOut raise_held OnSide result) }
+{
+    let Some(mut open) = firing.take(alloc) else {
+        return MISUSED;
+    };
+    open.hard.suspend();
+    firing.put(open);
+    0
+}
+
+/// Resumes the CPU: fires are made again. Refuses with Misused where it is closed, and nothing else, also where it is not
+/// suspended. Takes no memory.
+#[unsafe(no_mangle)]
+pub extern "C" fn cyclic_firing_resume(alloc: Global, firing: &mut CyclicFiring) -> u32
+    ensures { Through firing.old.inner.held firing.new.inner.held result (ResumesOut raise_held OnSide result) }
+{
+    let Some(mut open) = firing.take(alloc) else {
+        return MISUSED;
+    };
+    open.hard.resume();
+    firing.put(open);
     0
 }

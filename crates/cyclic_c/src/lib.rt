@@ -20,4 +20,5 @@ pub mod sealed;
 pub mod sealed_books;
 pub mod sealed_firing;
 pub mod sealed_soft;
+pub mod suspending;
 pub mod version;

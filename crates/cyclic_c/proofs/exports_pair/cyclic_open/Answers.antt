@@ -24,6 +24,7 @@ returns c =
       subst (λ (n : ℕ). IsNewPair n c.in-Ok.hard.hard.low c.in-Ok.low_soft) is made.1,
       made.2,
       made.3,
+      made.4,
     )
 
 pub returns-in_default-new : goal.returns-in_default-new
