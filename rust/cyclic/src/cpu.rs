@@ -175,9 +175,9 @@ impl<'h> Cpu<'h> {
     }
 
     /// Makes the expirations that are due at `now`, in the order of their moments and ids; the handlers of high cyclics are
-    /// called as they expire. Refuses BadWhen, BadNow, and CountSpent at an expiration; those before it were made.
+    /// called as they expire. Refuses BadWhen, Suspended, BadNow, and CountSpent at an expiration; those before it were made.
     ///
-    /// Where a high handler panics, its call is counted as made by the next fire.
+    /// Where a high handler panics, its call is counted as made by the next fire that is not refused at once.
     ///
     /// ```
     /// use cyclic::{Cpu, Level};
@@ -196,6 +196,42 @@ impl<'h> Cpu<'h> {
             |cpu, part| unsafe { sys::cyclic_fire(cpu.handle.raw(), now, part) },
             Cpu::call,
         )
+    }
+
+    /// Suspends the CPU: until [`resume`](Cpu::resume) every fire is refused with Suspended, and changes nothing. All else goes on.
+    /// A CPU that is suspended stays so. Refuses nothing, and takes no memory.
+    ///
+    /// ```
+    /// use cyclic::{Cpu, Level, Refusal};
+    ///
+    /// let mut cpu = Cpu::open(100, u64::MAX)?;
+    /// cpu.add(Level::High, 10, 10, 0, || ())?;
+    /// cpu.suspend();
+    /// assert_eq!(cpu.fire(35).unwrap_err().why, Refusal::Suspended);
+    /// cpu.add(Level::High, 20, 20, 0, || ())?;
+    /// assert_eq!(cpu.next(), 10);
+    /// # Ok::<(), Refusal>(())
+    /// ```
+    pub fn suspend(&mut self) {
+        unsafe { sys::cyclic_suspend(self.handle.raw()) };
+    }
+
+    /// Resumes the CPU: the next fire makes all that is due by then, as any fire that comes late. On a CPU that is not suspended it
+    /// changes nothing. Refuses nothing, and takes no memory.
+    ///
+    /// ```
+    /// use cyclic::{Cpu, Level};
+    ///
+    /// let mut cpu = Cpu::open(100, u64::MAX)?;
+    /// cpu.add(Level::High, 10, 10, 0, || ())?;
+    /// cpu.suspend();
+    /// assert!(cpu.fire(35).is_err());
+    /// cpu.resume();
+    /// assert_eq!(cpu.fire(36)?.expired, 3);
+    /// # Ok::<(), cyclic::Refusal>(())
+    /// ```
+    pub fn resume(&mut self) {
+        unsafe { sys::cyclic_resume(self.handle.raw()) };
     }
 
     /// The soft interrupt of one level: at most `budget` handler calls, until no call waits.

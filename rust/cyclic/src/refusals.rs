@@ -42,6 +42,8 @@ pub enum Refusal {
     IdsSpent,
     /// The cyclic has expired as often as it may.
     CountSpent(Id),
+    /// The CPU is suspended: [`Cpu::resume`](crate::Cpu::resume) it before it is fired.
+    Suspended,
     /// From [`Cpu::open`](crate::Cpu::open) and [`open`](crate::open): the ceiling or the greatest count is 0. From
     /// [`close`](crate::close): the three sides are not of one open, or the lock and the low one changed places. No other call
     /// answers it.
@@ -61,6 +63,7 @@ impl fmt::Display for Refusal {
             Refusal::NoCyclic => f.write_str("there is no such cyclic"),
             Refusal::IdsSpent => f.write_str("every id was given"),
             Refusal::CountSpent(id) => write!(f, "cyclic {} has expired as often as it may", id.0),
+            Refusal::Suspended => f.write_str("the CPU is suspended"),
             Refusal::Misused => f.write_str(
                 "the ceiling or the greatest count is 0, or the sides are not of one open",
             ),
@@ -133,6 +136,7 @@ pub(crate) fn done(answer: u32, id: u64) -> Result<(), Refusal> {
         7 => Err(Refusal::Busy(Id(id))),
         8 => Err(Refusal::NoCyclic),
         11 => Err(Refusal::CountSpent(Id(id))),
+        25 => Err(Refusal::Suspended),
         _ => Err(Refusal::Misused),
     }
 }

@@ -259,6 +259,36 @@ impl FiringSide {
         )
     }
 
+    /// As [`Cpu::suspend`](crate::Cpu::suspend). The soft sides go on.
+    ///
+    /// ```
+    /// let (mut firing, _, mut low) = cyclic::open(100, u64::MAX)?;
+    /// firing.add(cyclic::Soft::Low, 10, 10, 0)?;
+    /// firing.fire(25)?;
+    /// firing.suspend();
+    /// assert_eq!(firing.fire(35).unwrap_err().why, cyclic::Refusal::Suspended);
+    /// assert_eq!(low.softint(8, |_| ()).calls, 2);
+    /// # Ok::<(), cyclic::Refusal>(())
+    /// ```
+    pub fn suspend(&mut self) {
+        unsafe { sys::cyclic_firing_suspend(self.raw()) };
+    }
+
+    /// As [`Cpu::resume`](crate::Cpu::resume).
+    ///
+    /// ```
+    /// let (mut firing, _, _) = cyclic::open(100, u64::MAX)?;
+    /// firing.add(cyclic::Soft::Low, 10, 10, 0)?;
+    /// firing.suspend();
+    /// assert!(firing.fire(35).is_err());
+    /// firing.resume();
+    /// assert_eq!(firing.fire(36)?.expired, 3);
+    /// # Ok::<(), cyclic::Refusal>(())
+    /// ```
+    pub fn resume(&mut self) {
+        unsafe { sys::cyclic_firing_resume(self.raw()) };
+    }
+
     /// As [`Cpu::pending`](crate::Cpu::pending): what one load has found.
     ///
     /// ```

@@ -63,6 +63,8 @@ extern "C" {
     ) -> u32;
     pub fn cyclic_poll_remove(cpu: *mut Handle, receipt: &mut Receipt) -> u32;
     pub fn cyclic_fire(cpu: *mut Handle, now: i64, fired: &mut Fired) -> u32;
+    pub fn cyclic_suspend(cpu: *mut Handle) -> u32;
+    pub fn cyclic_resume(cpu: *mut Handle) -> u32;
     pub fn cyclic_take(cpu: *mut Handle, level: u32, id: &mut u64) -> u32;
     pub fn cyclic_finish(cpu: *mut Handle, level: u32) -> u32;
     pub fn cyclic_pending(cpu: *mut Handle, id: u64, pending: &mut u32) -> u32;
@@ -117,6 +119,8 @@ extern "C" {
     ) -> u32;
     pub fn cyclic_firing_poll_remove(firing: *mut Handle, receipt: &mut Receipt) -> u32;
     pub fn cyclic_firing_fire(firing: *mut Handle, now: i64, fired: &mut Fired) -> u32;
+    pub fn cyclic_firing_suspend(firing: *mut Handle) -> u32;
+    pub fn cyclic_firing_resume(firing: *mut Handle) -> u32;
     pub fn cyclic_firing_pending(firing: *mut Handle, id: u64, pending: &mut u32) -> u32;
     pub fn cyclic_firing_totals(firing: *mut Handle, id: u64, totals: &mut Totals) -> u32;
     pub fn cyclic_firing_next(firing: *mut Handle, moment: &mut i64) -> u32;

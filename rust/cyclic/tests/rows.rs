@@ -4,6 +4,7 @@ use cyclic::{
     Cpu, FireRefused, Fired, Id, Level, Ran, Receipt, Refusal, Removal, Soft, Totals, NEVER,
 };
 use std::cell::Cell;
+use std::panic::{catch_unwind, AssertUnwindSafe};
 
 /// A CPU with this ceiling, and counts for handlers.
 fn cpu<'h>(ceiling: u32) -> Cpu<'h> {
@@ -193,6 +194,81 @@ fn a_removal_at_high_level_answers_at_once() {
     };
     assert_eq!(cpu.begin_remove(a), Ok(Removal::Done(receipt)));
     assert_eq!(cpu.begin_remove(a), Err(Refusal::NoCyclic));
+    assert_eq!(calls.get(), 2);
+}
+
+#[track_caller]
+fn refused(cpu: &mut Cpu, now: i64) {
+    let suspended = FireRefused {
+        why: Refusal::Suspended,
+        expired: 0,
+        lost: 0,
+    };
+    assert_eq!(cpu.fire(now), Err(suspended));
+}
+
+#[test]
+fn a_suspended_cpu_makes_no_fire() {
+    let (high, low) = (Cell::new(0), Cell::new(0));
+    let mut cpu = cpu(u32::MAX);
+    let a = cpu.add(Level::High, 10, 10, 0, count(&high)).unwrap();
+    ran(&mut cpu, Soft::Low, 8, 0, true);
+    ran(&mut cpu, Soft::Lock, 8, 0, true);
+    let b = cpu.add(Level::Low, 10, 10, 0, count(&low)).unwrap();
+    fired(&mut cpu, 15, 2, 0);
+    cpu.suspend();
+    cpu.suspend();
+    refused(&mut cpu, 35);
+    refused(&mut cpu, NEVER);
+    assert_eq!(cpu.fire(-1).unwrap_err().why, Refusal::BadWhen);
+    report(&mut cpu, a, 1, 0, 0);
+    // All else goes on.
+    ran(&mut cpu, Soft::Low, 8, 1, true);
+    ran(&mut cpu, Soft::Lock, 8, 0, true);
+    let c = cpu.add(Level::High, 25, 25, 15, count(&high)).unwrap();
+    cpu.reprogram(c, 27).unwrap();
+    assert!(matches!(cpu.begin_remove(b), Ok(Removal::Done(_))));
+    assert_eq!(cpu.next(), 20);
+    refused(&mut cpu, 35);
+    cpu.resume();
+    cpu.resume();
+    fired(&mut cpu, 36, 3, 0);
+    assert_eq!((high.get(), low.get()), (4, 1));
+    assert_eq!(cpu.next(), 40);
+}
+
+#[test]
+fn a_cyclic_that_slept_for_more_than_a_second_expires_once() {
+    let calls = Cell::new(0);
+    let mut cpu = cpu(u32::MAX);
+    cpu.add(Level::High, 100_000_000, 100_000_000, 0, count(&calls))
+        .unwrap();
+    cpu.suspend();
+    refused(&mut cpu, 1_200_000_001);
+    cpu.resume();
+    fired(&mut cpu, 1_200_000_001, 1, 0);
+    assert_eq!(calls.get(), 1);
+}
+
+#[test]
+fn what_was_handed_out_is_counted_after_the_resume() {
+    let calls = Cell::new(0);
+    let mut cpu = cpu(u32::MAX);
+    let count_and_panic = || {
+        calls.set(calls.get() + 1);
+        assert!(calls.get() != 1, "the first call panics");
+    };
+    let a = cpu.add(Level::High, 10, 10, 0, count_and_panic).unwrap();
+    assert!(catch_unwind(AssertUnwindSafe(|| cpu.fire(25))).is_err());
+    report(&mut cpu, a, 0, 0, 0);
+    cpu.suspend();
+    refused(&mut cpu, 25);
+    refused(&mut cpu, 26);
+    report(&mut cpu, a, 0, 0, 0);
+    cpu.resume();
+    // The call at 10 was made, and only the one at 20 is made now.
+    fired(&mut cpu, 27, 2, 0);
+    report(&mut cpu, a, 2, 0, 0);
     assert_eq!(calls.get(), 2);
 }
 

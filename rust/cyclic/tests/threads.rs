@@ -87,6 +87,28 @@ fn the_sums_of_three_threads_are_exact() {
     }
 }
 
+/// While the firing side is suspended the others go on, and what it missed comes after the resume.
+#[test]
+fn the_soft_sides_go_on_while_the_cpu_is_suspended() {
+    let (mut firing, lock, mut low) = open(u32::MAX, u64::MAX).unwrap();
+    let a = firing.add(Soft::Low, 10, 10, 0).unwrap();
+    assert_eq!(firing.fire(25).unwrap().expired, 2);
+    firing.suspend();
+    let served = thread::spawn(move || {
+        let calls = low.softint(8, |_| ()).calls;
+        (low, calls)
+    });
+    let refused = firing.fire(45).unwrap_err();
+    assert_eq!((refused.why, refused.expired), (Refusal::Suspended, 0));
+    let (low, calls) = served.join().unwrap();
+    assert_eq!(calls, 2);
+    firing.resume();
+    assert_eq!(firing.fire(46).unwrap().expired, 2);
+    assert_eq!(firing.pending(a), Some(2));
+    let books = close(firing, lock, low).unwrap();
+    assert_eq!((books[0].expired, books[0].done, books[0].pending), (4, 2, 2));
+}
+
 #[test]
 fn sides_of_two_opens_are_refused() {
     let (first, lock, low) = open(1, 1).unwrap();
