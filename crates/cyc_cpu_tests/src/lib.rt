@@ -26,3 +26,5 @@ mod room;
 mod softs;
 #[cfg(test)]
 mod steps;
+#[cfg(test)]
+mod suspended;

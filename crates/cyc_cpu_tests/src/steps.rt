@@ -39,6 +39,12 @@ pub(crate) enum Step {
     TakeNow(u64),
     /// Asks whether the CPU has settled.
     Settled,
+    /// Suspends the CPU.
+    Suspend,
+    /// Resumes it.
+    Resume,
+    /// Asks whether it is suspended.
+    IsSuspended,
     /// The counts of the id.
     Totals(u64),
     /// The calls of the id that are outstanding.
@@ -77,6 +83,7 @@ pub(crate) enum Answer {
     /// Level, interval, next expiration, expirations and losses.
     Taken(Level, u64, u64, u64, u64),
     Settled(bool),
+    Suspended(bool),
     Called(u64),
     /// The id and the level.
     Call(u64, Level),
@@ -251,6 +258,15 @@ fn make_whole(cpu: &mut Hard<LevelCore>, step: Step) -> Answer {
         Step::Reserve(more) => done(cpu.reserve(more)),
         Step::Widen(more) => widen(cpu, more),
         Step::Settled => Answer::Settled(cpu.settled()),
+        Step::Suspend => {
+            cpu.suspend();
+            Answer::Done
+        }
+        Step::Resume => {
+            cpu.resume();
+            Answer::Done
+        }
+        Step::IsSuspended => Answer::Suspended(cpu.is_suspended()),
         Step::PollRemove => match cpu.poll_remove() {
             Some(receipt) => received(receipt),
             None => Answer::Nothing,
