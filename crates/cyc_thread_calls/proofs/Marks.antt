@@ -150,7 +150,7 @@ module _ {C R : Type 0} (handler : Calls C) (firing : Raise R) where
   begins_same false s t e = same_is s t e
   begins_same true s t (polls, u, polled, settled) = settles_same u t settled ∙ polls_same polls s u polled
 
-  does_same : (x : Step) (s t : Progress R C) → LeavesSuspended x → Does handler firing x s t → Same s t
+  pub does_same : (x : Step) (s t : Progress R C) → LeavesSuspended x → Does handler firing x s t → Same s t
   does_same (steps.Add a) s t plain d = with_series a.start a.interval _ (Same s t) (t ≡ s) d
       (λ when p. call_same a.name _ s t tt p.1) (λ e. same_is s t e)
   does_same (steps.Omni a) s t plain d = with_series a.start a.interval _ (Same s t) (t ≡ s) d

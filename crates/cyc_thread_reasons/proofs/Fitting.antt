@@ -233,6 +233,46 @@ module _ {C R : Type 0} (firing : Raise R) (names : ℕ) where
     known = h.known;
   }
 
+  -- nor is whether the system is suspended
+  pub fits_marked : (given : ℕ) (told : Known) (suspended : Bool) (p : Progress R C) → Fits given told p
+      → Fits given (record told { suspended = suspended }) p
+  fits_marked given told suspended p h = record {
+    rising = h.rising;
+    few = h.few;
+    early = h.early;
+    long = h.long;
+    told_long = h.told_long;
+    online = h.online;
+    ups = h.ups;
+    ready = h.ready;
+    fresh = h.fresh;
+    each = h.each;
+    there = h.there;
+    ids = h.ids;
+    own = h.own;
+    known = h.known;
+  }
+
+  -- the clock alone is set
+  pub fits_set_clock : (given : ℕ) (told : Known) (now : ℕ) (p : Progress R C) → now < never → Fits given told p
+      → Fits given told (record p { clock = now })
+  fits_set_clock given told now p early h = record {
+    rising = h.rising;
+    few = h.few;
+    early = early;
+    long = h.long;
+    told_long = h.told_long;
+    online = h.online;
+    ups = h.ups;
+    ready = h.ready;
+    fresh = h.fresh;
+    each = h.each;
+    there = h.there;
+    ids = h.ids;
+    own = h.own;
+    known = h.known;
+  }
+
   -- a name was introduced that has nothing
   pub fits_more : (given : ℕ) (told : Known) (p : Progress R C) → Fits given told p → Fits (given + 1) told p
   fits_more given told p h = record {

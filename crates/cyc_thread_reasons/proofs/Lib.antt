@@ -16,6 +16,7 @@ pub mod Adding
 pub mod Moving
 pub mod Leaving
 pub mod Numbering
+pub mod Marking
 pub mod Walking
 pub mod Beginning
 pub mod Whole

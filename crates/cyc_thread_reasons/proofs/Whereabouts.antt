@@ -1,4 +1,5 @@
 -- What the records say of an id, and what each call changes of it.
+use Rattle.cyc_thread_calls.specs.Calls.{Suspend, Resume}
 use Rattle.std.proofs.Common.{◌≡◌, ◌≢◌, ◌∙◌, ◌==◌, ℕ, zero, suc, ◌⊎◌, inl, inr, Bool, true, false, cond, not, find, Option, Some}
 use Rattle.std.proofs.Common.{None, Result, Ok, Err, List, [], ◌∷◌, ◌++◌, map, length, slice_set, refl, sym, ap, subst}
 use Rattle.std.specs.Prelude.{is_some}
@@ -364,6 +365,8 @@ module _ {R : Type 0} (firing : Raise R) where
   IsOfScript (Juggle n answer) = Unit {0}
   IsOfScript (Offline n answer) = Unit {0}
   IsOfScript (Online n now answer) = Unit {0}
+  IsOfScript (Suspend answer) = Unit {0}
+  IsOfScript (Resume answer) = Unit {0}
   IsOfScript call = ⊥
 
   -- a call of a script that doesn't touch the id
@@ -389,6 +392,8 @@ module _ {R : Type 0} (firing : Raise R) where
       ∙ (turns_stand n (single_ids n s) report s moved rising moves).0 id))
   stands_kept s t (Online n now answer) id is rising d other = refused_or _ _ answer s t _ id d
       (λ k. online_stand n now answer s t k id)
+  stands_kept s t (Suspend answer) id is rising d other = refused_or _ _ answer s t _ id d (λ k. stands_same s t k.1.1 id)
+  stands_kept s t (Resume answer) id is rising d other = refused_or _ _ answer s t _ id d (λ k. stands_same s t k.1.1 id)
   stands_kept s t call id is rising d other = absurd is
 
   -- ---- what a call does to the id that it touches

@@ -5,7 +5,7 @@ use Rattle.cyc_ring.specs.Ends.{raise_end}
 use Rattle.cyc_script.specs.declared.script.Script.{Script}
 use Rattle.cyc_thread_calls.specs.Ended.{Ended}
 use Rattle.cyc_thread_calls.specs.Running.{HasRun}
-use Rattle.cyc_thread_calls.proofs.Beginning.{first_calm}
+use Rattle.cyc_thread_calls.proofs.Beginning.{first_calm, first_awake}
 use Rattle.cyc_thread_reasons.specs.Known.{known_first}
 use Rattle.cyc_thread_reasons.specs.Explained.{AllExplained}
 use Rattle.cyc_thread_reasons.proofs.Beginning.{first_fits}
@@ -23,4 +23,5 @@ module _ {C : Type 0} (handler : Calls C) (script : Script) (calls : List C) (e 
       (known_first script.cpus (length script.names.items)) script.steps.items r.played.first r.played.last r.played.runs
       (first_fits (length script.names.items) script.cpus r.before r.played.first r.played.begins r.many)
       (λ q. first_calm (length script.names.items) script.cpus r.before r.played.first r.played.begins r.many)
+      (first_awake (length script.names.items) script.cpus r.before r.played.first r.played.begins r.many)
       script.well_formed.names_in_order script.well_formed.names_introduced script.well_formed.moments_in_order

@@ -119,7 +119,7 @@ an_online_one_may_not = refl
 
 -- so many names with a cyclic that is bound to CPU 0, over two CPUs
 abbrev crowd : ℕ → Known
-crowd many = record { online = true ∷ true ∷ []; names = replicate many (OnOne (Some 0)); leaving = false }
+crowd many = record { online = true ∷ true ∷ []; names = replicate many (OnOne (Some 0)); leaving = false; suspended = false }
 
 no_more_is_bound_to_a_full_cpu : has_reason (bind 0 0) (crowd 256) ≡ true
 no_more_is_bound_to_a_full_cpu = refl
@@ -141,7 +141,7 @@ the_last_of_them_has = refl
 
 -- so many that are bound to none
 abbrev flock : ℕ → Known
-flock many = record { online = true ∷ true ∷ []; names = replicate many (OnOne None); leaving = false }
+flock many = record { online = true ∷ true ∷ []; names = replicate many (OnOne None); leaving = false; suspended = false }
 
 the_other_has_room_for_256 : has_reason (Offline 0) (flock 256) ≡ false
 the_other_has_room_for_256 = refl

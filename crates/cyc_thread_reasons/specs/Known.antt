@@ -1,8 +1,9 @@
--- What the accepted steps of a run in threads tell: which CPUs are online, and what each name has (our own rule). On which CPU a
+-- What the accepted steps of a run in threads tell: which CPUs are online, whether the system is suspended, and what each name has
+-- (our own rule). On which CPU a
 -- cyclic is that is not bound isn't told: a move to another may be refused for want of memory.
 use Rattle.std.specs.Prelude.{ℕ, Bool, true, false, if◌then◌else◌, List, replicate, slice_set, slice_index_or, Option, Some, None}
 use Rattle.cyc_script.specs.declared.step.Step.{Step}
-use Rattle.cyc_script.specs.declared.step.Step.TheVariants.{Add, Omni, Bind, Unbind, Remove, Offline, Online}
+use Rattle.cyc_script.specs.declared.step.Step.TheVariants.{Add, Omni, Bind, Unbind, Remove, Offline, Online, Suspend, Resume}
 use Rattle.cyc_expected.specs.Expected.{Met}
 use Rattle.cyc_thread_calls.specs.Words.{waits_first}
 
@@ -23,10 +24,13 @@ pub record Known : Type 0 where
   pub names : List Whereabouts
   -- a removal may be open: since a `remove` was accepted no word came before which a run waits
   pub leaving : Bool
+  -- the system is suspended
+  pub suspended : Bool
 
 -- before the first step
 abbrev pub known_first : ℕ → ℕ → Known
-known_first cpus names = record { online = replicate cpus true; names = replicate names Absent; leaving = false }
+known_first cpus names =
+    record { online = replicate cpus true; names = replicate names Absent; leaving = false; suspended = false }
 
 -- what the name of a number has
 abbrev pub name_has : ℕ → Known → Whereabouts
@@ -51,6 +55,8 @@ after_accepted (Unbind name) t = with_whereabouts name (OnOne None) t
 after_accepted (Remove name) t = record (with_whereabouts name Absent t) { leaving = true }
 after_accepted (Offline n) t = with_online n false t
 after_accepted (Online n) t = with_online n true t
+after_accepted Suspend t = record t { suspended = true }
+after_accepted Resume t = record t { suspended = false }
 after_accepted x t = t
 
 -- the wait before a step, where it has one

@@ -7,7 +7,7 @@ use Rattle.cyc_types.specs.Limits.{cyclics as most_cyclics}
 use Rattle.cyc_agreement.specs.Cpus.{numbers_from}
 use Rattle.cyc_script.specs.declared.step.Step.{Step}
 use Rattle.cyc_script.specs.declared.step.Step.TheVariants.{Add, Omni, Bind, Unbind, Reprogram, Remove, Advance, Softint, Juggle}
-use Rattle.cyc_script.specs.declared.step.Step.TheVariants.{Offline, Online}
+use Rattle.cyc_script.specs.declared.step.Step.TheVariants.{Offline, Online, Suspend, Resume}
 use Rattle.cyc_thread_calls.specs.Way.{is_series, is_moment}
 use Rattle.cyc_thread_reasons.specs.Known.{Whereabouts, Absent, OnOne, OnAll, Known, name_has, is_known_up}
 
@@ -65,7 +65,7 @@ abbrev pub can_be_reprogrammed : Option ℕ → Whereabouts → Known → Bool
 can_be_reprogrammed None s t = is_single s
 can_be_reprogrammed (Some n) s t = has_components s && is_known_up n t
 
--- There is a reason to refuse the step: its numbers, its name, its CPU, or room.
+-- There is a reason to refuse the step: its numbers, its name, its CPU, room, or that the system is suspended or isn't.
 abbrev pub has_reason : Step → Known → Bool
 has_reason (Add a) t = not (is_series a.start a.interval) || are_too_many (how_many is_single t + 1) (many_online t) t
 has_reason (Omni a) t = not (is_series a.start a.interval) || list_any (λ n. may_be_full n t) (numbers_from 0 t.online)
@@ -73,10 +73,12 @@ has_reason (Bind b) t = not (is_single (name_has b.name t)) || not (is_known_up 
 has_reason (Unbind name) t = not (is_single (name_has name t))
 has_reason (Reprogram r) t = not (is_moment r.moment) || not (can_be_reprogrammed r.cpu (name_has r.name t) t)
 has_reason (Remove name) t = not (is_there (name_has name t)) || t.leaving
-has_reason (Advance now) t = false
+has_reason (Advance now) t = t.suspended
 has_reason (Softint i) t = false
 has_reason (Juggle n) t = can_not_leave n t
 -- one of its cyclics is bound to the CPU, or the others have no room for all
 has_reason (Offline n) t = can_not_leave n t || list_any (is_bound_to n) t.names
     || are_too_many (how_many is_single t) (many_online t - 1) t
 has_reason (Online n) t = nat_le (length t.online) n || is_known_up n t
+has_reason Suspend t = t.suspended
+has_reason Resume t = not t.suspended
