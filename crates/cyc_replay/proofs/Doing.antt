@@ -7,7 +7,7 @@ use Rattle.cyc_script.specs.declared.step.Step.{Step}
 use Rattle.cyc_model.specs.Acts.{calls_of}
 use Rattle.cyc_model.specs.Questions.{plain}
 use Rattle.cyc_model.specs.State.{State, Outcome}
-use Rattle.cyc_model.specs.Refusals.{unless, refusal, refused_at}
+use Rattle.cyc_model.specs.Refusals.{unless, refusal, after_refusal}
 use Rattle.cyc_model.specs.Script.{refusal_of, does, word}
 use Rattle.cyc_model.proofs.Events.{calls_append}
 use Rattle.cyc_model.proofs.Telling.{tells_steps}
@@ -33,7 +33,7 @@ word_done texts indexes step x s none = ap (λ o. unless o step x (does plain te
 
 pub word_refused : (texts : List (List ℕ)) (indexes : ℕ → ℕ) (step : ℕ) (x : Step) (s : State) (e : Refusal)
     → refusal_of plain x s ≡ Some e
-    → word plain texts indexes step x s ≡ refusal step e (refused_at x s)
+    → word plain texts indexes step x s ≡ refusal step e (after_refusal x s)
 word_refused texts indexes step x s e some = ap (λ o. unless o step x (does plain texts indexes step x) s) some
 
 -- each id was called as often as the acts say

@@ -7,7 +7,7 @@ use Rattle.cyc_text.specs.Lines.{accepted}
 use Rattle.cyc_script.specs.declared.step.Step.{Step}
 use Rattle.cyc_model.specs.Questions.{plain}
 use Rattle.cyc_model.specs.State.{State, Outcome}
-use Rattle.cyc_model.specs.Refusals.{refusal, refused_at}
+use Rattle.cyc_model.specs.Refusals.{refusal, after_refusal}
 use Rattle.cyc_model.specs.Script.{refusal_of, does}
 use Rattle.cyc_cpu_model.specs.Answers.{IsRefused}
 use Rattle.cyc_replay.specs.declared.machine.Machine.{Machine}
@@ -27,7 +27,7 @@ truly_refused e why other is = is
 
 -- a refused step does nothing, but that an `advance` sets the clock
 pub refused_takes : (texts : List (List ℕ)) (step : ℕ) (x : Step) (line : List ℕ) (e : Refusal) (s : State) (m : Machine)
-    → refusal_of plain x s ≡ Some e → line ≡ (refusal step e s).line → Holds (refused_at x s) m → TakesWord texts step x line s m
+    → refusal_of plain x s ≡ Some e → line ≡ (refusal step e s).line → Holds (after_refusal x s) m → TakesWord texts step x line s m
 refused_takes texts step x line e s m some same h = record {
   given = [];
   line_is = λ indexes gives. same ∙ ap (λ (o : Outcome). o.line) (sym (word_refused texts indexes step x s e some));
@@ -58,7 +58,7 @@ takes_with texts step says x line s m done same = record {
 
 pub taken : (texts : List (List ℕ)) (step : ℕ) (x : Step) (answer : Result (Unit {0}) Refusal) (line : List ℕ) (s : State)
     (m : Machine)
-    → SaysOk x → refused_at x s ≡ s → answer ≢ Err Memory → line ≡ answer_line step answer → Answers x answer s m
+    → SaysOk x → after_refusal x s ≡ s → answer ≢ Err Memory → line ≡ answer_line step answer → Answers x answer s m
     → TakesWord texts step x line s m
 taken texts step x (Ok done) line s m says still other is does_it =
     done_takes texts step x line s m does_it (λ indexes. is ∙ sym (says texts indexes step s))

@@ -5,7 +5,7 @@ use Rattle.std.specs.Prelude.{pos, negsuc, ℤ, codes}
 use Rattle.std.specs.Fmt.{digits}
 use Rattle.cyc_types.specs.declared.level.Level.TheVariants as level
 use Rattle.cyc_script.specs.declared.step.Step.{Step}
-use Rattle.cyc_script.specs.declared.step.Step.TheVariants.{Add, Remove, Advance, Juggle, Offline, Online}
+use Rattle.cyc_script.specs.declared.step.Step.TheVariants.{Add, Remove, Advance, Juggle, Offline, Online, Suspend, Resume}
 use Rattle.cyc_model.proofs.Steps.{add, omni, reprogram, reprogram_on}
 use Rattle.cyc_expected.specs.Expected.{Met, expected}
 use Rattle.cyc_threads.proofs.Spots.{same_some}
@@ -44,6 +44,21 @@ its_report : report_from (calm_counts 4 four) 0 (codes "a" ∷ codes "b" ∷ cod
     ++ codes "c expired 28 called 28 lost 0 pending 0\n" ++ codes "o expired 77 called 77 lost 0 pending 0\n"
 unfolding reported digits
 its_report = refl
+
+-- while the system is suspended no advance is accepted, and the first after it makes all that is due
+abbrev stopped : List Step
+stopped = add level.High 0 10 10 ∷ Suspend ∷ Advance 35 ∷ Suspend ∷ Resume ∷ Resume ∷ Advance 36 ∷ []
+
+no_advance_is_taken_while_suspended : taken 1 stopped ≡ true ∷ true ∷ false ∷ false ∷ true ∷ false ∷ true ∷ []
+no_advance_is_taken_while_suspended = refl
+
+one_advance_after_a_resume_makes_all_that_is_due : expected 1 (calm_way 1 stopped) 0 ≡ 3
+one_advance_after_a_resume_makes_all_that_is_due = refl
+
+-- a refused advance sets the clock
+a_refused_advance_sets_the_clock :
+    expected 1 (calm_way 1 (Suspend ∷ Advance 25 ∷ add level.High 0 0 10 ∷ Resume ∷ Advance 30 ∷ [])) 0 ≡ 1
+a_refused_advance_sets_the_clock = refl
 
 -- a step is refused for its numbers
 abbrev start_of : ℤ → ℤ → Step

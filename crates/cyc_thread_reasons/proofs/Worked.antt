@@ -5,7 +5,7 @@ use Rattle.cyc_types.specs.declared.level.Level.TheVariants as level
 use Rattle.cyc_types.specs.declared.level.Soft.TheVariants as soft
 use Rattle.cyc_script.specs.declared.step.Step.{Step}
 use Rattle.cyc_script.specs.declared.step.Step.TheVariants.{Add, Omni, Bind, Unbind, Reprogram, Remove, Advance, Softint, Juggle}
-use Rattle.cyc_script.specs.declared.step.Step.TheVariants.{Offline, Online}
+use Rattle.cyc_script.specs.declared.step.Step.TheVariants.{Offline, Online, Suspend, Resume}
 use Rattle.cyc_expected.specs.Expected.{Met}
 use Rattle.cyc_thread_reasons.specs.Known.{Absent, OnOne, Known, known_first, name_has, known_after}
 use Rattle.cyc_thread_reasons.specs.Reasons.{has_reason}
@@ -114,6 +114,23 @@ it_may_come_back = refl
 
 an_online_one_may_not : has_reason (Online 0) (after (taken (Offline 1) ∷ []) one) ≡ true
 an_online_one_may_not = refl
+
+-- ---- suspended
+
+abbrev stopped : Known
+stopped = after (taken Suspend ∷ []) one
+
+no_advance_is_accepted_while_suspended : has_reason (Advance 50) stopped ≡ true
+no_advance_is_accepted_while_suspended = refl
+
+it_is_not_suspended_twice : has_reason Suspend stopped ≡ true
+it_is_not_suspended_twice = refl
+
+after_a_resume_one_is : has_reason (Advance 50) (after (taken Resume ∷ []) stopped) ≡ false
+after_a_resume_one_is = refl
+
+what_goes_on_is_not_resumed : has_reason Resume one ≡ true
+what_goes_on_is_not_resumed = refl
 
 -- ---- room
 
