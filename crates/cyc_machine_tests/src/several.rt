@@ -3,7 +3,7 @@
 use crate::tests::gives_texts;
 
 /// Scripts, each with its text.
-static RUNS: [(&str, &str, &str); 28] = [
+static RUNS: [(&str, &str, &str); 29] = [
     (
         "bound_cyclics_are_left",
         "{\"cpus\":2,\"steps\":[[\"add\",\"a\",\"high\",10,10],[\"add\",\"b\",\"high\",10,10],[\"add\",\"c\",\"high\",10,10],[\"bind\",\"a\",0],[\"offline\",0],[\"unbind\",\"a\"],[\"offline\",0],[\"softint\",1,\"low\",1],[\"softint\",1,\"lock\",1],[\"offline\",0],[\"offline\",1],[\"offline\",0]]}",
@@ -143,6 +143,11 @@ static RUNS: [(&str, &str, &str); 28] = [
         "one_that_is_leaving_needs_no_room_on_a_cpu_that_returns",
         "{\"cpus\":2,\"steps\":[[\"omni\",\"a\",\"high\",10,10,0],[\"omni\",\"b\",\"high\",10,10,0],[\"offline\",1],[\"softint\",0,\"low\",1],[\"softint\",0,\"lock\",1],[\"omni\",\"c\",\"low\",10,10,0],[\"advance\",10],[\"remove\",\"c\"],[\"online\",1],[\"advance\",20],[\"softint\",0,\"low\",8]]}",
         "1 ok\n2 ok\n3 ok\n4 ran 0 idle\n5 ran 0 idle\n6 ok\n7 fired 3 lost 0\n8 kept 1\n9 ok\n10 fired 6 lost 0\n11 ran 1 idle\n11 removed c 1\na expired 4 called 4 lost 0 pending 0\nb expired 4 called 4 lost 0 pending 0\nc expired 1 called 1 lost 0 pending 0\n",
+    ),
+    (
+        "a_cpu_that_comes_online_is_suspended",
+        "{\"cpus\":2,\"steps\":[[\"omni\",\"a\",\"high\",10,10,0],[\"offline\",1],[\"suspend\"],[\"online\",1],[\"advance\",20],[\"resume\"],[\"advance\",20]]}",
+        "1 ok\n2 ok\n3 ok\n4 ok\n5 refused 25\n6 ok\n7 fired 4 lost 0\na expired 4 called 4 lost 0 pending 0\n",
     ),
 ];
 

@@ -12,7 +12,7 @@ use std::fmt::Write;
 use std::process::Abort;
 
 /// Scripts, each with its text.
-static RUNS: [(&str, &str, &str); 17] = [
+static RUNS: [(&str, &str, &str); 21] = [
     ("no_steps", "{\"cpus\":1,\"steps\":[]}", ""),
     (
         "one_expiration_is_served",
@@ -93,6 +93,26 @@ static RUNS: [(&str, &str, &str); 17] = [
         "calls_stay_pending",
         "{\"cpus\":1,\"steps\":[[\"add\",\"a\",\"low\",0,10],[\"advance\",35],[\"softint\",0,\"low\",1]]}",
         "1 ok\n2 fired 3 lost 0\n3 ran 1 more\na expired 3 called 1 lost 0 pending 2\n",
+    ),
+    (
+        "one_fire_after_a_resume_makes_all_that_is_due",
+        "{\"cpus\":1,\"steps\":[[\"add\",\"a\",\"high\",10,10],[\"suspend\"],[\"advance\",35],[\"suspend\"],[\"resume\"],[\"resume\"],[\"advance\",36]]}",
+        "1 ok\n2 ok\n3 refused 25\n4 refused 25\n5 ok\n6 refused 26\n7 fired 3 lost 0\na expired 3 called 3 lost 0 pending 0\n",
+    ),
+    (
+        "a_fire_after_a_resume_may_skip",
+        "{\"cpus\":1,\"steps\":[[\"add\",\"a\",\"high\",100000000,100000000],[\"suspend\"],[\"advance\",1200000001],[\"resume\"],[\"advance\",1200000001]]}",
+        "1 ok\n2 ok\n3 refused 25\n4 ok\n5 fired 1 lost 0\na expired 1 called 1 lost 0 pending 0\n",
+    ),
+    (
+        "a_refused_advance_sets_the_clock",
+        "{\"cpus\":1,\"steps\":[[\"suspend\"],[\"advance\",25],[\"add\",\"a\",\"high\",0,10],[\"resume\"],[\"advance\",30]]}",
+        "1 ok\n2 refused 25\n3 ok\n4 ok\n5 fired 1 lost 0\na expired 1 called 1 lost 0 pending 0\n",
+    ),
+    (
+        "calls_are_made_while_suspended",
+        "{\"cpus\":1,\"steps\":[[\"add\",\"a\",\"low\",10,10],[\"advance\",10],[\"suspend\"],[\"softint\",0,\"low\",8],[\"remove\",\"a\"]]}",
+        "1 ok\n2 fired 1 lost 0\n3 ok\n4 ran 1 idle\n5 removed a 1\na expired 1 called 1 lost 0 pending 0\n",
     ),
 ];
 
