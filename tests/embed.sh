@@ -123,7 +123,7 @@ if have cc gcc && have make make && have qemu-system-x86_64 qemu-system-x86; the
   kernel stack
   if ! awk 'NR == FNR { for (k = 2; k < NF; k += 2) if (gsub(/[` ]/, "", $k)) most[$k] = $(k + 1) + 0; next }
             $1 ~ /^cyclic_/ { seen++; if (!($1 in most) || $2 > most[$1]) { print "embed: " $1 " is " $2 " bytes deep"; bad = 1 } }
-            END { exit bad || seen != 30 }' FS='|' docs/embedding.md FS=' ' "$work/out"; then
+            END { exit bad || seen != 34 }' FS='|' docs/embedding.md FS=' ' "$work/out"; then
     echo "embed: the stack is not as docs/embedding.md says"
     failed=1
   fi

@@ -56,6 +56,9 @@ static void cpu_calls(void)
     for (int64_t now = 1; now < 5 * SECOND; now += now < 200 ? 50 : 2 * SECOND)
         while (DEEP(cyclic_fire, AT(cpu), (uint64_t)now, AT(fired)) == CYCLIC_CALL_HANDLER)
             ;
+    DEEP(cyclic_suspend, AT(cpu));
+    DEEP(cyclic_fire, AT(cpu), (uint64_t)(5 * SECOND), AT(fired));
+    DEEP(cyclic_resume, AT(cpu));
     DEEP(cyclic_next, AT(cpu), AT(moment));
     for (uint64_t k = 1; k <= 257; k++) {
         DEEP(cyclic_reprogram, AT(cpu), k, (uint64_t)(9 * SECOND) - k);
@@ -90,6 +93,9 @@ static void pair_calls(void)
     for (int64_t now = 1; now < 5 * SECOND; now += now < 200 ? 50 : 2 * SECOND)
         while (DEEP(cyclic_firing_fire, AT(firing), (uint64_t)now, AT(fired)) == CYCLIC_CALL_HANDLER)
             ;
+    DEEP(cyclic_firing_suspend, AT(firing));
+    DEEP(cyclic_firing_fire, AT(firing), (uint64_t)(5 * SECOND), AT(fired));
+    DEEP(cyclic_firing_resume, AT(firing));
     DEEP(cyclic_firing_next, AT(firing), AT(moment));
     for (uint64_t k = 1; k <= 250; k++) {
         DEEP(cyclic_firing_reprogram, AT(firing), k, (uint64_t)(9 * SECOND) - k);

@@ -1,6 +1,6 @@
 -- A new system agrees with its records, of which there is none.
-use Rattle.std.proofs.Common.{Bool, ◌≡◌, ℕ, ◌<◌, ◌≤◌, Option, Some, None, List, [], length, replicate, zero, suc, option_map, true}
-use Rattle.std.proofs.Common.{false, refl, sym, ap, ◌∙◌, arith}
+use Rattle.std.proofs.Common.{Bool, ◌≡◌, ℕ, ◌<◌, ◌≤◌, Option, Some, None, List, [], length, replicate, zero, suc, option_map}
+use Rattle.std.proofs.Common.{true, false, refl, sym, ap, ◌∙◌, arith}
 use Rattle.std.specs.List.{slice_get, list_any}
 use Rattle.std.specs.Option.{option_map_or}
 use Rattle.std.specs.Prelude.{◌==◌}

@@ -1,6 +1,6 @@
 -- What a removal does to one CPU.
-use Rattle.std.proofs.Common.{◌≡◌, ◌≢◌, ◌==◌, ℕ, ◌≤◌, inl, inr, true, false, Option, Some, None, Ok, Err, map, refl, sym, ap, ◌∙◌}
-use Rattle.std.proofs.Common.{subst}
+use Rattle.std.proofs.Common.{◌≡◌, ◌≢◌, ◌==◌, ℕ, ◌≤◌, inl, inr, true, false, Option, Some, None, Ok, Err, map, refl, sym, ap}
+use Rattle.std.proofs.Common.{◌∙◌, subst}
 use Rattle.std.specs.Option.{option_map_or, option_and_then}
 use Rattle.cyc_types.specs.Series.{never}
 use Rattle.cyc_types.specs.declared.Raise.{Ghosts as Raise}

@@ -30,8 +30,7 @@ use Rattle.cyc_agreement.proofs.Presence.{not_leaving}
 use Rattle.cyc_agreement.proofs.Destinations.{online_at}
 use Rattle.cyc_agreement.proofs.Shifted.{ids_rise}
 use Rattle.cyc_agreement.proofs.Who.{SameWho, has_same, id_in, ids_there}
-use Rattle.cyc_agreement.specs.Holding.{EndedWithin}
-use Rattle.cyc_agreement.specs.Holding.{LeaveWhole}
+use Rattle.cyc_agreement.specs.Holding.{EndedWithin, LeaveWhole}
 use Rattle.cyc_agreement.specs.Online.{is_staying, staying, after_return, switched_on}
 use Rattle.cyc_agreement.proofs.Prefixes.{ids_in, found_in, is_in}
 use Rattle.cyc_agreement.proofs.Rising.{rises_of, records_rise, no_more}

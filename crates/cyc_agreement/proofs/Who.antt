@@ -12,8 +12,7 @@ use Rattle.cyc_types.specs.declared.Calls.{Ghosts as Calls}
 use Rattle.cyc_types.specs.declared.Raise.{Ghosts as Raise}
 use Rattle.cyc_types.specs.declared.refusal.Refusal.{Refusal}
 use Rattle.cyc_cpu.specs.Rows.{Cyclic, timers}
-use Rattle.cyc_cpu.specs.Cpu.{CpuView, IsCyclic, with_moment, Asks, Looked, Reserves, Widens, Places}
-use Rattle.cyc_cpu.specs.Cpu.{Running}
+use Rattle.cyc_cpu.specs.Cpu.{CpuView, IsCyclic, with_moment, Asks, Looked, Reserves, Widens, Places, Running}
 use Rattle.cyc_cpu.specs.Soft.{SoftKept}
 use Rattle.cyc_cpu.specs.Calls.{Changes, Does, Reserve, Fire, Reprogram}
 use Rattle.cyc_types.specs.declared.level.Soft.{Soft}
@@ -61,16 +60,36 @@ id_in c = c.timer.id
 
 module _ {R : Type 0} (firing : Raise R) (x y : CpuView R) where
   pub same_asked : (id n : ℕ) → Asks firing id n x y → SameIds x y
-  same_asked id n a = record { ids = ap (λ cs. map id_in cs) a.cyclics; removal = a.kept.removal; most = a.kept.most; suspended = a.kept.suspended }
+  same_asked id n a = record {
+    ids = ap (λ cs. map id_in cs) a.cyclics;
+    removal = a.kept.removal;
+    most = a.kept.most;
+    suspended = a.kept.suspended;
+  }
 
   pub same_looked : Looked firing x y → SameIds x y
-  same_looked a = record { ids = ap (λ cs. map id_in cs) a.cyclics; removal = a.kept.removal; most = a.kept.most; suspended = a.kept.suspended }
+  same_looked a = record {
+    ids = ap (λ cs. map id_in cs) a.cyclics;
+    removal = a.kept.removal;
+    most = a.kept.most;
+    suspended = a.kept.suspended;
+  }
 
   pub same_reserved : (more : ℕ) → Reserves firing more x y → SameIds x y
-  same_reserved more a = record { ids = ap (λ cs. map id_in cs) a.cyclics; removal = a.removal; most = a.most; suspended = a.suspended }
+  same_reserved more a = record {
+    ids = ap (λ cs. map id_in cs) a.cyclics;
+    removal = a.removal;
+    most = a.most;
+    suspended = a.suspended;
+  }
 
   pub same_widened : (more : ℕ) → Widens firing more x y → SameIds x y
-  same_widened more a = record { ids = ap (λ cs. map id_in cs) a.cyclics; removal = a.removal; most = a.most; suspended = a.suspended }
+  same_widened more a = record {
+    ids = ap (λ cs. map id_in cs) a.cyclics;
+    removal = a.removal;
+    most = a.most;
+    suspended = a.suspended;
+  }
 
   more_here : (b c : Bool) → b ≡ true → (b || c) ≡ true
   more_here true c e = refl
@@ -158,7 +177,12 @@ module _ {C R : Type 0} (handler : Calls C) (firing : Raise R)
 
 -- a soft interrupt touches no cyclic
 pub same_served : {R : Type 0} (level : Soft) (x y : CpuView R) → SoftKept level x y → SameIds x y
-same_served level x y s = record { ids = ap (λ cs. map id_in cs) s.cyclics; removal = s.kept.removal; most = s.kept.most; suspended = s.kept.suspended }
+same_served level x y s = record {
+  ids = ap (λ cs. map id_in cs) s.cyclics;
+  removal = s.kept.removal;
+  most = s.kept.most;
+  suspended = s.kept.suspended;
+}
 
 -- ---- all CPUs
 
@@ -189,7 +213,14 @@ pub record SameBut {R : Type 0} (id : ℕ) (v w : CpusView R) : Type 0 where
   pub long : length w.cpus ≡ length v.cpus
 
 pub same_none : {R : Type 0} (v : CpusView R) → SameWho v v
-same_none v = record { ids = λ n. refl; removals = λ n. refl; online = refl; most = λ n. refl; suspended = λ n. refl; long = refl }
+same_none v = record {
+  ids = λ n. refl;
+  removals = λ n. refl;
+  online = refl;
+  most = λ n. refl;
+  suspended = λ n. refl;
+  long = refl;
+}
 
 pub same_then : {R : Type 0} (u v w : CpusView R) → SameWho u v → SameWho v w → SameWho u w
 same_then u v w a b = record {

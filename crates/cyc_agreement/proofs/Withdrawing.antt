@@ -92,7 +92,8 @@ module _ {R : Type 0} (v : CpusView R) (n id place : ℕ) (x y : CpuView R) (at 
       online = refl;
       most = at_each v n x y at (λ a b. option_map (λ cpu. cpu.most) b ≡ option_map (λ cpu. cpu.most) a) (ap Some l.most)
           (λ o. refl);
-      suspended = at_each v n x y at (λ a b. option_map (λ cpu. cpu.suspended) b ≡ option_map (λ cpu. cpu.suspended) a) (ap Some l.suspended)
+      suspended = at_each v n x y at (λ a b. option_map (λ cpu. cpu.suspended) b ≡ option_map (λ cpu. cpu.suspended) a)
+          (ap Some l.suspended)
           (λ o. refl);
       long = length-set v.cpus n y;
       before = r;

@@ -82,7 +82,16 @@ RunsAt handler firing interrupts s c t = ChangesAt c.cpu
 
 -- a CPU with no cyclic and of size 1, over the ends of its lock and its low level
 abbrev pub new_cpu : {R : Type 0} → ℕ → R → R → CpuView R
-new_cpu most lock low = record { cyclics = []; removal = None; size = 1; room = 1; most = most; suspended = false; lock = lock; low = low }
+new_cpu most lock low = record {
+  cyclics = [];
+  removal = None;
+  size = 1;
+  room = 1;
+  most = most;
+  suspended = false;
+  lock = lock;
+  low = low;
+}
 
 -- CPUs over these ends, all of them online
 abbrev pub new_cpus : {R : Type 0} → ℕ → List (R × R) → CpusView R

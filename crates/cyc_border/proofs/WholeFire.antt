@@ -29,8 +29,7 @@ use Rattle.cyc_cpu.specs.Calls.{MayFire, WhyNoFire}
 use Rattle.cyc_border.specs.Border.{grant, stopped_at, handed_after}
 use Rattle.cyc_border.specs.Granted.{granted_called, granted_count, GrantedRefuses}
 use Rattle.cyc_border.specs.Parts.{Paused, paused, PartCall, Part, Suspends, Resumes, MakesPart, IsRest, IsPaused, answers}
-use Rattle.cyc_border.specs.Parts.{asleep, awake, IsOneFire, IsHandedOut, expired_of, lost_of, handed_out}
-use Rattle.cyc_border.specs.Parts.{notes, noted}
+use Rattle.cyc_border.specs.Parts.{asleep, awake, IsOneFire, IsHandedOut, expired_of, lost_of, handed_out, notes, noted}
 use Rattle.cyc_border.specs.declared.granted.Granted.{Granted}
 use Rattle.cyc_border.specs.declared.granted.Granted.TheVariants.{One}
 use Rattle.cyc_border.proofs.HandingOut.{handed_out as handed_is}

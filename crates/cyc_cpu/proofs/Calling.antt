@@ -151,11 +151,13 @@ not_added_suspended firing id now level when v w e d = d.2.kept.suspended
 -- no other call changes whether it is suspended
 pub changes_suspended : {R : Type 0} (firing : Raise R) (v w : CpuView R) (call : CpuCall) → LeavesMark call
     → Changes firing v call w → w.suspended ≡ v.suspended
-changes_suspended firing v w (Add id level when now (Ok done)) plain (absent, early, a) = a.enters.kept.suspended ∙ a.widens.suspended
+changes_suspended firing v w (Add id level when now (Ok done)) plain (absent, early, a) = a.enters.kept.suspended ∙
+    a.widens.suspended
     ∙ a.reserves.suspended
 changes_suspended firing v w (Add id level when now (Err e)) plain d = not_added_suspended firing id now level when v w e d
 changes_suspended firing v w (Place id level interval moment carried) plain d = d.1.kept.suspended
-changes_suspended {R} firing v w (Reprogram id moment (Ok done)) plain (k, c, here, named, still, is) = ap (λ (x : CpuView R). x.suspended) is
+changes_suspended {R} firing v w (Reprogram id moment (Ok done)) plain (k, c, here, named, still, is) = ap
+    (λ (x : CpuView R). x.suspended) is
 changes_suspended {R} firing v w (Reprogram id moment (Err e)) plain d = ap (λ (x : CpuView R). x.suspended) d.2
 changes_suspended firing v w (AskPending id (Some n)) plain d = d.0.kept.suspended
 changes_suspended {R} firing v w (AskPending id None) plain d = ap (λ (x : CpuView R). x.suspended) d.1
@@ -188,5 +190,11 @@ pub fire_keeps : {C R : Type 0} (handler : Calls C) (firing : Raise R)
     → Does handler firing interrupts s (Fire now answer) t → SameCpu s.cpu t.cpu
 fire_keeps handler firing interrupts now s t (Ok r) d = d.1
 fire_keeps handler firing interrupts now s t (Err e) (inl (late, is, same)) =
-    subst (λ x. SameCpu s.cpu x.cpu) (sym same) (record { removal = refl; size = refl; room = refl; most = refl; suspended = refl })
+    subst (λ x. SameCpu s.cpu x.cpu) (sym same) (record {
+      removal = refl;
+      size = refl;
+      room = refl;
+      most = refl;
+      suspended = refl;
+    })
 fire_keeps handler firing interrupts now s t (Err e) (inr d) = d.1

@@ -1,4 +1,4 @@
-//! A CPU whose clock stands still.
+//! A CPU on which no fire is made for a while.
 
 ghost use Rattle.std.specs.Prelude.{◌≡◌};
 

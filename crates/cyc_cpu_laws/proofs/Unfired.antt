@@ -14,8 +14,8 @@ use Rattle.cyc_cpu.specs.FireRefused.{FireRefused}
 use Rattle.cyc_cpu.specs.Rows.{timers}
 use Rattle.cyc_cpu.specs.Shares.{share}
 use Rattle.cyc_cpu.specs.Cpu.{CpuView, Running}
-use Rattle.cyc_cpu.specs.Calls.{CpuCall, Does, Fire, SoftInterrupt, Add, Place, Reprogram, AskPending, AskTotals, AskRoom, Reserve}
-use Rattle.cyc_cpu.specs.Calls.{Widen, BeginRemove, PollRemove, TakeNow, AskSettled, Suspend, Resume, Changes}
+use Rattle.cyc_cpu.specs.Calls.{CpuCall, Does, Fire, SoftInterrupt, Add, Place, Reprogram, AskPending, AskTotals, AskRoom}
+use Rattle.cyc_cpu.specs.Calls.{Reserve, Widen, BeginRemove, PollRemove, TakeNow, AskSettled, Suspend, Resume, Changes}
 use Rattle.cyc_cpu.proofs.Calling.{LeavesMark, changes_suspended}
 use Rattle.cyc_cpu_laws.specs.Runs.{Steps}
 use Rattle.cyc_cpu_laws.specs.Accounts.{made_by}
@@ -78,10 +78,12 @@ module _ {C R : Type 0} (handler : Calls C) (firing : Raise R)
     unfired = λ level id. refl;
   }
   still_from s t (call ∷ way) is not (m, (does, lawful), rest) =
-      let r = still_from m t way (asleep s m call is (not 0 call (omega arith)) does) (λ k d low. not (suc k) d (omega (arith, low)))
+      let r = still_from m t way (asleep s m call is (not 0 call (omega arith)) does)
+      (λ k d low. not (suc k) d (omega (arith, low)))
       rest in record {
         suspended = r.suspended;
-        unfired = λ level id. (let a = unfired_one s m call level id is does in let b = r.unfired level id in omega (arith, a, b));
+        unfired = λ level id. (let a = unfired_one s m call level id is does in let b = r.unfired level id in omega
+            (arith, a, b));
       }
 
   -- from a suspend on
@@ -90,7 +92,8 @@ module _ {C R : Type 0} (handler : Calls C) (firing : Raise R)
   stands_still s t way not (m, (does, lawful), rest) =
       let r = still_from m t way (ap (λ (x : CpuView R). x.suspended) does.0) not rest in record {
         suspended = r.suspended;
-        unfired = λ level id. (let a = none_made level (timers s.cpu.cyclics) id in let b = r.unfired level id in omega (arith, a, b));
+        unfired = λ level id. (let a = none_made level (timers s.cpu.cyclics) id in let b = r.unfired level id in omega
+            (arith, a, b));
       }
 
   module _ (silent : (soft : Soft) (budget : ℕ) (answer : Result Ran SoftRefused) (s t : Running C R) →

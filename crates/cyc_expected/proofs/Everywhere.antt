@@ -44,8 +44,7 @@ use Rattle.cyc_expected.proofs.Spread.{components_long, components_at, due_there
 use Rattle.cyc_expected.proofs.Spread.{sum_numbers}
 use Rattle.cyc_expected.proofs.Unmoved.{left_bind, left_unbind, left_juggled}
 use Rattle.cyc_expected.proofs.Components.{enters_there, enters_elsewhere, online_elsewhere, online_component}
-use Rattle.cyc_expected.proofs.Components.{offline_elsewhere, placed_retires, placed_returns, long_retires, widens}
-use Rattle.cyc_expected.proofs.Components.{on_there}
+use Rattle.cyc_expected.proofs.Components.{offline_elsewhere, placed_retires, placed_returns, long_retires, widens, on_there}
 
 -- a CPU that is offline has no cyclic
 offline_empty : (id m : ℕ) (s : State) → Good s → (cpu_of m s).online ≡ false → found id (cpu_of m s).cyclics ≡ None

@@ -17,8 +17,7 @@ use Rattle.cyc_model.specs.State.{State, Outcome, absent, cpu_of, kept_if, numbe
 use Rattle.cyc_model.specs.Places.{id_of, is_leaving, is_unknown, is_omnipresent, home_of, destination, fewest, fewer, is_not}
 use Rattle.cyc_model.specs.Places.{len_of}
 use Rattle.cyc_types.specs.Reasons.{first_refusal, when, busy, bad_now}
-use Rattle.cyc_model.specs.Refusals.{no_room, no_cpu, offline_cpu, last_cpu, bad_when}
-use Rattle.cyc_model.specs.Refusals.{ids_spent}
+use Rattle.cyc_model.specs.Refusals.{no_room, no_cpu, offline_cpu, last_cpu, bad_when, ids_spent}
 use Rattle.cyc_model.specs.Bind.{no_cyclic, omnipresent, pending, unless_there}
 use Rattle.cyc_model.specs.Reprogram.{cpu_refusals}
 use Rattle.cyc_model.specs.Remove.{all_cpus}

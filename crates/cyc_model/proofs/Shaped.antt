@@ -16,8 +16,7 @@ use Rattle.cyc_model.specs.Serving.{level_at, serve}
 use Rattle.cyc_model.specs.Moving.{must_grow, bank_for, switch_here, widen_here, take_here, mark_here, clear_here}
 use Rattle.cyc_model.specs.Questions.{Questions}
 use Rattle.cyc_model.specs.State.{State, Outcome, Placement, On, OnAll, Placed, on, cpu_of, each, nothing, followed_by}
-use Rattle.cyc_model.specs.State.{online_cpus}
-use Rattle.cyc_model.specs.State.{cpus_with, numbers}
+use Rattle.cyc_model.specs.State.{online_cpus, cpus_with, numbers}
 use Rattle.cyc_model.specs.Places.{id_of, given, put_at, keep_counts, is_bound, home_of, destination}
 use Rattle.cyc_model.specs.Add.{enter, added}
 use Rattle.cyc_model.specs.Omni.{component, everywhere}

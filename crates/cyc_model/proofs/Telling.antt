@@ -18,8 +18,7 @@ use Rattle.cyc_model.specs.Firing.{fire_here}
 use Rattle.cyc_model.specs.Moving.{enter_here, take_here, widen_here, place_here, mark_here, clear_here, reprogram_here}
 use Rattle.cyc_model.specs.Questions.{Questions}
 use Rattle.cyc_model.specs.State.{State, Outcome, Placement, On, OnAll, Placed, Everywhere, nothing, followed_by, each, on}
-use Rattle.cyc_model.specs.State.{cpu_of}
-use Rattle.cyc_model.specs.State.{absent, cpus_with, online_cpus, numbers}
+use Rattle.cyc_model.specs.State.{cpu_of, absent, cpus_with, online_cpus, numbers}
 use Rattle.cyc_model.specs.Places.{id_of, keep_counts, given, put_at, home_of, is_bound, forgotten, without_ended}
 use Rattle.cyc_model.specs.Refusals.{after_refusal, unless, magnitude}
 use Rattle.cyc_model.specs.Add.{enter, added}

@@ -31,8 +31,8 @@ use Rattle.cyc_model.proofs.Placing.{place_put_same, place_put_other, place_know
 use Rattle.cyc_model.proofs.Base.{IsAt, Base, IsGone, Goes, goes_append, goes_from, goes_on, base_on, cpu_there, cpu_elsewhere}
 use Rattle.cyc_model.proofs.Base.{expired_on, lost_on, pending_on}
 use Rattle.cyc_model.proofs.Spread.{Spread, Good, stands_still, is_there}
-use Rattle.cyc_model.proofs.Enters.{enter_goes, enter_base, enter_there, enter_elsewhere, enter_same, enter_removal, enter_online}
-use Rattle.cyc_model.proofs.Enters.{done_there}
+use Rattle.cyc_model.proofs.Enters.{enter_goes, enter_base, enter_there, enter_elsewhere, enter_same, enter_removal}
+use Rattle.cyc_model.proofs.Enters.{enter_online, done_there}
 
 -- ---- what is kept
 

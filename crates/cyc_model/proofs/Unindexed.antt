@@ -18,8 +18,7 @@ use Rattle.cyc_model.specs.Firing.{due_here, fire_here}
 use Rattle.cyc_model.specs.Moving.{enter_here, take_here, widen_here, place_here, mark_here, clear_here, reprogram_here}
 use Rattle.cyc_model.specs.Questions.{plain, outstanding_here}
 use Rattle.cyc_model.specs.State.{State, Outcome, Placement, On, OnAll, Placed, Everywhere, nothing, told, before, followed_by}
-use Rattle.cyc_model.specs.State.{each}
-use Rattle.cyc_model.specs.State.{done_on, on, cpu_of, numbers, cpus_with, online_cpus}
+use Rattle.cyc_model.specs.State.{each, done_on, on, cpu_of, numbers, cpus_with, online_cpus}
 use Rattle.cyc_model.specs.Places.{id_of, is_bound, keep_counts, given, put_at, home_of, forgotten, without_ended, destination}
 use Rattle.cyc_model.specs.Refusals.{unless, magnitude}
 use Rattle.cyc_model.specs.Add.{one_admitted, enter, add_at, added, add}

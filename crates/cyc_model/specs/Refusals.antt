@@ -3,8 +3,8 @@ use Rattle.std.specs.Prelude.{ℕ, ◌+◌, nat_lt, nat_le, not, List, [], ◌�
 use Rattle.cyc_types.specs.Limits.{cyclics as most_cyclics, last_id as greatest_id}
 use Rattle.cyc_types.specs.Reasons.{when, first_refusal, busy, only_if}
 use Rattle.cyc_types.specs.declared.refusal.Refusal.{Refusal}
-use Rattle.cyc_types.specs.declared.refusal.Refusal.TheVariants.{BadWhen, BadInterval, Full, Expanding, IdsSpent, NoCpu, Offline}
-use Rattle.cyc_types.specs.declared.refusal.Refusal.TheVariants.{LastCpu}
+use Rattle.cyc_types.specs.declared.refusal.Refusal.TheVariants.{BadWhen, BadInterval, Full, Expanding, IdsSpent, NoCpu}
+use Rattle.cyc_types.specs.declared.refusal.Refusal.TheVariants.{Offline, LastCpu}
 use Rattle.cyc_types.specs.Refusals.{number_of}
 use Rattle.cyc_text.specs.Lines.{refused}
 use Rattle.cyc_script.specs.declared.step.Step.{Step}

@@ -27,7 +27,8 @@ truly_refused e why other is = is
 
 -- a refused step does nothing, but that an `advance` sets the clock
 pub refused_takes : (texts : List (List ℕ)) (step : ℕ) (x : Step) (line : List ℕ) (e : Refusal) (s : State) (m : Machine)
-    → refusal_of plain x s ≡ Some e → line ≡ (refusal step e s).line → Holds (after_refusal x s) m → TakesWord texts step x line s m
+    → refusal_of plain x s ≡ Some e → line ≡ (refusal step e s).line → Holds (after_refusal x s) m → TakesWord texts step x line
+    s m
 refused_takes texts step x line e s m some same h = record {
   given = [];
   line_is = λ indexes gives. same ∙ ap (λ (o : Outcome). o.line) (sym (word_refused texts indexes step x s e some));

@@ -16,8 +16,8 @@ use Rattle.cyc_script.specs.declared.context.Context.{Context}
 use Rattle.cyc_script.specs.declared.step.Step.{Step}
 use Rattle.cyc_script.specs.declared.step.Step.TheVariants.{Advance}
 use Rattle.cyc_script.specs.Names.{AreNames, number_of}
-use Rattle.cyc_script.specs.Parameters.{is_name, shaped, name_in, name_of, level_in_value, soft_of, whole_of, moment_of, skew_of}
-use Rattle.cyc_script.specs.Parameters.{unsigned_of}
+use Rattle.cyc_script.specs.Parameters.{is_name, shaped, name_in, name_of, level_in_value, soft_of, whole_of, moment_of}
+use Rattle.cyc_script.specs.Parameters.{skew_of, unsigned_of}
 use Rattle.cyc_script.specs.Steps.{accepted, first_context, numbered, step_of, steps_of}
 use Rattle.cyc_script.specs.Words.{Form, introduces, refers, advances, nameless, ◌>>=◌, add_of, omni_of, bind_of, unbind_of}
 use Rattle.cyc_script.specs.Words.{reprogram_of, remove_of, advance_of, softint_of, only_cpu, without_parameters, form_of}

@@ -40,6 +40,7 @@ module _ {R : Type 0} (view : R → FiringView) (v : CpusView R) (ys : List (Cpu
     removals = each_kept (ComesBack view) (λ o. option_and_then (λ cpu. cpu.removal) o) (λ x y h. h.removal) v.cpus ys back;
     online = refl;
     most = each_kept (ComesBack view) (λ o. option_map (λ cpu. cpu.most) o) (λ x y h. ap Some h.most) v.cpus ys back;
-    suspended = each_kept (ComesBack view) (λ o. option_map (λ cpu. cpu.suspended) o) (λ x y h. ap Some h.suspended) v.cpus ys back;
+    suspended = each_kept (ComesBack view) (λ o. option_map (λ cpu. cpu.suspended) o) (λ x y h. ap Some h.suspended) v.cpus ys
+        back;
     long = each_long (ComesBack view) v.cpus ys back;
   }

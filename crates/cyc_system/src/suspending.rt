@@ -1,4 +1,4 @@
-//! The system's clock stands still, or goes on.
+//! A system in which no CPU fires for a while.
 
 ghost use Rattle.std.specs.Prelude.{◌≡◌};
 

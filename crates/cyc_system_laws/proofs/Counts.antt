@@ -34,8 +34,7 @@ use Rattle.cyc_system.specs.Calls.{ReprogramOn, Juggle, Offline, Online, FireOne
 use Rattle.cyc_system_laws.specs.Keeping.{EndsRemoval, over_stays}
 use Rattle.cyc_system_laws.specs.Sound.{IsSound}
 use Rattle.cyc_system_laws.proofs.Counted.{all_of, idly, binds_same, unbinds_same, reprograms_same, adds_same, omni_same}
-use Rattle.cyc_system_laws.proofs.Counted.{turns_same}
-use Rattle.cyc_system_laws.proofs.Counted.{turns_sixteen, leaves_same, online_same}
+use Rattle.cyc_system_laws.proofs.Counted.{turns_same, turns_sixteen, leaves_same, online_same}
 use Rattle.cyc_system_laws.proofs.Found.{stays_found, records_found, untouched_stays}
 
 -- the number of a CPU that is there

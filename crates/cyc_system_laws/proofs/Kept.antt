@@ -251,8 +251,10 @@ module _ {R : Type 0} (firing : Raise R) (f : Taken → ℕ) (id : ℕ) where
   stays_kept s t (Online n now answer) a b d ne = by_sums s t a b
       (refused_or _ _ answer s t _ d (λ k. online_stays n now answer s t a.fit.rising ne k))
   stays_kept s t (Suspend answer) a b d ne = by_sums s t a b (refused_or _ _ answer s t _ d
-      (λ k. idle_same f id firing (on_each CpuSuspend (length s.cpus.cpus)) s.cpus t.cpus (idle_each CpuSuspend (length s.cpus.cpus) tt) k.1.0))
+      (λ k. idle_same f id firing (on_each CpuSuspend (length s.cpus.cpus)) s.cpus t.cpus
+      (idle_each CpuSuspend (length s.cpus.cpus) tt) k.1.0))
   stays_kept s t (Resume answer) a b d ne = by_sums s t a b (refused_or _ _ answer s t _ d
-      (λ k. idle_same f id firing (on_each CpuResume (length s.cpus.cpus)) s.cpus t.cpus (idle_each CpuResume (length s.cpus.cpus) tt) k.1.0))
+      (λ k. idle_same f id firing (on_each CpuResume (length s.cpus.cpus)) s.cpus t.cpus
+      (idle_each CpuResume (length s.cpus.cpus) tt) k.1.0))
   stays_kept s t (FireOne n now answer) a b d ne = absurd d
   stays_kept s t (SoftInterrupt n level budget answer) a b d ne = absurd d

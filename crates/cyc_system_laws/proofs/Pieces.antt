@@ -222,7 +222,8 @@ module _ {R : Type 0} (firing : Raise R) where
   made_unshifted own source target e s t (inr (inl (still, n, some, is, works))) records last =
       made_only s t (on source (AskPending own (Some n)) ∷ []) (tt, tt) (λ id. (tt, tt)) (works, records, last)
   made_unshifted own source target e s t (inr (inr (still, works))) records last =
-      made_only s t (on source (AskPending own (Some 0)) ∷ on target (Reserve 1 (Err e)) ∷ []) (tt, (tt, tt)) (λ id. (tt, (tt, tt)))
+      made_only s t (on source (AskPending own (Some 0)) ∷ on target (Reserve 1 (Err e)) ∷ []) (tt, (tt, tt))
+      (λ id. (tt, (tt, tt)))
       (works, records, last)
 
   made_stays : (own home target : ℕ) (e : Refusal) (s t : SystemView R)
@@ -240,7 +241,8 @@ module _ {R : Type 0} (firing : Raise R) where
       (λ id low none. (tt, (tt, (λ same. absurd (omega (arith, next, low, same)), tt))))
       (λ id low none. subst (λ rs. Unnamed id rs) (sym records)
       (unnamed_push id s.records _ none (λ same. absurd (omega (arith, next, low, same)))))
-  made_adds s t level when now (Err e) (d, chosen, inl only) = made_only s t (on d (Reserve 1 (Err e)) ∷ []) (tt, tt) (λ id. (tt, tt)) only
+  made_adds s t level when now (Err e) (d, chosen, inl only) = made_only s t (on d (Reserve 1 (Err e)) ∷ []) (tt, tt)
+      (λ id. (tt, tt)) only
   made_adds s t level when now (Err e) (d, chosen, inr (is, only)) =
       made_only s t (on d (Reserve 1 (Ok tt)) ∷ []) (tt, tt) (λ id. (tt, tt)) only
 
@@ -407,7 +409,8 @@ module _ {R : Type 0} (firing : Raise R) where
       (unmarked_on (quiet n before) (on n (AskPending id (Some found)) ∷ []) (unmarked_quiet n before) (tt, tt))
       (λ q. outs_on q (quiet n before) (on n (AskPending id (Some found)) ∷ []) (outs_quiet q n before) (tt, tt)) only
   leaves n report answer s t (inr (inr (none, is, (u, only, empty, each, off)))) =
-      made_then s u t (made_only s u (quiet n (ids_on n s.cpus)) (unmarked_quiet n (ids_on n s.cpus)) (λ q. outs_quiet q n (ids_on n s.cpus)) only)
+      made_then s u t (made_only s u (quiet n (ids_on n s.cpus)) (unmarked_quiet n (ids_on n s.cpus))
+      (λ q. outs_quiet q n (ids_on n s.cpus)) only)
       (made_then u empty t (retires n (ids_on n s.cpus) u empty each)
       (made_switched n false empty t (ap (λ (x : SystemView R). x.cpus) off) (ap (λ (x : SystemView R). x.records) off)
       (ap (λ (x : SystemView R). x.last) off)))
@@ -424,7 +427,8 @@ module _ {R : Type 0} (firing : Raise R) where
   made_returns n now (Ok done) s t ((w, works, switched), records, last) =
       made_then s (record { cpus = w; records = t.records; last = t.last }) t
       (made_calls s (record { cpus = w; records = t.records; last = t.last })
-      (on n (Reserve (length (staying s)) (Ok tt)) ∷ on n (Widen (length (staying s))) ∷ returns n now (staying s)) (tt, (tt, unmarked_returns n now (staying s))) works
+      (on n (Reserve (length (staying s)) (Ok tt)) ∷ on n (Widen (length (staying s))) ∷ returns n now (staying s))
+      (tt, (tt, unmarked_returns n now (staying s))) works
       (same_low s.last t.last last)
       (λ id low none. (tt, (tt, outs_returns id n now (staying s) (unnamed_filter id (is_staying s.cpus) s.records none))))
       (λ id low none. subst (λ rs. Unnamed id rs) (sym records)
@@ -457,9 +461,11 @@ module _ {R : Type 0} (firing : Raise R) where
   plainly s t (PollRemove id answer) plain d = refused_or _ _ answer s t _ d (λ g. polls id answer s t g)
   plainly s t (AskTotals id answer) plain d = totals id answer s t d
   plainly s t (Reprogram id moment answer) plain d =
-      refused_or _ _ answer s t _ d (λ g. made_only s t (on g.0 (CpuReprogram id moment (Ok tt)) ∷ []) (tt, tt) (λ q. (tt, tt)) (g.2.1))
+      refused_or _ _ answer s t _ d (λ g. made_only s t (on g.0 (CpuReprogram id moment (Ok tt)) ∷ []) (tt, tt) (λ q. (tt, tt))
+      (g.2.1))
   plainly s t (ReprogramOn id n moment answer) plain d =
-      refused_or _ _ answer s t _ d (λ g. made_only s t (on n (CpuReprogram id moment (Ok tt)) ∷ []) (tt, tt) (λ q. (tt, tt)) (g.1))
+      refused_or _ _ answer s t _ d (λ g. made_only s t (on n (CpuReprogram id moment (Ok tt)) ∷ []) (tt, tt) (λ q. (tt, tt))
+      (g.1))
   plainly s t (Juggle n answer) plain d = refused_or _ _ answer s t _ d
       (λ g. (let (report, is, moves) = g in turns n (single_ids n s) report s t moves))
   plainly s t (Offline n answer) plain d = refused_or _ _ answer s t _ d

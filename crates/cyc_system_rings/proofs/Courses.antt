@@ -17,9 +17,8 @@ use Rattle.cyc_system_laws.specs.Laws.{IsUntouched}
 use Rattle.cyc_system_laws.specs.Polling.{PollsRemoval, not_leaving}
 use Rattle.cyc_system_laws.specs.SystemRemoval.TheVariants.{Done, Kept}
 use Rattle.cyc_system_laws.specs.SystemCalls.{SystemCall, Changes, Add, AddOmni, Bind, BeginRemove, PollRemove, AskTotals}
-use Rattle.cyc_system_laws.specs.SystemCalls.{Suspend, Resume}
-use Rattle.cyc_system_laws.specs.SystemCalls.{Reprogram}
-use Rattle.cyc_system_laws.specs.SystemCalls.{ReprogramOn, Juggle, Offline, Online, FireOne, SoftInterrupt}
+use Rattle.cyc_system_laws.specs.SystemCalls.{Suspend, Resume, Reprogram, ReprogramOn, Juggle, Offline, Online, FireOne}
+use Rattle.cyc_system_laws.specs.SystemCalls.{SoftInterrupt}
 use Rattle.cyc_expected.specs.Course.{components_from, Event, Begins, BeginsOnAll, IsSet, IsSetOn, Ends, Passes}
 use Rattle.cyc_expected.specs.Course.{Course, Idle, Single, OnEach, Told, told_after}
 use Rattle.cyc_system_laws.specs.Sound.{IsSound}
@@ -31,8 +30,7 @@ use Rattle.cyc_system_rings.proofs.Runs.{IsTold, make_told, neither, not_so, add
 use Rattle.cyc_system_rings.proofs.Runs.{others_pass, its_own}
 use Rattle.cyc_system_rings.proofs.Beside.{IsPlain, removals_same}
 use Rattle.cyc_system_rings.proofs.Quiet.{IsQuiet, quiet_plain, quiet_untouched, quiet_begun, quiet_polled}
-use Rattle.cyc_system_rings.proofs.Spread.{IsSpread, spread_added}
-use Rattle.cyc_system_rings.proofs.Spread.{new_still}
+use Rattle.cyc_system_rings.proofs.Spread.{IsSpread, spread_added, new_still}
 
 -- what is so after an event of the id or of another
 pub either : (P : Told → Type 0) (b : Bool) (event : Event) (told : Told) → P (told_after event told) → P told

@@ -13,9 +13,8 @@ use Rattle.cyc_system_laws.specs.Laws.{IsUntouched}
 use Rattle.std.specs.Option.{option_map_or, option_map}
 use Rattle.cyc_system_laws.specs.SystemRemoval.TheVariants.{Done, Kept}
 use Rattle.cyc_system_laws.specs.SystemCalls.{SystemCall, Changes, Add, AddOmni, Bind, BeginRemove, PollRemove, AskTotals}
-use Rattle.cyc_system_laws.specs.SystemCalls.{Suspend, Resume}
-use Rattle.cyc_system_laws.specs.SystemCalls.{Reprogram}
-use Rattle.cyc_system_laws.specs.SystemCalls.{ReprogramOn, Juggle, Offline, Online, FireOne, SoftInterrupt}
+use Rattle.cyc_system_laws.specs.SystemCalls.{Suspend, Resume, Reprogram, ReprogramOn, Juggle, Offline, Online, FireOne}
+use Rattle.cyc_system_laws.specs.SystemCalls.{SoftInterrupt}
 use Rattle.cyc_expected.specs.Course.{Event, Begins, BeginsOnAll, IsSet, IsSetOn, Ends, OnEach, Told, told_after}
 use Rattle.cyc_system_laws.proofs.Pieces.{made_of}
 use Rattle.cyc_system_laws.specs.Sound.{IsSound}

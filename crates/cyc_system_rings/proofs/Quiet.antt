@@ -1,7 +1,6 @@
 -- An id of which no CPU fires anything: each CPU that has its cyclic has its removal open.
-use Rattle.std.proofs.Common.{◌≡◌, ◌≢◌, ◌∙◌, ◌==◌, ℕ, zero, suc, ◌+◌, ◌⊎◌, inl, inr, Bool, true, false}
-use Rattle.std.proofs.Common.{Option, Some, None, Ok, Err, List, [], ◌∷◌, map, option_map, refl, sym, ap, subst}
-use Rattle.std.proofs.Common.{arith}
+use Rattle.std.proofs.Common.{◌≡◌, ◌≢◌, ◌∙◌, ◌==◌, ℕ, zero, suc, ◌+◌, ◌⊎◌, inl, inr, Bool, true, false, Option, Some, None, Ok}
+use Rattle.std.proofs.Common.{Err, List, [], ◌∷◌, map, option_map, refl, sym, ap, subst, arith}
 use Rattle.std.specs.Prelude.{not, ◌&&◌}
 use Rattle.std.specs.List.{slice_get, list_any, FoldsTo}
 use Rattle.std.specs.Option.{option_map_or, option_and_then}
@@ -37,9 +36,8 @@ use Rattle.cyc_system_laws.specs.Removing.{Begun, BeginsOn, BeginsRemoval, cpus_
 use Rattle.cyc_system_laws.specs.Polling.{Polled, PollsOn, PollsRemoval}
 use Rattle.cyc_system_laws.specs.SystemRemoval.TheVariants as over
 use Rattle.cyc_system_laws.specs.SystemCalls.{SystemCall, Changes, Add, AddOmni, Bind, BeginRemove, PollRemove, AskTotals}
-use Rattle.cyc_system_laws.specs.SystemCalls.{Suspend, Resume}
-use Rattle.cyc_system_laws.specs.SystemCalls.{Reprogram}
-use Rattle.cyc_system_laws.specs.SystemCalls.{ReprogramOn, Juggle, Offline, Online, FireOne, SoftInterrupt}
+use Rattle.cyc_system_laws.specs.SystemCalls.{Suspend, Resume, Reprogram, ReprogramOn, Juggle, Offline, Online, FireOne}
+use Rattle.cyc_system_laws.specs.SystemCalls.{SoftInterrupt}
 use Rattle.cyc_system_laws.specs.Sound.{IsSound}
 use Rattle.cyc_system_laws.specs.Keeping.{TouchesRecord}
 use Rattle.cyc_system_rings.proofs.Singles.{ok_err}

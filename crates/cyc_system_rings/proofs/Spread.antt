@@ -1,7 +1,6 @@
 -- An omnipresent cyclic, by the components that its CPUs have.
-use Rattle.std.proofs.Common.{◌≡◌, ◌≢◌, ◌∙◌, ◌==◌, ℕ, zero, suc, ◌+◌, ◌<◌, ◌≤◌, inl, inr, Bool, true, false, cond, Option}
-use Rattle.std.proofs.Common.{Some, None, Ok, Err, List, [], ◌∷◌, length, get_or, slice_set, option_map, refl, sym, ap}
-use Rattle.std.proofs.Common.{subst, arith}
+use Rattle.std.proofs.Common.{◌≡◌, ◌≢◌, ◌∙◌, ◌==◌, ℕ, zero, suc, ◌+◌, ◌<◌, ◌≤◌, inl, inr, Bool, true, false, cond, Option, Some}
+use Rattle.std.proofs.Common.{None, Ok, Err, List, [], ◌∷◌, length, get_or, slice_set, option_map, refl, sym, ap, subst, arith}
 use Rattle.std.specs.Prelude.{◌&&◌, not}
 use Rattle.std.specs.List.{slice_get, list_any}
 use Rattle.std.specs.Option.{option_map_or, option_and_then}
@@ -38,9 +37,8 @@ use Rattle.cyc_system_laws.specs.Laws.{cyclic_in, cyclic_on}
 use Rattle.cyc_agreement.specs.Omni.{component_first as cpu_first}
 use Rattle.cyc_agreement.specs.Online.{online_cpu}
 use Rattle.cyc_system_laws.specs.SystemCalls.{SystemCall, Changes, Add, AddOmni, Bind, BeginRemove, PollRemove, AskTotals}
-use Rattle.cyc_system_laws.specs.SystemCalls.{Suspend, Resume}
-use Rattle.cyc_system_laws.specs.SystemCalls.{Reprogram}
-use Rattle.cyc_system_laws.specs.SystemCalls.{ReprogramOn, Juggle, Offline, Online, FireOne, SoftInterrupt}
+use Rattle.cyc_system_laws.specs.SystemCalls.{Suspend, Resume, Reprogram, ReprogramOn, Juggle, Offline, Online, FireOne}
+use Rattle.cyc_system_laws.specs.SystemCalls.{SoftInterrupt}
 use Rattle.cyc_system_laws.proofs.Pieces.{made_of}
 use Rattle.cyc_expected.specs.Course.{component_first, components_from}
 use Rattle.cyc_system_laws.specs.Sound.{IsSound}

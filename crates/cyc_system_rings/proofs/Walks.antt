@@ -35,9 +35,8 @@ use Rattle.cyc_agreement.specs.Omni.{AddsOmni, entering_each, component_first}
 use Rattle.cyc_agreement.specs.Online.{staying, returns, return_at, switched_on}
 use Rattle.cyc_system_laws.specs.Counting.{asked}
 use Rattle.cyc_system_laws.specs.SystemCalls.{SystemCall, Changes, Add, AddOmni, Bind, BeginRemove, PollRemove, AskTotals}
-use Rattle.cyc_system_laws.specs.SystemCalls.{Suspend, Resume}
-use Rattle.cyc_system_laws.specs.SystemCalls.{Reprogram}
-use Rattle.cyc_system_laws.specs.SystemCalls.{ReprogramOn, Juggle, Offline, Online, FireOne, SoftInterrupt}
+use Rattle.cyc_system_laws.specs.SystemCalls.{Suspend, Resume, Reprogram, ReprogramOn, Juggle, Offline, Online, FireOne}
+use Rattle.cyc_system_laws.specs.SystemCalls.{SoftInterrupt}
 use Rattle.cyc_system_laws.proofs.Idle.{IsIdle, AreIdle, idle_on, idle_rooms, idle_reserves, idle_quiet, idle_each, idle_asked}
 use Rattle.cyc_system_rings.proofs.Runs.{neither}
 
@@ -334,9 +333,11 @@ module _ {R : Type 0} (firing : Raise R) (K : CpusView R → CpusView R → Type
   kept s t (Online n now (Ok done)) d needs = online_ok n now s t d needs
   kept s t (Online n now (Err e)) d needs = refused_or _ _ _ s t _ d (λ clear k.
       idles (on n (Reserve (length (staying s)) (Err e)) ∷ []) s.cpus t.cpus (tt, tt) k.1.0)
-  kept s t (Suspend answer) d needs = refused_or _ _ _ s t _ d (λ clear k. idles (on_each CpuSuspend (length s.cpus.cpus)) s.cpus t.cpus
+  kept s t (Suspend answer) d needs = refused_or _ _ _ s t _ d (λ clear k. idles (on_each CpuSuspend (length s.cpus.cpus)) s.cpus
+      t.cpus
       (idle_each CpuSuspend (length s.cpus.cpus) tt) k.1.0)
-  kept s t (Resume answer) d needs = refused_or _ _ _ s t _ d (λ clear k. idles (on_each CpuResume (length s.cpus.cpus)) s.cpus t.cpus
+  kept s t (Resume answer) d needs = refused_or _ _ _ s t _ d (λ clear k. idles (on_each CpuResume (length s.cpus.cpus)) s.cpus
+      t.cpus
       (idle_each CpuResume (length s.cpus.cpus) tt) k.1.0)
   kept s t (FireOne n now answer) d needs = absurd d
   kept s t (SoftInterrupt n level budget answer) d needs = absurd d

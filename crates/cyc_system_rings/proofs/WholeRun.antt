@@ -1,7 +1,6 @@
 -- A whole run: what is told of an id is so at its end, or its receipt says it.
-use Rattle.std.proofs.Common.{◌≡◌, ◌≢◌, ◌∙◌, ◌==◌, ℕ, suc, ◌+◌, ◌<◌, ◌≤◌, inl, inr, All, Bool, true, false, cond, Option}
-use Rattle.std.proofs.Common.{Some, None, Ok, Err, List, [], ◌∷◌, length, refl, sym, ap, subst}
-use Rattle.std.proofs.Common.{arith}
+use Rattle.std.proofs.Common.{◌≡◌, ◌≢◌, ◌∙◌, ◌==◌, ℕ, suc, ◌+◌, ◌<◌, ◌≤◌, inl, inr, All, Bool, true, false, cond, Option, Some}
+use Rattle.std.proofs.Common.{None, Ok, Err, List, [], ◌∷◌, length, refl, sym, ap, subst, arith}
 use Rattle.std.specs.Prelude.{replicate, sum_by, not, is_some}
 use Rattle.std.specs.List.{slice_get, FoldsTo}
 use Rattle.std.specs.Option.{option_map_or}
@@ -32,9 +31,8 @@ use Rattle.cyc_system_laws.specs.Polling.{not_leaving}
 use Rattle.cyc_system_laws.specs.Removing.{unknown_cyclic}
 use Rattle.cyc_system_laws.specs.SystemRemoval.TheVariants.{Done}
 use Rattle.cyc_system_laws.specs.SystemCalls.{SystemCall, Changes, Add, AddOmni, Bind, BeginRemove, PollRemove, AskTotals}
-use Rattle.cyc_system_laws.specs.SystemCalls.{Suspend, Resume}
-use Rattle.cyc_system_laws.specs.SystemCalls.{Reprogram}
-use Rattle.cyc_system_laws.specs.SystemCalls.{ReprogramOn, Juggle, Offline, Online, FireOne, SoftInterrupt}
+use Rattle.cyc_system_laws.specs.SystemCalls.{Suspend, Resume, Reprogram, ReprogramOn, Juggle, Offline, Online, FireOne}
+use Rattle.cyc_system_laws.specs.SystemCalls.{SoftInterrupt}
 use Rattle.cyc_system_workers.specs.declared.side.SystemSide.{SystemSide}
 use Rattle.cyc_system_workers.specs.declared.advancing.Advanced.{Advanced}
 use Rattle.cyc_system_workers.specs.Advancing.{AllFire}
@@ -56,8 +54,7 @@ use Rattle.cyc_system_rings.proofs.Singles.{ok_err}
 use Rattle.cyc_system_rings.proofs.Runs.{neither, not_so, add_next, omni_next, others_pass, its_own, fires_single, asks_single}
 use Rattle.cyc_system_rings.proofs.Runs.{sound_after, step_ready}
 use Rattle.cyc_system_rings.proofs.Beside.{online_of, online_after, found_at, has_same}
-use Rattle.cyc_system_rings.proofs.Firing.{fired_removal, quiet_fired, quiet_counts, asked_cyclic, asked_removals}
-use Rattle.cyc_system_rings.proofs.Firing.{asked_counts}
+use Rattle.cyc_system_rings.proofs.Firing.{fired_removal, quiet_fired, quiet_counts, asked_cyclic, asked_removals, asked_counts}
 use Rattle.cyc_system_rings.proofs.Spreading.{map_long, spread_fired, spread_counts, spread_asked}
 use Rattle.cyc_system_rings.proofs.Courses.{IsOn, either, idle_call, single_call}
 use Rattle.cyc_system_rings.proofs.Everywhere.{each_call}

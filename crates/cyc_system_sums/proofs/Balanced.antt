@@ -31,9 +31,8 @@ use Rattle.cyc_system_laws.specs.Counts.{all_expired, all_lost, AreLawful}
 use Rattle.cyc_system_laws.proofs.Forgetting.{begins_forgotten, polls_forgotten}
 use Rattle.cyc_system_laws.proofs.Sums.{sum_none}
 use Rattle.cyc_system_laws.specs.SystemCalls.{SystemCall, Changes, Does, Add, AddOmni, Bind, BeginRemove, PollRemove, AskTotals}
-use Rattle.cyc_system_laws.specs.SystemCalls.{Suspend, Resume}
-use Rattle.cyc_system_laws.specs.SystemCalls.{Reprogram}
-use Rattle.cyc_system_laws.specs.SystemCalls.{ReprogramOn, Juggle, Offline, Online, FireOne, SoftInterrupt}
+use Rattle.cyc_system_laws.specs.SystemCalls.{Suspend, Resume, Reprogram, ReprogramOn, Juggle, Offline, Online, FireOne}
+use Rattle.cyc_system_laws.specs.SystemCalls.{SoftInterrupt}
 use Rattle.cyc_system_laws.specs.Gone.{AreLevelsLawful}
 use Rattle.cyc_system_laws.proofs.Over.{at_one}
 use Rattle.cyc_system_laws.specs.Sound.{IsSound}

@@ -37,9 +37,8 @@ use Rattle.cyc_system_laws.proofs.Recording.{found}
 use Rattle.cyc_system_laws.specs.Counts.{all_expired, all_lost}
 use Rattle.cyc_system_laws.proofs.Sums.{sum_none, one_of_sum}
 use Rattle.cyc_system_laws.specs.SystemCalls.{SystemCall, Changes, Does, Add, AddOmni, Bind, BeginRemove, PollRemove, AskTotals}
-use Rattle.cyc_system_laws.specs.SystemCalls.{Suspend, Resume}
-use Rattle.cyc_system_laws.specs.SystemCalls.{Reprogram}
-use Rattle.cyc_system_laws.specs.SystemCalls.{ReprogramOn, Juggle, Offline, Online, FireOne, SoftInterrupt}
+use Rattle.cyc_system_laws.specs.SystemCalls.{Suspend, Resume, Reprogram, ReprogramOn, Juggle, Offline, Online, FireOne}
+use Rattle.cyc_system_laws.specs.SystemCalls.{SoftInterrupt}
 use Rattle.cyc_system_laws.specs.Sound.{IsSound}
 use Rattle.cyc_system_laws.specs.Keeping.{EndsRemoval}
 use Rattle.cyc_system_sums.specs.Totalling.{Steps, expirations_in, losses_in}

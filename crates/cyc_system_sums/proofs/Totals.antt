@@ -29,13 +29,12 @@ use Rattle.cyc_system_laws.specs.System.{SystemView, RunningSystem}
 use Rattle.cyc_system_laws.proofs.Recording.{found}
 use Rattle.cyc_system_laws.specs.Counts.{all_expired, all_lost}
 use Rattle.cyc_system_laws.specs.SystemCalls.{SystemCall, Changes, Does, Add, AddOmni, Bind, BeginRemove, PollRemove, AskTotals}
-use Rattle.cyc_system_laws.specs.SystemCalls.{Suspend, Resume}
-use Rattle.cyc_system_laws.specs.SystemCalls.{Reprogram}
-use Rattle.cyc_system_laws.specs.SystemCalls.{ReprogramOn, Juggle, Offline, Online, FireOne, SoftInterrupt, no_fire}
+use Rattle.cyc_system_laws.specs.SystemCalls.{Suspend, Resume, Reprogram, ReprogramOn, Juggle, Offline, Online, FireOne}
+use Rattle.cyc_system_laws.specs.SystemCalls.{SoftInterrupt, no_fire}
 use Rattle.cyc_system_laws.specs.Sound.{IsSound}
 use Rattle.cyc_system_laws.specs.Keeping.{EndsRemoval}
-use Rattle.cyc_system_sums.specs.Totalling.{fired_in, expirations_in, expirations_along, losses_of_fire, losses_in, losses_along}
-use Rattle.cyc_system_sums.specs.Totalling.{Steps}
+use Rattle.cyc_system_sums.specs.Totalling.{fired_in, expirations_in, expirations_along, losses_of_fire, losses_in}
+use Rattle.cyc_system_sums.specs.Totalling.{losses_along, Steps}
 use Rattle.cyc_system_laws.proofs.Flow.{on_cpu, on_cpus, sum_set}
 use Rattle.cyc_system_laws.proofs.Found.{stays_found}
 use Rattle.cyc_system_laws.proofs.Counts.{counts_same}

@@ -176,7 +176,8 @@ module _ {C R : Type 0} (handler : Calls C)
   stays_next given has x s t d none same agree stays = record {
     next = record {
       agree = agree;
-      fits = subst (λ (k : ℕ). Fits firing cpus names k (cond (is_taken cpus suspended has x) (after_step x has) has) t) (sym none)
+      fits = subst (λ (k : ℕ). Fits firing cpus names k (cond (is_taken cpus suspended has x) (after_step x has) has) t)
+          (sym none)
           (subst (λ (f : ℕ → Standing). Fits firing cpus names given (cond (is_taken cpus suspended has x) f has) t) (sym same)
           (same_has firing cpus names given has (is_taken cpus suspended has x) t stays.fits));
     };

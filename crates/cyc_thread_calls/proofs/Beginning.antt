@@ -1,6 +1,5 @@
 -- Before the first step no name has anything, all CPUs are online, and nothing is open.
-use Rattle.std.proofs.Common.{refl}
-use Rattle.std.proofs.Common.{false}
+use Rattle.std.proofs.Common.{refl, false}
 use Rattle.std.specs.Option.{option_map, option_map_or}
 use Rattle.cyc_agreement.specs.Suspending.{is_suspended}
 use Rattle.std.proofs.Common.{◌≡◌, ◌∙◌, ℕ, zero, suc, ◌-◌, true, Some, None, List, [], ◌∷◌, length, map, replicate}

@@ -37,8 +37,7 @@ use Rattle.cyc_system_rings.specs.Turn.{Turn}
 use Rattle.cyc_system_rings.specs.Turn.TheVariants.{StaysBound, StaysPending, StaysRefused, Moves}
 use Rattle.cyc_system_rings.specs.Juggling.{TakesTurn, Turns, single_ids}
 use Rattle.cyc_system_rings.specs.Omni.{AddsOmni, entering_each}
-use Rattle.cyc_threads.specs.Calls.{SystemCall, Changes, Add, AddOmni, Bind, BeginRemove, PollRemove, Reprogram}
-use Rattle.cyc_threads.specs.Calls.{ReprogramOn}
+use Rattle.cyc_threads.specs.Calls.{SystemCall, Changes, Add, AddOmni, Bind, BeginRemove, PollRemove, Reprogram, ReprogramOn}
 use Rattle.cyc_threads.specs.Calls.{Juggle}
 
 -- no removal is open on any CPU
@@ -236,9 +235,11 @@ module _ {R : Type 0} (firing : Raise R) where
   keeps_call s t (Juggle n answer) d quiet = refused_or _ _ answer s t _ d
       (λ g. (let (report, is, moves) = g in keeps_turns n (single_ids n s) report s t moves))
   keeps_call s t (Suspend answer) d quiet = refused_or _ _ answer s t _ d
-      (λ g. keeps_works (on_each CpuSuspend (length s.cpus.cpus)) s.cpus t.cpus (plain_each CpuSuspend (length s.cpus.cpus) tt) g.1.0)
+      (λ g. keeps_works (on_each CpuSuspend (length s.cpus.cpus)) s.cpus t.cpus (plain_each CpuSuspend (length s.cpus.cpus) tt)
+      g.1.0)
   keeps_call s t (Resume answer) d quiet = refused_or _ _ answer s t _ d
-      (λ g. keeps_works (on_each CpuResume (length s.cpus.cpus)) s.cpus t.cpus (plain_each CpuResume (length s.cpus.cpus) tt) g.1.0)
+      (λ g. keeps_works (on_each CpuResume (length s.cpus.cpus)) s.cpus t.cpus (plain_each CpuResume (length s.cpus.cpus) tt)
+      g.1.0)
   keeps_call s t call d quiet = absurd quiet
 
   -- ---- a removal takes no CPU offline, and gives no id

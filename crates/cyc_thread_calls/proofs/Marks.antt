@@ -1,6 +1,5 @@
 -- Whether the system is suspended, from step to step.
-use Rattle.std.proofs.Common.{◌≡◌, ◌∙◌, ℕ, ◌<◌, inl, inr, Bool, true, false, not, Option, Some, None, Result, List, []}
-use Rattle.std.proofs.Common.{◌∷◌}
+use Rattle.std.proofs.Common.{◌≡◌, ◌∙◌, ℕ, ◌<◌, inl, inr, Bool, true, false, not, Option, Some, None, Result, List, [], ◌∷◌}
 use Rattle.std.proofs.Common.{length, option_map, refl, sym, ap, arith}
 use Rattle.std.specs.Prelude.{is_ok}
 use Rattle.std.specs.List.{slice_get, FoldsTo}

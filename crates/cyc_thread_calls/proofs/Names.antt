@@ -1,7 +1,6 @@
 -- What each name has while a run takes its steps.
 use Rattle.std.proofs.Common.{◌≡◌, ◌≢◌, ◌∙◌, ℕ, ◌<◌, ◌≤◌, ◌==◌, inl, inr, List, [], ◌∷◌, ◌++◌, Option, Some, None, Result, Ok}
-use Rattle.std.proofs.Common.{Err}
-use Rattle.std.proofs.Common.{cond, refl, sym, ap, subst, arith, replicate}
+use Rattle.std.proofs.Common.{Err, cond, refl, sym, ap, subst, arith, replicate}
 use Rattle.std.specs.Prelude.{Bool, true, false}
 use Rattle.std.specs.List.{FoldsTo}
 use Rattle.std.specs.Option.{option_map_or}

@@ -38,7 +38,8 @@ lt_so a b e = grind (arith, nat_tests, e)
 
 module _ {C R : Type 0} (handler : Calls C)
     (firing : Raise R) (cpus names : ℕ) (few : names ≤ most_cyclics) where
-  abbrev Next' : (suspended : Bool) (given : ℕ) (has : ℕ → Standing) (x : Step) (s t : Progress R C) → Does handler firing x s t → Type 0
+  abbrev Next' : (suspended : Bool) (given : ℕ) (has : ℕ → Standing) (x : Step) (s t : Progress R C) → Does handler firing x s t
+      → Type 0
   Next' suspended given has x s t d = NextCalm handler firing cpus names few suspended given has x s t d
 
   -- what is true stays to the end
@@ -46,8 +47,10 @@ module _ {C R : Type 0} (handler : Calls C)
   Ends t = (given : ℕ) × (has : ℕ → Standing) × Fits firing cpus names given has t
 
   -- what is to be shown of the steps that are left
-  abbrev Agree : (suspended : Bool) (has : ℕ → Standing) (xs : List Step) (s t : Progress R C) → TakesSteps handler firing s xs t → Type 0
-  Agree suspended has xs s t takes = AgreeButMoves (steps_met handler firing s xs t takes) (taken_from cpus suspended has xs) × Ends t
+  abbrev Agree : (suspended : Bool) (has : ℕ → Standing) (xs : List Step) (s t : Progress R C) → TakesSteps handler firing s xs t
+      → Type 0
+  Agree suspended has xs s t takes = AgreeButMoves (steps_met handler firing s xs t takes) (taken_from cpus suspended has xs) ×
+      Ends t
 
   -- what is known of them
   record Left (b : Bool) (given m : ℕ) (suspended : Bool) (has : ℕ → Standing) (xs : List Step) (s t : Progress R C)
@@ -341,7 +344,8 @@ module _ {C R : Type 0} (handler : Calls C)
 
   -- the whole run, after which there are as many names as before it
   pub run_agrees : (xs : List Step) (s t : Progress R C) (runs : Runs handler firing s xs t)
-      → Fits firing cpus names 0 (λ name. Absent) s → IsCalmNow firing s → is_suspended s.side.system ≡ false → Spaced true xs → names_fit 0 xs ≡ true
+      → Fits firing cpus names 0 (λ name. Absent) s → IsCalmNow firing s → is_suspended s.side.system ≡ false → Spaced true xs →
+      names_fit 0 xs ≡ true
       → names_after_all 0 xs ≡ names → moments_fit 0 xs ≡ true
       → NoMemoryRefused (run_calls handler firing s xs t runs)
       → AgreeButMoves (way_of handler firing s xs t runs) (calm_way cpus xs) × (length t.names ≡ names)

@@ -1,6 +1,6 @@
 -- Which steps of a calm script are accepted, told from the script alone: no CPU, level or thread matters.
-use Rattle.std.specs.Prelude.{ℕ, ◌==◌, ◌&&◌, nat_lt, not, int_lt, ℤ, pos, Bool, true, false, if◌then◌else◌, List, [], ◌∷◌, Option}
-use Rattle.std.specs.Prelude.{Some, None}
+use Rattle.std.specs.Prelude.{ℕ, ◌==◌, ◌&&◌, nat_lt, not, int_lt, ℤ, pos, Bool, true, false, if◌then◌else◌, List, [], ◌∷◌}
+use Rattle.std.specs.Prelude.{Option, Some, None}
 use Rattle.cyc_script.specs.declared.step.Step.{Step}
 use Rattle.cyc_script.specs.declared.step.Step.TheVariants.{Add, Omni, Bind, Unbind, Reprogram, Remove, Advance, Softint, Juggle}
 use Rattle.cyc_script.specs.declared.step.Step.TheVariants.{Offline, Online, Suspend, Resume}
@@ -38,8 +38,8 @@ may_reprogram cpus OnAll None = false
 may_reprogram cpus OnAll (Some n) = nat_lt n cpus
 
 -- A step is accepted, where the names have this. Each CPU has room for all names. A word that moves cyclics, holds them where
--- they are or calls handlers counts as accepted, since it changes no count. No CPU goes offline, and so none comes back. While the
--- system is suspended no `advance` is accepted.
+-- they are or calls handlers counts as accepted, since it changes no count. No CPU goes offline, and so none comes back. While
+-- the system is suspended no `advance` is accepted.
 abbrev pub is_taken : ℕ → Bool → (ℕ → Standing) → Step → Bool
 is_taken cpus suspended has (Add a) = is_series a.start a.interval
 is_taken cpus suspended has (Omni a) = is_series a.start a.interval

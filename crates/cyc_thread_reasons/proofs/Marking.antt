@@ -81,7 +81,8 @@ module _ {C R : Type 0} (firing : Raise R) (names given : ℕ) (told : Known) (s
         after = after;
       }
       by false unmet met after = let off = sym met ∙ unmet in record {
-        outcome = refused firing names given told steps.Resume t (Some (Make (Resume answer))) ⊥ unmet (inl (ap not off)) fits calm;
+        outcome = refused firing names given told steps.Resume t (Some (Make (Resume answer))) ⊥ unmet (inl (ap not off)) fits
+            calm;
         marks = ap (λ (b : Bool). (cond b (after_accepted steps.Resume told) told).suspended) unmet ∙ off;
         after = after;
       }

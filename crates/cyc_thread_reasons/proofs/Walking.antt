@@ -119,7 +119,6 @@ module _ {C R : Type 0} (handler : Calls C) (firing : Raise R) (names : ℕ) (fe
   next given m told (steps.Online n) s t (answer, d) h q marks waited here space early =
       let o = online_of firing names given told s t h (waited refl) n answer d in
       record { why = o.why; fits = o.fits; calm = o.calm }
-
   next given m told steps.Suspend s t (answer, d) h q marks waited here space early =
       let o = (suspend_of firing names given told s t h (waited refl) marks answer d).outcome in
       record { why = o.why; fits = o.fits; calm = o.calm }
@@ -208,7 +207,8 @@ module _ {C R : Type 0} (handler : Calls C) (firing : Raise R) (names : ℕ) (fe
 
   -- the whole run
   pub run_explained : (told : Known) (xs : List Step) (s t : Progress R C) (runs : Runs handler firing s xs t)
-      → Fits firing names 0 told s → Calm firing told s → is_suspended s.side.system ≡ told.suspended → names_fit 0 xs ≡ true → names_after_all 0 xs ≡ names
+      → Fits firing names 0 told s → Calm firing told s → is_suspended s.side.system ≡ told.suspended → names_fit 0 xs ≡ true →
+      names_after_all 0 xs ≡ names
       → moments_fit 0 xs ≡ true → AllExplained handler firing told s xs t runs
   run_explained told xs s t (u, takes, waits) fits calm marks order all moments = explain 0 0 told xs s u takes (record {
     fits = fits;

@@ -1,6 +1,5 @@
--- What the accepted steps of a run in threads tell: which CPUs are online, whether the system is suspended, and what each name has
--- (our own rule). On which CPU a
--- cyclic is that is not bound isn't told: a move to another may be refused for want of memory.
+-- What the accepted steps of a run in threads tell: which CPUs are online, whether the system is suspended, and what each name
+-- has (our own rule). On which CPU a cyclic is that is not bound isn't told: a move to another may be refused for want of memory.
 use Rattle.std.specs.Prelude.{ℕ, Bool, true, false, if◌then◌else◌, List, replicate, slice_set, slice_index_or, Option, Some, None}
 use Rattle.cyc_script.specs.declared.step.Step.{Step}
 use Rattle.cyc_script.specs.declared.step.Step.TheVariants.{Add, Omni, Bind, Unbind, Remove, Offline, Online, Suspend, Resume}

@@ -1,6 +1,5 @@
 -- What each call of a lead keeps, and its fires and its waits, a whole run keeps.
-use Rattle.std.proofs.Common.{inl, inr}
-use Rattle.std.proofs.Common.{◌≡◌, ℕ, List, [], ◌∷◌, sym, subst}
+use Rattle.std.proofs.Common.{inl, inr, ◌≡◌, ℕ, List, [], ◌∷◌, sym, subst}
 use Rattle.std.specs.Prelude.{Bool, true, false}
 use Rattle.std.specs.List.{FoldsTo}
 use Rattle.cyc_types.specs.declared.Calls.{Ghosts as Calls}
@@ -56,7 +55,8 @@ module _ {C R : Type 0} (handler : Calls C)
       (λ id p. go (calls r.name _ s t p.1)) (λ e. go (is_same s t e))) (λ e. go (is_same s t e))
   does_all L (steps.Remove name) s t go fires d = with_id (id_of (named_at s.names name)) _ L (t ≡ s) d
       (λ id p. go (calls name _ s t p.1)) (λ e. go (is_same s t e))
-  does_all L (steps.Advance now) s t go fires (inl (asleep, same)) = go (subst (λ (x : Progress R C). K s x) (sym same) (sets now s))
+  does_all L (steps.Advance now) s t go fires (inl (asleep, same)) = go
+      (subst (λ (x : Progress R C). K s x) (sym same) (sets now s))
   does_all L (steps.Advance now) s t go fires (inr d) = fires now d
   does_all L (steps.Softint i) s t go fires d = go (is_same s t d)
   does_all L (steps.Juggle n) s t go fires d = go (calls 0 _ s t d.1)

@@ -1,6 +1,5 @@
 -- There stays something to lead each CPU.
-use Rattle.std.proofs.Common.{inl, inr}
-use Rattle.std.proofs.Common.{◌≡◌, ℕ, List, [], ◌∷◌, length, sym, ap, ◌∙◌}
+use Rattle.std.proofs.Common.{inl, inr, ◌≡◌, ℕ, List, [], ◌∷◌, length, sym, ap, ◌∙◌}
 use Rattle.std.specs.Prelude.{Bool, true, false}
 use Rattle.std.specs.List.{FoldsTo}
 use Rattle.std.proofs.lemmas.List.{length-set}
@@ -73,7 +72,8 @@ module _ {C R : Type 0} (handler : Calls C) (firing : Raise R) where
       (λ id p. calls_ready r.name _ s t p.1 ready) (λ e. same_ready s t e ready)) (λ e. same_ready s t e ready)
   does_ready (steps.Remove name) s t d ready = with_id (id_of (named_at s.names name)) _ (IsReady t) (t ≡ s) d
       (λ id p. calls_ready name _ s t p.1 ready) (λ e. same_ready s t e ready)
-  does_ready (steps.Advance now) s t (inl (asleep, same)) ready = ap (λ (p : Progress R C). length p.side.leads.items) same ∙ ready
+  does_ready (steps.Advance now) s t (inl (asleep, same)) ready = ap (λ (p : Progress R C). length p.side.leads.items) same ∙
+      ready
       ∙ ap (λ (p : Progress R C). length p.side.system.cpus.cpus) (sym same)
   does_ready (steps.Advance now) s t (inr d) ready = fires_ready now s t d ready
   does_ready (steps.Softint i) s t d ready = same_ready s t d ready

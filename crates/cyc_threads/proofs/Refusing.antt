@@ -36,7 +36,8 @@ module _ {C R : Type 0} (handler : Calls C) (firing : Raise R) where
   halts_at xs i x s t h low is p q = inr (record { place = i; last = x; here = (low, is); before = t; taken = p; halts = q })
 
   -- a fire of all CPUs that ended the run, and one that did not
-  pub fire_halts : (now now' : ℕ) (s : Progress R C) → is_suspended s.side.system ≡ false → (after : Advanced R C) (answers : List (Option (Result Fired FireRefused)))
+  pub fire_halts : (now now' : ℕ) (s : Progress R C) → is_suspended s.side.system ≡ false → (after : Advanced R C)
+      (answers : List (Option (Result Fired FireRefused)))
       (n : ℕ) (why : Refusal)
       → now' ≡ now → AllFire handler firing now' s.side after → answers ≡ after.answers.items
       → IsFirstRefused answers n why
@@ -48,7 +49,8 @@ module _ {C R : Type 0} (handler : Calls C) (firing : Raise R) where
     subst (λ xs. IsFirstRefused xs n why) is q,
   )
 
-  pub fires : (now now' : ℕ) (s : Progress R C) → is_suspended s.side.system ≡ false → (after : Advanced R C) (answers : List (Option (Result Fired FireRefused)))
+  pub fires : (now now' : ℕ) (s : Progress R C) → is_suspended s.side.system ≡ false → (after : Advanced R C)
+      (answers : List (Option (Result Fired FireRefused)))
       → now' ≡ now → AllFire handler firing now' s.side after → answers ≡ after.answers.items
       → ((n : ℕ) → refusal_at answers n ≡ None) → IsSound firing.view after.side.system
       → Fires handler firing now s (record { side = after.side; clock = now'; names = s.names })

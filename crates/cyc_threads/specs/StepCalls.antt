@@ -69,8 +69,8 @@ pub record IsFirstRefused (answers : List (Option (Result Fired FireRefused))) (
   pub here : refusal_at answers n ≡ Some why
   pub first : (m : ℕ) → m < n → refusal_at answers m ≡ None
 
--- the system was not suspended: all online CPUs fired at this moment, each in a thread of its own, and none was refused; the clock
--- stands at it
+-- the system was not suspended: all online CPUs fired at this moment, each in a thread of its own, and none was refused; the
+-- clock stands at it
 pub record Fires {C R : Type 0} (handler : Calls C)
     (firing : Raise R) (now : ℕ) (s t : Progress R C) : Type 0 where
   pub awake : is_suspended s.side.system ≡ false

@@ -102,8 +102,9 @@ fn take_step<W: Threads + Wait + Sync, R: Raise + Send + Drop, C: Calls + Send +
 ///
 /// Each word is one call of the system, at the clock; a refused one changes nothing and the steps go on, also where memory
 /// was refused. An `advance` fires all online CPUs, each in a thread of its own, and ends when they have; while the system is
-/// suspended it sets the clock alone, and starts no thread. A `softint` does nothing, since other threads drain the levels all the while. Every other word but `remove` waits first until each open
-/// removal has answered and each CPU has settled, and wakes the draining workers between two questions.
+/// suspended it sets the clock alone, and starts no thread. A `softint` does nothing, since other threads drain the levels all
+/// the while. Every other word but `remove` waits first until each open removal has answered and each CPU has settled, and wakes
+/// the draining workers between two questions.
 ///
 /// It ends early where memory or a thread for an `advance` was refused, or a fire was, and where a handler of a draining worker
 /// refused; what it had is then dropped.

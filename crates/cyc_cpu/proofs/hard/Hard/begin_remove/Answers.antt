@@ -12,8 +12,7 @@ use Rattle.cyc_cpu.specs.Removal.{calls_at, HasPolled}
 use Rattle.cyc_cpu.proofs.Lawful.{spared_row}
 use Rattle.cyc_cpu.proofs.Cyclics.{is_cyclic, no_cyclic, cyclics_set}
 use Rattle.cyc_cpu.proofs.Removals.{hard_opened, hard_left, begun_left, no_mark, cyclics_less, opens_from, leaves_from}
-use Rattle.cyc_cpu.proofs.Removals.{has_polled}
-use Rattle.cyc_cpu.proofs.Removals.{begun_sent}
+use Rattle.cyc_cpu.proofs.Removals.{has_polled, begun_sent}
 use Rattle.cyc_cpu.proofs.hard.Hard.begin_remove.Goals as goal
 
 pub returns-in_default : goal.returns-in_default

@@ -37,4 +37,5 @@ returns g c =
     no_interrupts (running c.args.calls.now v) (Fire c.args.now c.fire_all.result) (running n.calls w)) c.self.view_is
     (fired g.C.Calls g.R.Raise no_interrupts c.args.now
     (running c.args.calls.now u) (running n.calls w) (record { awake = c.if-self.false; early = early })
-    (record { removal = refl; size = e.size; room = e.room; most = refl; suspended = refl }) c.fire_all.result e.expired e.next e.made e.refused)
+    (record { removal = refl; size = e.size; room = e.room; most = refl; suspended = refl }) c.fire_all.result e.expired e.next
+    e.made e.refused)

@@ -17,7 +17,8 @@ row_here id place rows (c, here, named) =
 pub invariant_of-self : goal.invariant_of-self
 invariant_of-self g c =
     let i = c.self.inside in let id = c.args.id in let place = c.args.place in let rows = i.table.rows in
-    let (r, is, named) = row_here id place rows (subst (λ (v : CpuView _). (x : Cyclic) × IsCyclic v.cyclics place x × (x.timer.id ≡ id))
+    let (r, is, named) = row_here id place rows (subst (λ (v : CpuView _). (x : Cyclic) × IsCyclic v.cyclics place x ×
+    (x.timer.id ≡ id))
     (sym c.self.view_is) c.requires.here) in
     let still : i.removal ≢ Some r.timer.id =
     λ q. c.requires.still (sym (ap (λ (v : CpuView _). v.removal) c.self.view_is) ∙ q ∙ ap Some named) in
@@ -33,7 +34,8 @@ pub returns : goal.returns
 returns g c =
     let i = c.self.inside in let id = c.args.id in let place = c.args.place in let rows = i.table.rows in
     let v = c.self.view_is in
-    let (r, is, named) = row_here id place rows (subst (λ (x : CpuView _). (y : Cyclic) × IsCyclic x.cyclics place y × (y.timer.id ≡ id))
+    let (r, is, named) = row_here id place rows (subst (λ (x : CpuView _). (y : Cyclic) × IsCyclic x.cyclics place y ×
+    (y.timer.id ≡ id))
     (sym v) c.requires.here) in (
       place,
       cyclic_of r,

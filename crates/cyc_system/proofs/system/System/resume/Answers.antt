@@ -5,7 +5,11 @@ use Rattle.cyc_system.proofs.system.System.resume.Goals as goal
 
 pub invariant_of-self : goal.invariant_of-self
 invariant_of-self g c = (
-  holds_marked g.R.Raise Resume false (λ x y d. d) (record { cpus = c.self.inside.cpus; records = c.self.inside.records.list; last = c.self.inside.last })
+  holds_marked g.R.Raise Resume false (λ x y d. d) (record {
+    cpus = c.self.inside.cpus;
+    records = c.self.inside.records.list;
+    last = c.self.inside.last;
+  })
       c.resume_each.new.self c.resume_each.ensures c.self.invariant.0,
   c.self.invariant.1,
 )
