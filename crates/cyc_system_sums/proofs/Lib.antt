@@ -1,4 +1,5 @@
 pub mod Totals
+pub mod Suspending
 pub mod Given
 pub mod Spared
 pub mod Lasting

@@ -1,4 +1,5 @@
 pub mod Totalling
+pub mod Suspension
 pub mod Sparing
 pub mod Kinds
 pub mod Pending

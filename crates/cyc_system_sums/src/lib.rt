@@ -8,9 +8,11 @@
 mod keeping;
 mod pending;
 mod sparing;
+mod suspension;
 mod totalling;
 
 pub use keeping::{fires_law, interrupts_law, offlines_law};
 pub use pending::{balance_law, pending_law};
 pub use sparing::{spared_core_law, spared_law, unused_law};
+pub use suspension::{suspension_core_law, suspension_law};
 pub use totalling::{expirations_core_law, expirations_law};

@@ -41,6 +41,7 @@ pub mod Spacing
 pub mod Whole
 pub mod Reports
 pub use Rattle.cyc_system_rings.proofs.WholeRun
+pub use Rattle.cyc_system_rings.proofs.Suspending
 pub use Rattle.cyc_threads.proofs.Lists
 pub use Rattle.cyc_threads.proofs.Spots
 pub use Rattle.cyc_threads.proofs.Pieces

@@ -1,29 +1,21 @@
 -- Whether the system is suspended, from step to step.
-use Rattle.std.proofs.Common.{◌≡◌, ◌∙◌, ℕ, ◌<◌, inl, inr, Bool, true, false, not, Option, Some, None, Result, List, [], ◌∷◌}
-use Rattle.std.proofs.Common.{length, option_map, refl, sym, ap, arith}
-use Rattle.std.specs.Prelude.{is_ok}
-use Rattle.std.specs.List.{slice_get, FoldsTo}
+use Rattle.std.proofs.Common.{◌≡◌, ◌∙◌, ℕ, ◌<◌, Bool, true, false, Option, Some, None, Result, List, [], ◌∷◌}
+use Rattle.std.proofs.Common.{length, sym, ap, arith}
+use Rattle.std.specs.List.{FoldsTo}
 use Rattle.std.specs.Option.{option_map_or}
 use Rattle.std.proofs.lemmas.Option.{slice_get_within}
 use Rattle.cyc_types.specs.declared.Calls.{Ghosts as Calls}
 use Rattle.cyc_types.specs.declared.Raise.{Ghosts as Raise}
 use Rattle.cyc_types.specs.declared.refusal.Refusal.{Refusal}
-use Rattle.cyc_types.specs.declared.refusal.Refusal.TheVariants.{Suspended, NotSuspended}
-use Rattle.cyc_types.specs.Reasons.{first_refusal, when}
 use Rattle.cyc_script.specs.declared.step.Step.{Step}
 use Rattle.cyc_script.specs.declared.step.Step.TheVariants as steps
 use Rattle.cyc_timers.specs.declared.fire.Fired.{Fired}
 use Rattle.cyc_timers.specs.declared.fire.FireRefused.{FireRefused}
 use Rattle.cyc_cpu.specs.Cpu.{CpuView, Running, running}
-use Rattle.cyc_cpu.specs.Calls.{CpuCall, Changes as CpuChanges, AskSettled, no_interrupts}
-use Rattle.cyc_cpu.specs.Calls.{Suspend as CpuSuspend, Resume as CpuResume}
+use Rattle.cyc_cpu.specs.Calls.{AskSettled, no_interrupts}
 use Rattle.cyc_cpu.proofs.Calling.{changes_suspended, fire_keeps}
-use Rattle.cyc_agreement.specs.Suspending.{is_suspended, on_each}
-use Rattle.cyc_agreement.specs.Cpus.{Works}
-use Rattle.cyc_agreement.specs.Agreement.{Agrees}
-use Rattle.cyc_agreement.proofs.Marked.{marked_all, beside_each}
-use Rattle.cyc_threads.specs.System.{SystemView}
-use Rattle.cyc_threads.specs.Calls.{SystemCall, Changes, PollRemove, Suspend, Resume, reprograms}
+use Rattle.cyc_agreement.specs.Suspending.{is_suspended}
+use Rattle.cyc_threads.specs.Calls.{SystemCall, PollRemove, reprograms}
 use Rattle.cyc_threads.specs.Settling.{Asks}
 use Rattle.cyc_threads.specs.SystemSide.{SystemSide}
 use Rattle.cyc_threads.specs.Advancing.{moment_asked, FiresIf}
@@ -32,7 +24,8 @@ use Rattle.cyc_threads.specs.StepCalls.{CallsFor, Poll, Polls, Settles, Fires, I
 use Rattle.cyc_threads.specs.Names.{named_at, id_of}
 use Rattle.cyc_threads.specs.Words.{Does, Begins, waits_first}
 use Rattle.cyc_threads.proofs.Within.{with_series, with_moment, with_id}
-use Rattle.cyc_threads.proofs.Spots.{none_some, get_some}
+use Rattle.cyc_threads.proofs.Spots.{get_some}
+use Rattle.cyc_system_rings.proofs.Suspending.{marks_each}
 use Rattle.cyc_threads.proofs.Pieces.{LeavesMarks, marks_same}
 
 -- the word neither suspends the system nor resumes it, and no CPU fires
@@ -42,76 +35,7 @@ LeavesSuspended steps.Resume = ⊥
 LeavesSuspended (steps.Advance now) = ⊥
 LeavesSuspended x = Unit {0}
 
--- the mark of CPU 0, where there is one
-abbrev mark_of : {R : Type 0} → Option (CpuView R) → Bool
-mark_of o = option_map_or (λ suspended. suspended) (option_map (λ cpu. cpu.suspended) o) false
-
-marks_each : {R : Type 0} (xs ys : List (CpuView R)) → length ys ≡ length xs
-    → ((n : ℕ) (x y : CpuView R) → slice_get xs n ≡ Some x → slice_get ys n ≡ Some y → y.suspended ≡ x.suspended)
-    → mark_of (slice_get ys 0) ≡ mark_of (slice_get xs 0)
-marks_each [] [] long each = refl
-marks_each (x ∷ xs) (y ∷ ys) long each = each 0 x y refl refl
-marks_each [] (y ∷ ys) long each = absurd (omega (arith, long))
-marks_each (x ∷ xs) [] long each = absurd (omega (arith, long))
-
--- ---- suspend and resume
-
-refused_true : (b : Bool) (why e : Refusal) → first_refusal (when b why ∷ []) ≡ Some e → b ≡ true
-refused_true true why e is = refl
-refused_true false why e is = absurd (none_some is)
-
-passed_false : (b : Bool) (why : Refusal) → first_refusal (when b why ∷ []) ≡ None → b ≡ false
-passed_false true why is = absurd (none_some (sym is))
-passed_false false why is = refl
-
-not_true : (b : Bool) → not b ≡ true → b ≡ false
-not_true true e = absurd (let odd : false ≡ true = e in cc)
-not_true false e = refl
-
-not_false : (b : Bool) → not b ≡ false → b ≡ true
-not_false true e = refl
-not_false false e = absurd (let odd : true ≡ false = e in cc)
-
 module _ {R : Type 0} (firing : Raise R) where
-  -- a system has a CPU
-  has_cpu : (s : SystemView R) → Agrees s → 0 < length s.cpus.cpus
-  has_cpu s a = let (n, up) = a.some in by n (slice_get s.cpus.online n) refl up
-    where
-      by : (n : ℕ) (o : Option Bool) → slice_get s.cpus.online n ≡ o → option_map_or (λ online. online) o false ≡ true
-          → 0 < length s.cpus.cpus
-      by n None at up = absurd (let odd : false ≡ true = up in cc)
-      by n (Some b) at up = let low = slice_get_within s.cpus.online n b at in let long = a.long in omega (arith, low, long)
-
-  marked : (call : CpuCall) (mark : Bool) (marks : (x y : CpuView R) → CpuChanges firing x call y
-      → y ≡ record x { suspended = mark }) (s t : SystemView R) → Agrees s
-      → Works firing (on_each call (length s.cpus.cpus)) s.cpus t.cpus → is_suspended t ≡ mark
-  marked call mark marks s t a works =
-      let long = (beside_each firing call mark marks (length s.cpus.cpus) s.cpus t.cpus works).long in
-      let some = has_cpu s a in
-      let (y, at) = get_some t.cpus.cpus 0 (omega (arith, some, long)) in
-      ap mark_of at ∙ marked_all firing call mark marks s t.cpus works 0 y.suspended
-      (ap (λ o. option_map (λ (cpu : CpuView R). cpu.suspended) o) at)
-
-  -- a suspend is accepted where the system is not suspended, and it is after it
-  pub suspend_met : (answer : Result (Unit {0}) Refusal) (s t : SystemView R) → Agrees s → Changes firing s (Suspend answer) t
-      → (is_ok answer ≡ not (is_suspended s)) × (is_suspended t ≡ true)
-  suspend_met answer s t a (inl (e, why, is, same)) =
-      let was = refused_true (is_suspended s) Suspended e why in
-      (ap is_ok is ∙ sym (ap not was), ap (λ (z : SystemView R). is_suspended z) same ∙ was)
-  suspend_met answer s t a (inr (clear, (is, (works, records, last)))) =
-      let was = passed_false (is_suspended s) Suspended clear in
-      (ap is_ok is ∙ sym (ap not was), marked CpuSuspend true (λ x y d. d) s t a works)
-
-  -- a resume where it is, and it is not after it
-  pub resume_met : (answer : Result (Unit {0}) Refusal) (s t : SystemView R) → Agrees s → Changes firing s (Resume answer) t
-      → (is_ok answer ≡ is_suspended s) × (is_suspended t ≡ false)
-  resume_met answer s t a (inl (e, why, is, same)) =
-      let was = not_true (is_suspended s) (refused_true (not (is_suspended s)) NotSuspended e why) in
-      (ap is_ok is ∙ sym was, ap (λ (z : SystemView R). is_suspended z) same ∙ was)
-  resume_met answer s t a (inr (clear, (is, (works, records, last)))) =
-      let was = not_false (is_suspended s) (passed_false (not (is_suspended s)) NotSuspended clear) in
-      (ap is_ok is ∙ sym was, marked CpuResume false (λ x y d. d) s t a works)
-
   asks_mark : (answers : List Bool) (x y : CpuView R) → FoldsTo (Asks firing) x answers y → y.suspended ≡ x.suspended
   asks_mark [] x y e = ap (λ (z : CpuView R). z.suspended) (sym e)
   asks_mark (answer ∷ answers) x y (z, (first, lawful), rest) =

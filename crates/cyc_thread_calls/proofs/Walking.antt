@@ -1,7 +1,8 @@
 -- A run of a calm script is met as the closed form says.
 use Rattle.std.proofs.Common.{ap, ◌∙◌, not}
 use Rattle.std.proofs.lemmas.List.{length-replicate}
-use Rattle.cyc_thread_calls.proofs.Marks.{step_same, begins_same, fires_same, suspend_met, resume_met}
+use Rattle.cyc_system_rings.proofs.Suspending.{suspend_met, resume_met}
+use Rattle.cyc_thread_calls.proofs.Marks.{step_same, begins_same, fires_same}
 use Rattle.cyc_threads.specs.Calls.{Suspend, Resume}
 use Rattle.cyc_agreement.specs.Suspending.{is_suspended}
 use Rattle.std.proofs.Common.{length, ◌≡◌, ◌==◌, ℕ, ◌+◌, ◌<◌, ◌≤◌, inl, inr, Bool, true, false, cond}

@@ -11,7 +11,7 @@ use Rattle.cyc_thread_calls.specs.StepCalls.{CallsFor}
 use Rattle.cyc_thread_calls.specs.Progress.{Progress}
 use Rattle.cyc_thread_calls.specs.SystemRingsLeading.{Make}
 use Rattle.cyc_thread_calls.proofs.Keeping.{last_move}
-use Rattle.cyc_thread_calls.proofs.Marks.{suspend_met, resume_met}
+use Rattle.cyc_thread_calls.proofs.Suspending.{suspend_met, resume_met}
 use Rattle.cyc_thread_calls.proofs.Waiting.{HasWaited, waited_calm}
 use Rattle.cyc_thread_reasons.specs.Known.{Known, after_accepted}
 use Rattle.cyc_thread_reasons.proofs.Fitting.{Fits, fits_marked}
