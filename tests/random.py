@@ -6,9 +6,10 @@
 Every other script is whole: it must be accepted. The others are damaged in one to four bytes: each is accepted, or refused as a
 script. An accepted one has status 0, nothing on standard error, lines of the right forms, and a report in which the expirations
 are those called, lost and pending; and where the script was not damaged its text is the one that `tools/plain_run.py` works out
-by itself. Half of the scripts suspend and resume. A refused one has status 2, no text, and one line 'script refused K', with 'step N' for 20 to 23. Every fourth pair of
-scripts is run in threads too: refused in the same words, or accepted with a report of the same names, in which nothing is
-pending. The same seed makes the same scripts. The first faulty one is printed, and the status is 1.
+by itself. Half of the scripts suspend and resume. A refused one has status 2, no text, and one line 'script refused K', with
+'step N' for 20 to 23. Every fourth pair of scripts is run in threads too: refused in the same words, or accepted with a report of
+the same names, in which nothing is pending. The same seed makes the same scripts. The first faulty one is printed, and the status
+is 1.
 """
 import os
 import sys
