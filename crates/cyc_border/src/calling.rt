@@ -22,17 +22,18 @@ fn granted(called: Option<CyclicId>) -> Granted
     }
 }
 
-/// The high cyclic that is handed out behind a fire, where `high` was before it.
-fn handed_after(high: Option<CyclicId>, answer: &Result<Fired, FireRefused>) -> Option<CyclicId>
-    ensures { result ≡ handed_after high answer.now }
+/// Keeps in `high` what is handed out behind a fire: the cyclic in front of which it stopped, and after a fire that was refused at
+/// once what was handed out before.
+fn hand_out(high: &mut Option<CyclicId>, answer: &Result<Fired, FireRefused>)
+    ensures { high.new ≡ handed_after high.old answer.now }
 {
     match answer {
         Err(refused) => match refused.why {
-            Refusal::HandlerRefused(id) => Some(id),
-            Refusal::Suspended | Refusal::BadNow => high,
-            _ => None,
+            Refusal::HandlerRefused(id) => *high = Some(id),
+            Refusal::Suspended | Refusal::BadNow => {}
+            _ => *high = None,
         },
-        Ok(_) => None,
+        Ok(_) => *high = None,
     }
 }
 
@@ -119,7 +120,7 @@ pub fn fire<R: Raise>(
 {
     let mut calls = granted(*high);
     let answer = cpu.fire(now, &mut calls);
-    *high = handed_after(*high, &answer);
+    hand_out(high, &answer);
     answer
 }
 
