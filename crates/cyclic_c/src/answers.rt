@@ -3,14 +3,15 @@
 ghost use Rattle.std.specs.Prelude.{◌≡◌};
 ghost use Rattle.cyclic_c.specs.Exports.{named_by, found_in as number_found, kept_by, IsRemoved, WritesTotals, WritesReceipt};
 ghost use Rattle.cyclic_c.specs.Exports.{WritesFired, fire_number, or_zero as number_or_zero};
-ghost use Rattle.cyc_border.specs.Numbers.{answer_of};
+ghost use Rattle.cyc_border.specs.Numbers.{answer_of, number_of};
+ghost use Rattle.cyc_border.specs.declared.numbers.Denied.TheVariants.{Refused};
 
 use crate::records::{
     CyclicFired, CyclicReceipt, CyclicTotals, fired_of, receipt_of, stopped_of, totals_of,
 };
 use cyc_border::numbers::Denied;
 use cyc_cpu::{FireRefused, Fired, Removal, Totals};
-use cyc_types::{CyclicId, Receipt};
+use cyc_types::{CyclicId, Receipt, Refusal};
 
 /// What is answered where the caller has not done what it owes.
 pub(crate) const MISUSED: u32 = 64;
@@ -106,7 +107,17 @@ pub(crate) fn write_fired(answer: Result<Fired, FireRefused>, fired: &mut Cyclic
         }
         Err(refused) => {
             *fired = stopped_of(refused);
-            u32::from(refused.why.number())
+            stop_number(&refused.why)
         }
+    }
+}
+
+/// The number of what stopped a fire. First that of a high cyclic, at which every part of a fire stops but the last.
+fn stop_number(why: &Refusal) -> u32
+    ensures { result ≡ number_of (Refused why.now) }
+{
+    match why {
+        Refusal::HandlerRefused(_) => 12,
+        other => u32::from(other.number()),
     }
 }
