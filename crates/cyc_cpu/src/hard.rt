@@ -6,7 +6,7 @@ ghost use Rattle.std.specs.Bool.{OnTrue, OnFalse};
 ghost use Rattle.cyc_types.specs.Limits.{cyclics};
 ghost use Rattle.cyc_types.specs.declared.level.Level.TheVariants.{Low, Lock};
 ghost use Rattle.cyc_types.specs.Series.{never, first};
-ghost use Rattle.cyc_types.specs.declared.refusal.Refusal.TheVariants.{Memory, BadNow, NoCyclic};
+ghost use Rattle.cyc_types.specs.declared.refusal.Refusal.TheVariants.{Memory, BadNow, NoCyclic, Suspended};
 ghost use Rattle.cyc_types.specs.Timers.{earliest, IsSound};
 ghost use Rattle.cyc_types.specs.Expirations.{Expiration, expirations};
 ghost use Rattle.cyc_timers.specs.Rows.{Cyclic, timers};
@@ -75,6 +75,15 @@ fn refused(why: Refusal) -> FireRefused
         expired: 0,
         lost: 0,
     }
+}
+
+/// Why a suspended CPU does not fire. A call, so that LLVM takes it for rare, and a fire that is made goes straight on.
+#[cold]
+#[inline(never)]
+fn asleep() -> Refusal
+    ensures { result ≡ Suspended }
+{
+    Refusal::Suspended
 }
 
 impl<R: Raise + Drop> Hard<R> {
@@ -169,7 +178,7 @@ impl<R: Raise> Hard<R> {
             (running calls.new self.new) }
     {
         if self.suspended {
-            return Err(refused(Refusal::Suspended));
+            return Err(refused(asleep()));
         }
         if now.nanoseconds() == Moment::NEVER.nanoseconds() {
             return Err(refused(Refusal::BadNow));
