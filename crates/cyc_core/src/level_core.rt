@@ -10,7 +10,7 @@ ghost use Rattle.cyc_core.specs.Tables.{id_in, cyclic_of, level_of, lookup};
 ghost use Rattle.cyc_core.specs.Reached.{IsReached};
 
 use crate::admitted::Admitted;
-use cyc_finder::{hint_of, search_near};
+use cyc_finder::{HINTS, hint_of, search_near};
 use cyc_types::{CYCLICS, Ceiling, CyclicId, Refusal};
 use std::alloc::Global;
 use std::collections::VecDeque;
@@ -31,7 +31,7 @@ pub struct LevelCore {
     pub(crate) new_list: VecDeque<CyclicId>,
     pub(crate) drainer_hand: Option<CyclicId>,
     // Where an entry stands, by its id's low bits. Another may have these bits too, so each look is checked.
-    pub(crate) hints: [u8; CYCLICS as usize],
+    pub(crate) hints: [u16; HINTS],
 }
 
 impl Model for LevelCore {
@@ -66,7 +66,7 @@ impl LevelCore {
             old_list: VecDeque::with_capacity(alloc, room)?,
             new_list: VecDeque::with_capacity(alloc, room)?,
             drainer_hand: None,
-            hints: [0; CYCLICS as usize],
+            hints: [0; HINTS],
         })
     }
 

@@ -1,7 +1,6 @@
 -- The map from ids to indexes, as its entries by rising id.
 use Rattle.std.specs.Prelude.{◌≡◌, ℕ, ◌+◌, ◌/◌, ◌%◌, ◌<◌, ◌≤◌, eqb, cond, Option, Some, List, [], ◌∷◌, slice_index}
 use Rattle.std.specs.Option.{option_map}
-use Rattle.cyc_types.specs.Limits.{cyclics}
 use Rattle.cyc_finder.specs.declared.finder.Entry.{Entry}
 use Rattle.cyc_finder.specs.Sorted.{look_up}
 
@@ -29,10 +28,14 @@ times n (x ∷ xs) = cond (eqb n x) 1 0 + times n xs
 abbrev pub AreDistinct : ℕ → List ℕ → Type 0
 AreDistinct limit xs = (n : ℕ) → (times n xs ≤ 1) × (0 < times n xs → n < limit)
 
--- where the hint of an id stands: 256 ids in a row mostly have each their own, and so have 256 that are 16 apart, as those of
--- one of 16 CPUs are that get new cyclics in turn (our own rule)
+-- how many hints there are (our own rule)
+abbrev pub hints : ℕ
+hints = 256
+
+-- where the hint of an id stands: so many ids in a row mostly have each their own, and so have as many that are 16 apart, as
+-- those of one of 16 CPUs are that get new cyclics in turn (our own rule)
 unfoldable pub hint_at : ℕ → ℕ
-hint_at id = (id + id / cyclics) % cyclics
+hint_at id = (id + id / hints) % hints
 
 -- a hint that is not 0 is an id that belongs there, with its index
 abbrev pub Hinted : List Entry → List ℕ → List ℕ → Type 0

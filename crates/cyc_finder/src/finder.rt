@@ -2,12 +2,20 @@
 
 ghost use Rattle.std.specs.Prelude.{◌≡◌, ℕ, ◌<◌, cond, eqb, IfOk, IfSome, None, Some, length};
 ghost use Rattle.cyc_types.specs.Limits.{cyclics};
-ghost use Rattle.cyc_finder.specs.Indexes.{hint_at, index_of, IsIndexed, IsForgotten};
+ghost use Rattle.cyc_finder.specs.Indexes.{hints, hint_at, index_of, IsIndexed, IsForgotten};
 
 use crate::sorted::{HasId, search};
 use cyc_types::{CYCLICS, CyclicId, Index};
 use std::alloc::{AllocError, Global};
 use std::marker::Model;
+
+/// How many hints there are where ids have hints: enough for that many cyclics, and few enough to stay in a cache (our own rule).
+pub const HINTS: usize = 256;
+
+/// The constant is the number that the definitions speak of. It does nothing when it runs.
+pub fn hints_law()
+    ensures { HINTS ≡ hints }
+{}
 
 /// An id with its index.
 #[derive(Clone, Copy)]
@@ -52,21 +60,21 @@ impl Model for Finder {
     ghost invariant = { IsFinder };
 }
 
-/// Where the hint of an id stands among `CYCLICS` hints: at its low bits, with those above them added, so that ids that are 16
+/// Where the hint of an id stands among `HINTS` hints: at its low bits, with those above them added, so that ids that are 16
 /// apart, as those of one of 16 CPUs often are, don't share one.
 #[tactic(auto, unfolding(crate::specs::Indexes::hint_at))]
 pub fn hint_of(id: CyclicId) -> usize
-    ensures { (result ≡ hint_at id) × (result < cyclics) }
+    ensures { (result ≡ hint_at id) × (result < hints) }
 {
     let number = id.number();
-    let cyclics = u64::from(CYCLICS);
-    ((number + number / cyclics) % cyclics) as usize
+    let hints = HINTS as u64;
+    ((number + number / hints) % hints) as usize
 }
 
 // The hint gives the id no more.
 fn forget(hint_ids: &mut Vec<u64>, id: CyclicId)
-    requires { length hint_ids.old.items ≡ cyclics }
-    ensures len { length hint_ids.new.items ≡ cyclics }
+    requires { length hint_ids.old.items ≡ hints }
+    ensures len { length hint_ids.new.items ≡ hints }
     ensures less { IsForgotten id hint_ids.old.items hint_ids.new.items }
 {
     let hint = hint_of(id);
@@ -83,8 +91,8 @@ impl Finder {
         let room = usize::from(CYCLICS);
         Ok(Finder {
             entries: Vec::with_capacity(alloc, room)?,
-            hint_ids: vec![in alloc; 0; room]?,
-            hint_indexes: vec![in alloc; 0; room]?,
+            hint_ids: vec![in alloc; 0; HINTS]?,
+            hint_indexes: vec![in alloc; 0; HINTS]?,
         })
     }
 

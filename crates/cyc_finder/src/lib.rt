@@ -9,5 +9,5 @@ pub mod finder;
 mod halving;
 pub mod sorted;
 
-pub use finder::{Entry, Finder, hint_of};
+pub use finder::{Entry, Finder, HINTS, hint_of, hints_law};
 pub use sorted::{HasId, guess, search, search_near, search_new, search_unguessed, stands_at};

@@ -10,9 +10,9 @@ ghost use Rattle.cyc_types.specs.declared.refusal.Refusal.TheVariants.{Memory};
 ghost use Rattle.cyc_timers.specs.Rows.{Row, TableView, new_table, timers_of, IsRow, IsRising, HasNo, HasDistinctIndexes};
 ghost use Rattle.cyc_timers.specs.Rows.{vacant_row, with_record, with_counts, at_moment, IsRecordOf, IsFirstAt};
 
-use cyc_finder::{Entry, guess, hint_of, search, search_new, search_unguessed, stands_at};
+use cyc_finder::{Entry, HINTS, guess, hint_of, search, search_new, search_unguessed, stands_at};
 use cyc_heap::ExpiryHeap;
-use cyc_types::{CYCLICS, CyclicId, Index, Interval, Level, Moment, Refusal, Sent};
+use cyc_types::{CyclicId, Index, Interval, Level, Moment, Refusal, Sent};
 use std::alloc::Global;
 use std::marker::Model;
 
@@ -41,7 +41,7 @@ pub struct Table {
     records: Vec<Record>,
     entries: Vec<Entry>,
     // For the low bits of an id where the last such one was found that `soon` had not: right or not, it says where to look first.
-    hints: [u8; CYCLICS as usize],
+    hints: [u16; HINTS],
 }
 
 impl Model for Table {
@@ -91,7 +91,7 @@ impl Table {
             heap,
             records,
             entries,
-            hints: [0; CYCLICS as usize],
+            hints: [0; HINTS],
         })
     }
 
@@ -192,7 +192,7 @@ impl Table {
     {
         match search_unguessed(&self.entries, id) {
             Ok(position) => {
-                self.hints[hint_of(id)] = position.min(usize::from(u8::MAX)) as u8;
+                self.hints[hint_of(id)] = position.min(usize::from(u16::MAX)) as u16;
                 Some(position)
             }
             Err(_) => None,

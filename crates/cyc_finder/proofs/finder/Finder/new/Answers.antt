@@ -1,7 +1,7 @@
 use Rattle.std.proofs.Common.{rules, ◌≡◌, ℕ, zero, suc, List, map, get_or, replicate, refl, sym, ap, ◌∙◌, subst, arith}
 use Rattle.cyc_types.specs.Limits.{cyclics}
 use Rattle.cyc_finder.specs.Sorted.{Rises}
-use Rattle.cyc_finder.specs.Indexes.{id_in, index_in, AreDistinct}
+use Rattle.cyc_finder.specs.Indexes.{id_in, index_in, hints, AreDistinct}
 use Rattle.cyc_finder.proofs.finder.Finder.new.Goals as goal
 
 zeros : (n k z : ℕ) → get_or (replicate n z) k z ≡ z
@@ -17,8 +17,9 @@ invariant_of-result c =
       distinct = subst (λ xs. AreDistinct cyclics (map index_in xs)) (sym none)
           (λ n. (omega arith, λ some. absurd (omega (arith, some))));
       room = (let exact = c.in_ok-with_capacity.ensures.exact in let n = c.from-room.ensures in omega (arith, exact, n));
-      id_hints = (let n = c.from-room.ensures in let l = c.in_ok-vec.ensures.len in search (rules, n, l));
-      index_hints = (let n = c.from-room.ensures in let l = c.in_ok-vec-2.ensures.len in search (rules, n, l));
-      hinted = λ k used. (let e : c.in_ok-vec.field-0.items ≡ replicate c.from-room.result 0 = search rules in
-          absurd (used (ap (λ (l : List ℕ). get_or l k 0) e ∙ zeros c.from-room.result k 0)));
+      id_hints = (let l = c.in_ok-vec.ensures.len in search (rules, l));
+      index_hints = (let l = c.in_ok-vec-2.ensures.len in search (rules, l));
+      hinted = λ k used. (let e : c.in_ok-vec.field-0.items ≡ replicate hints 0 =
+          c.in_ok-vec.ensures.items_if_clones_equal (search rules) in
+          absurd (used (ap (λ (l : List ℕ). get_or l k 0) e ∙ zeros hints k 0)));
     }
