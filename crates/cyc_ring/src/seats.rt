@@ -16,13 +16,14 @@ use ring_rule::Setting;
 use ring_steps::{FiringSide, INDEXES, SoftSide};
 use std::alloc::{AllocError, Global};
 
-/// For each index the id of its cyclic, 0 where it is free, and the counts of its stay. They stand in memory of their own, so
-/// that a seat that is moved copies little.
+/// For each index the id of its cyclic, 0 where it is free, and the counts of its stay; and its pend word, once the ring is closed. They
+/// stand in memory of their own, so that a seat or a closed ring that is moved copies little.
 #[derive(Drop)]
 pub struct Stays {
     pub(crate) ids: [u64; INDEXES],
     pub(crate) sent: [u64; INDEXES],
     pub(crate) lost: [u64; INDEXES],
+    pub(crate) pends: [u64; INDEXES],
 }
 
 /// The seat of a ring's firing side: what it knows of each index, and its slot in the buffer.
@@ -81,6 +82,7 @@ impl RaiseSeat {
                 ids: [0; INDEXES],
                 sent: [0; INDEXES],
                 lost: [0; INDEXES],
+                pends: [0; INDEXES],
             },
         )?;
         Ok(RaiseSeat {

@@ -59,7 +59,7 @@ invariant_of-raise_seat g c = let r = c.args.raise_seat.now in let k = c.args.se
     is_lost b s1 before r.setting.ceiling refl full c.load_to_raise-before.ensures.lost in
     let e : s1.me.0.raise_trail ≡ Lost id before ∷ t = ap (λ (m : ThisSeat). m.0.raise_trail) m.1.1 in
     let now = c.deref_mut-then-before-ceiling.ensures.value
-    ∙ ap (λ (p : Stays). record { ids = p.ids; sent = set p.sent x (get_or p.sent x 0 + 1); lost = p.lost })
+    ∙ ap (λ (p : Stays). record p { sent = set p.sent x (get_or p.sent x 0 + 1) })
     c.deref_mut.ensures.value in
     let long : x < length lost = search rules in
     record {
