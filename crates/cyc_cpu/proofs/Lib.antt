@@ -12,4 +12,5 @@ pub mod Off
 pub mod Lawful
 pub mod Calling
 pub mod Sizes
+pub mod Banks
 pub use Rattle.cyc_timers.proofs.Sharing
