@@ -2,6 +2,7 @@
 
 ghost use Rattle.std.specs.Prelude.{◌≡◌, ℕ, ◌+◌, ◌<◌, length, true, false, Some, None};
 ghost use Rattle.std.specs.List.{slice_get};
+ghost use Rattle.cyc_types.specs.Limits.{cyclics};
 ghost use Rattle.cyc_places.specs.declared.record.Placement.TheVariants.{On};
 ghost use Rattle.cyc_places.specs.declared.record.Record.{Record};
 ghost use Rattle.cyc_places.specs.Places.{IsRecord};
@@ -97,7 +98,7 @@ fn turn_of<R: Raise>(
 
 /// Counts a turn.
 fn count(report: &mut JuggleReport, turn: Turn)
-    requires { all_turns report.old < 256 }
+    requires { all_turns report.old < cyclics }
     ensures { report.new ≡ counted turn report.old }
 {
     match turn {
@@ -122,7 +123,7 @@ pub(crate) fn visit<R: Raise>(
     requires here { place < length (ids_on source cpus.old) }
     requires still { removal_on source cpus.old ≡ None }
     requires other { (d : ℕ) × (destination (Some source) cpus.old ≡ Some d) }
-    requires few { all_turns report.old < 256 }
+    requires few { all_turns report.old < cyclics }
     ensures did { VisitsAt R.Raise source
         (record { place = place; report = report.old; cpus = cpus.old; records = records.old })
         (record { place = result; report = report.new; cpus = cpus.new; records = records.new }) }

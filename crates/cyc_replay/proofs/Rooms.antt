@@ -6,7 +6,7 @@ use Rattle.std.specs.List.{slice_get}
 use Rattle.std.proofs.lemmas.Option.{slice_get_within}
 use mathlib.Core.Logic.{dite}
 use native.Mathlib.Decide.{ℕ_discrete}
-use Rattle.cyc_types.specs.Limits.{greatest_bank}
+use Rattle.cyc_types.specs.Limits.{greatest_bank, cyclics as most_cyclics}
 use Rattle.cyc_types.specs.declared.Raise.{Ghosts as Raise}
 use Rattle.cyc_types.specs.declared.level.Level.{Level}
 use Rattle.cyc_types.specs.declared.moment.When.{When}
@@ -112,10 +112,10 @@ least_low (suc more) k n = pick (nat_le n (2 ^ k)) (least_low more (k + 1) n)
     pick true rest = omega arith
     pick false rest = omega (arith, rest)
 
-enough_for : (size n room : ℕ) → size ≤ room → 256 ≤ room → size_for size n ≤ room
+enough_for : (size n room : ℕ) → size ≤ room → most_cyclics ≤ room → size_for size n ≤ room
 enough_for size n room low most = pick (nat_le n size)
   where
-    bank : 2 ^ bank_for n ≤ 256
+    bank : 2 ^ bank_for n ≤ most_cyclics
     bank = pow_mono {i = bank_for n} {j = greatest_bank} (least_low greatest_bank 0 n)
 
     pick : (b : Bool) → cond b size (2 ^ bank_for n) ≤ room

@@ -6,6 +6,7 @@ use Rattle.std.proofs.lemmas.List.{get_or-replicate, length-replicate}
 use Rattle.std.proofs.lemmas.List.Elements.{All-append}
 use Rattle.std.proofs.Math.ListN.{get_or-eq_default}
 use Rattle.std.proofs.lemmas.Bool.{cases_lt}
+use Rattle.cyc_types.specs.Limits.{cyclics as most_cyclics}
 use Rattle.cyc_types.specs.Tally.{TallyView, tally_made, tally_count}
 use Rattle.cyc_level.specs.Level.{SoftLevel, empty_level}
 use Rattle.cyc_core.specs.FiringSide.{firing_view}
@@ -144,10 +145,10 @@ new_empty most ceiling (e ∷ ends) new zero d low =
 new_empty most ceiling (e ∷ ends) new (suc k) d low =
     new_empty most ceiling ends (λ i x less. new (suc i) x (omega (arith, less))) k d (omega (arith, low))
 
-reserved_so : (v w : CpuView Tables) → IsEmpty v → Changes raise_tables v (Reserve 256 (Ok tt)) w → HasReserved v w
+reserved_so : (v w : CpuView Tables) → IsEmpty v → Changes raise_tables v (Reserve most_cyclics (Ok tt)) w → HasReserved v w
 reserved_so v w e d = record {
-  room = subst (λ k. k ≤ w.room) (ap (λ k. size_for k (length w.cyclics + 256)) (d.0.size ∙ e.size)
-      ∙ ap (λ cs. size_for 1 (length cs + 256)) (d.0.cyclics ∙ e.cyclics)) d.1.reserved;
+  room = subst (λ k. k ≤ w.room) (ap (λ k. size_for k (length w.cyclics + most_cyclics)) (d.0.size ∙ e.size)
+      ∙ ap (λ cs. size_for 1 (length cs + most_cyclics)) (d.0.cyclics ∙ e.cyclics)) d.1.reserved;
   cyclics = d.0.cyclics;
   removal = d.0.removal;
   size = d.0.size;
@@ -157,21 +158,22 @@ reserved_so v w e d = record {
   low = only_looked v.low w.low d.0.low;
 }
 
-only_want : (v w : CpuView Tables) (e : Refusal) → IsEmpty v → Changes raise_tables v (Reserve 256 (Err e)) w → e ≡ Memory
-only_want v w e empty d = only_memory raise_tables 256 v w e
+only_want : (v w : CpuView Tables) (e : Refusal) → IsEmpty v → Changes raise_tables v (Reserve most_cyclics (Err e)) w
+    → e ≡ Memory
+only_want v w e empty d = only_memory raise_tables most_cyclics v w e
     (record {
       fits = let none = ap length empty.cyclics in omega (arith, none);
       still = λ more. (empty.removal, empty.followed);
     }) d.0 d.1
 
 pub reserved_or_not : (v w : CpuView Tables) (r : Result (Unit {0}) Refusal) → IsEmpty v
-    → Changes raise_tables v (Reserve 256 r) w
+    → Changes raise_tables v (Reserve most_cyclics r) w
     → OnOk r (HasReserved v w)
 reserved_or_not v w (Ok done) e d = reserved_so v w e d
 reserved_or_not v w (Err why) e d = tt
 
 pub only_if_refused : (v w : CpuView Tables) (r : Result (Unit {0}) Refusal) → IsEmpty v
-    → Changes raise_tables v (Reserve 256 r) w
+    → Changes raise_tables v (Reserve most_cyclics r) w
     → IfErr r (λ refusal. refusal ≡ Memory)
 only_if_refused v w (Ok done) e d = tt
 only_if_refused v w (Err why) e d = only_want v w why e d
