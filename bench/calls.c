@@ -3,6 +3,7 @@
  *     calls again N same|last|turn|random [ROUNDS]     the one in the middle, the last one, each in turn, any of N
  *     calls apart N same|last|turn|random [ROUNDS]     the same of ids that are 7 apart, as on a CPU of several
  *     calls swing LOW HIGH PEAK [ROUNDS]               from LOW to HIGH cyclics and back, on a CPU that once had PEAK
+ *     calls churn N same|last|turn|random [ROUNDS]     such a one goes, and a new one comes; in turn it is the oldest
  *     calls fire N PEAK [ROUNDS]                       N that are left of PEAK, of one interval
  *
  * It prints the nanoseconds of a call, the least of the rounds: 15 where no number is given. */
@@ -14,6 +15,7 @@
 
 #define START 1000000000
 #define CALLS 20000
+#define MOST 4096
 
 static cyclic_cpu cpu = CYCLIC_CLOSED;
 /* from one id to the next */
@@ -111,6 +113,21 @@ static long swing(uint64_t low, uint64_t high)
     return calls;
 }
 
+static long churn(uint64_t count, char pattern)
+{
+    static uint64_t next = 1000000, ids[MOST];
+    if (ids[0] == 0)
+        for (uint64_t place = 0; place < count; place++)
+            ids[place] = id_at(place);
+    for (long call = 0; call < CALLS; call += 2) {
+        uint64_t *id = &ids[place_of(pattern, call / 2, count)];
+        remove_now(*id);
+        *id = next++;
+        add(*id, START + (any() & 0xffff));
+    }
+    return CALLS;
+}
+
 static long fire(void)
 {
     static int64_t moment = START;
@@ -144,7 +161,8 @@ int main(int count, char **words)
     fill(first, is_swing || is_fire ? peak : 0);
     for (int round = 0; round < rounds; round++) {
         double begin = now();
-        long calls = is_swing ? swing(first, strtoull(words[3], NULL, 10)) : is_fire ? fire() : again(first, words[3][0]);
+        long calls = is_swing ? swing(first, strtoull(words[3], NULL, 10)) : is_fire ? fire()
+            : strcmp(job, "churn") == 0 ? churn(first, words[3][0]) : again(first, words[3][0]);
         double each = (now() - begin) / calls;
         if (each < least)
             least = each;
