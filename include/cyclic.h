@@ -54,6 +54,9 @@ extern "C" {
 #define CYCLIC_VERSION_NUMBER \
     (CYCLIC_VERSION_MAJOR * UINT32_C(1000000) + CYCLIC_VERSION_MINOR * UINT32_C(1000) + CYCLIC_VERSION_PATCH)
 
+/* The cyclics that a CPU can hold; a level has as many indexes. */
+#define CYCLIC_CYCLICS 4096u
+
 /* The refusals. */
 #define CYCLIC_MEMORY 1u          /* a growth of memory was refused */
 #define CYCLIC_BAD_WHEN 2u        /* a start or a moment is negative */
@@ -332,7 +335,7 @@ uint32_t cyclic_open(uint32_t ceiling, uint64_t most, cyclic_firing *firing, cyc
 uint32_t cyclic_close(cyclic_firing *firing, cyclic_soft *lock, cyclic_soft *low, cyclic_books *books);
 
 /*
- * The book of the cyclic at an index, from 0 to 4,095, of a soft level; its id is 0 where none is.
+ * The book of the cyclic at an index, below CYCLIC_CYCLICS, of a soft level; its id is 0 where none is.
  * Refuses with CYCLIC_MISUSED where the books are closed, or the level or the index is none, and `*book` stays.
  * Stands in the thread that has the books, also in an interrupt: it takes no memory.
  */

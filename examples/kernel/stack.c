@@ -107,7 +107,7 @@ static void pair_calls(void)
         DEEP(cyclic_firing_poll_remove, AT(firing), AT(receipt));
     }
     DEEP(cyclic_close, AT(firing), AT(lock), AT(low), AT(books));
-    for (uint64_t index = 0; index < 256; index++)
+    for (uint64_t index = 0; index < CYCLIC_CYCLICS; index++)
         DEEP(cyclic_book, AT(books), CYCLIC_LOW, index, AT(book));
     DEEP(cyclic_books_close, AT(books));
     DEEP(cyclic_open, 100, UINT64_MAX, AT(firing), AT(lock), AT(low));
