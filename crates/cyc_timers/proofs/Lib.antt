@@ -1,5 +1,6 @@
 pub mod Removing
 pub mod Tables
+pub mod Finding
 pub mod Widening
 pub mod Acting
 pub mod Nexts
