@@ -12,4 +12,6 @@ pub mod Off
 pub mod Lawful
 pub mod Calling
 pub mod Sizes
+pub mod Reprogramming
 pub use Rattle.cyc_timers.proofs.Sharing
+pub use Rattle.cyc_timers.proofs.Walks

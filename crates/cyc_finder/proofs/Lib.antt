@@ -3,3 +3,4 @@ pub mod Runs
 pub mod Few
 pub mod Entries
 pub mod Here
+pub mod Walks

@@ -9,3 +9,4 @@ pub mod Making
 pub mod Stepping
 pub mod Sharing
 pub mod Sparing
+pub use Rattle.cyc_finder.proofs.Walks

@@ -3,11 +3,13 @@ use Rattle.cyc_types.specs.Firing.{Sound, seen_of}
 use Rattle.cyc_types.specs.declared.level.Level.TheVariants.{Low, Lock}
 use Rattle.cyc_timers.specs.Rows.{Row, IsRow}
 use Rattle.cyc_timers.specs.Quiet.{OnlyLoads}
+use Rattle.cyc_timers.proofs.Walks.{IsWalk}
 use Rattle.cyc_cpu.proofs.settling.all_quiet.Given as goal
 
 -- the cyclics so far were asked for, and none of them had calls outstanding
 abbrev pub invariant-loop-place : goal.invariant-loop-place
 invariant-loop-place g l = record {
+  walk : IsWalk (λ (r : Row). r.timer.id) l.table.rows l.passed l.place;
   lock : OnlyLoads g.R.Raise l.fn.lock l.lock;
   low : OnlyLoads g.R.Raise l.fn.low l.low;
   quiet_lock : (k : ℕ) (r : Row) → k < l.place → IsRow l.table.rows k r → r.timer.level ≡ Lock
