@@ -17,7 +17,7 @@ use Rattle.cyc_finder.specs.Indexes.{Entry, id_in, index_of}
 use Rattle.cyc_finder.specs.Slots.{slot_id, entry_of, entries_of, IsGone, IsFirst}
 use Rattle.cyc_finder.proofs.Entries.{index_read, index_gap}
 
--- how many of the slots before a place are of cyclics that are here
+-- how many of the slots before a position are of cyclics that are here
 abbrev pub rank : List Slot → ℕ → ℕ
 rank xs p = length (entries_of (take p xs))
 
@@ -127,20 +127,20 @@ come xs p id i = filter_map-append entry_of (take p xs) (record { id = id; index
     ∙ joined (entries_of xs) (entries_of (take p xs)) (entries_of (drop p xs)) (rank xs p) (record { id = id; index = i })
     (ap entries_of (sym (take-append-drop p xs)) ∙ filter_map-append entry_of (take p xs) (drop p xs)) refl
 
--- the place of an entry
-pub record Place (xs : List Slot) (k : ℕ) : Type 0 where
-  pub place : ℕ
-  pub low : place < length xs
+-- the position of an entry
+pub record Spot (xs : List Slot) (k : ℕ) : Type 0 where
+  pub position : ℕ
+  pub low : position < length xs
   pub id : ℕ
   pub index : ℕ
-  pub is : (d : Slot) → get_or xs place d ≡ record { id = id; index = Some index }
-  pub rank_is : rank xs place ≡ k
+  pub is : (d : Slot) → get_or xs position d ≡ record { id = id; index = Some index }
+  pub rank_is : rank xs position ≡ k
   pub entry : (d : Entry) → get_or (entries_of xs) k d ≡ record { id = id; index = index }
 
-behind : (id : ℕ) (o : Option ℕ) (xs : List Slot) → ((k : ℕ) → k < length (entries_of xs) → Place xs k) → (k : ℕ)
-    → k < length (entries_of (record { id = id; index = o } ∷ xs)) → Place (record { id = id; index = o } ∷ xs) k
+behind : (id : ℕ) (o : Option ℕ) (xs : List Slot) → ((k : ℕ) → k < length (entries_of xs) → Spot xs k) → (k : ℕ)
+    → k < length (entries_of (record { id = id; index = o } ∷ xs)) → Spot (record { id = id; index = o } ∷ xs) k
 behind id None xs rest k low = let a = rest k low in record {
-  place = suc a.place;
+  position = suc a.position;
   low = (let l = a.low in omega (arith, l));
   id = a.id;
   index = a.index;
@@ -149,7 +149,7 @@ behind id None xs rest k low = let a = rest k low in record {
   entry = a.entry;
 }
 behind id (Some i) xs rest zero low = record {
-  place = 0;
+  position = 0;
   low = omega arith;
   id = id;
   index = i;
@@ -158,7 +158,7 @@ behind id (Some i) xs rest zero low = record {
   entry = λ d. refl;
 }
 behind id (Some i) xs rest (suc k) low = let a = rest k (omega (arith, low)) in record {
-  place = suc a.place;
+  position = suc a.position;
   low = (let l = a.low in omega (arith, l));
   id = a.id;
   index = a.index;
@@ -167,38 +167,38 @@ behind id (Some i) xs rest (suc k) low = let a = rest k (omega (arith, low)) in 
   entry = a.entry;
 }
 
-pub place_in : (xs : List Slot) (k : ℕ) → k < length (entries_of xs) → Place xs k
-place_in [] k low = absurd (omega (arith, low))
-place_in (x ∷ xs) k low = behind x.id x.index xs (place_in xs) k low
+pub spot_in : (xs : List Slot) (k : ℕ) → k < length (entries_of xs) → Spot xs k
+spot_in [] k low = absurd (omega (arith, low))
+spot_in (x ∷ xs) k low = behind x.id x.index xs (spot_in xs) k low
 
 not_gone : (s : Slot) (id i : ℕ) → s ≡ record { id = id; index = Some i } → s.index ≢ None
 not_gone s id i is gone = let no : Some i ≡ None = ap (λ (t : Slot). t.index) (sym is) ∙ gone in absurd (cc)
 
--- what is true of the ids of all that are here before a place
+-- what is true of the ids of all that are here before a position
 pub before_rank : (xs : List Slot) (p : ℕ) (P : ℕ → Type 0)
     → ((j : ℕ) (d : Slot) → j < p → j < length xs → (get_or xs j d).index ≢ None → P (get_or xs j d).id) → (k : ℕ) (d : Entry)
     → k < rank xs p → k < length (entries_of xs) → P (get_or (entries_of xs) k d).id
-before_rank xs p P all k d less low = let a = place_in xs k low in
-    let near : a.place < p = elim (cases_lt a.place p) [
+before_rank xs p P all k d less low = let a = spot_in xs k low in
+    let near : a.position < p = elim (cases_lt a.position p) [
       | inl l ↦ l
-      | inr m ↦ absurd (let u = rank_up xs p a.place m in let r = a.rank_is in omega (arith, u, r, less))
+      | inr m ↦ absurd (let u = rank_up xs p a.position m in let r = a.rank_is in omega (arith, u, r, less))
     ] in
     subst P (ap slot_id (a.is some_slot) ∙ ap id_in (sym (a.entry d)))
-    (all a.place some_slot near a.low (not_gone (get_or xs a.place some_slot) a.id a.index (a.is some_slot)))
+    (all a.position some_slot near a.low (not_gone (get_or xs a.position some_slot) a.id a.index (a.is some_slot)))
 
--- and from a place on
+-- and from a position on
 pub from_rank : (xs : List Slot) (p : ℕ) (P : ℕ → Type 0)
     → ((j : ℕ) (d : Slot) → p ≤ j → j < length xs → (get_or xs j d).index ≢ None → P (get_or xs j d).id) → (k : ℕ) (d : Entry)
     → rank xs p ≤ k → k < length (entries_of xs) → P (get_or (entries_of xs) k d).id
-from_rank xs p P all k d past low = let a = place_in xs k low in
-    let near : p ≤ a.place = elim (cases_lt a.place p) [
+from_rank xs p P all k d past low = let a = spot_in xs k low in
+    let near : p ≤ a.position = elim (cases_lt a.position p) [
       | inl l ↦
-          absurd (let u = rank_up xs (a.place + 1) p (omega (arith, l)) in let r = a.rank_is in
-          let n = here_next xs a.place a.id a.index a.low a.is in omega (arith, u, r, n, past))
+          absurd (let u = rank_up xs (a.position + 1) p (omega (arith, l)) in let r = a.rank_is in
+          let n = here_next xs a.position a.id a.index a.low a.is in omega (arith, u, r, n, past))
       | inr m ↦ m
     ] in
     subst P (ap slot_id (a.is some_slot) ∙ ap id_in (sym (a.entry d)))
-    (all a.place some_slot near a.low (not_gone (get_or xs a.place some_slot) a.id a.index (a.is some_slot)))
+    (all a.position some_slot near a.low (not_gone (get_or xs a.position some_slot) a.id a.index (a.is some_slot)))
 
 pub rank_low : (xs : List Slot) (p : ℕ) → p ≤ length xs → rank xs p ≤ length (entries_of xs)
 rank_low xs p low = let u = rank_up xs p (length xs) low in let a = rank_all xs (length xs) (omega arith) in omega (arith, u, a)
@@ -219,14 +219,14 @@ gap_here xs id p low less more = record {
 module _ (xs : List Slot) (rises : Rises slot_id xs) where
   pub entries_rise : Rises id_in (entries_of xs)
   entries_rise i j d less low =
-      let a = place_in xs i (omega (arith, less, low)) in let b = place_in xs j low in
-      let before : a.place < b.place = elim (cases_lt a.place b.place) [
+      let a = spot_in xs i (omega (arith, less, low)) in let b = spot_in xs j low in
+      let before : a.position < b.position = elim (cases_lt a.position b.position) [
         | inl l ↦ l
         | inr m ↦
-            absurd (let u = rank_up xs b.place a.place m in let ra = a.rank_is in let rb = b.rank_is in
+            absurd (let u = rank_up xs b.position a.position m in let ra = a.rank_is in let rb = b.rank_is in
             omega (arith, u, ra, rb, less))
       ] in
-      let up = rises a.place b.place some_slot before b.low in
+      let up = rises a.position b.position some_slot before b.low in
       let ia = ap slot_id (a.is some_slot) in let ib = ap slot_id (b.is some_slot) in
       let ea = ap id_in (a.entry d) in let eb = ap id_in (b.entry d) in omega (arith, up, ia, ib, ea, eb)
 
@@ -276,31 +276,31 @@ module _ (xs : List Slot) (rises : Rises slot_id xs) where
   far (suc n) i j d is low = let rest = far n i (i + n) d refl (omega (arith, is, low)) in
       let up = rises (i + n) j d (omega (arith, is)) low in omega (arith, rest, up)
 
-  -- a cyclic that is here and that stands as far from the first as its id says is at the place that the base says
+  -- a cyclic that is here and that stands as far from the first as its id says is at the position that the base says
   module _ (first : First) (is : IsFirst xs first) (id : ℕ) (e : Entry) (at_first : slice_get (entries_of xs) 0 ≡ Some e)
       (up : e.id ≤ id) (at : IsAt id_in (entries_of xs) id (id - e.id)) where
     some_first : 0 < length (entries_of xs)
     some_first = (let l = at.in_range in omega (arith, l))
 
-    a : Place xs 0
-    a = place_in xs 0 some_first
+    a : Spot xs 0
+    a = spot_in xs 0 some_first
 
-    b : Place xs (id - e.id)
-    b = place_in xs (id - e.id) at.in_range
+    b : Spot xs (id - e.id)
+    b = spot_in xs (id - e.id) at.in_range
 
-    behind_first : (k : ℕ) (q : Place xs k) → first.place ≤ q.place
-    behind_first k q = elim (cases_lt q.place first.place) [
+    behind_first : (k : ℕ) (q : Spot xs k) → first.position ≤ q.position
+    behind_first k q = elim (cases_lt q.position first.position) [
       | inl l ↦
-          absurd (not_gone (get_or xs q.place some_slot) q.id q.index (q.is some_slot)
-          (is.gone_before q.place some_slot (omega arith) l))
+          absurd (not_gone (get_or xs q.position some_slot) q.id q.index (q.is some_slot)
+          (is.gone_before q.position some_slot (omega arith) l))
       | inr m ↦ m
     ]
 
-    first_low : first.place < length xs
+    first_low : first.position < length xs
     first_low = (let l = a.low in let m = behind_first 0 a in omega (arith, l, m))
 
-    named : (o : Option ℕ) → (get_or xs first.place some_slot).index ≡ o → (i : ℕ)
-        × ((get_or xs first.place some_slot).index ≡ Some i)
+    named : (o : Option ℕ) → (get_or xs first.position some_slot).index ≡ o → (i : ℕ)
+        × ((get_or xs first.position some_slot).index ≡ Some i)
     named None is_none = absurd (is.here first_low some_slot is_none)
     named (Some i) is_some = (i, is_some)
 
@@ -315,15 +315,16 @@ module _ (xs : List Slot) (rises : Rises slot_id xs) where
         some_same : (x y : Entry) → Some x ≡ Some y → x ≡ y
         some_same x y h = cc
 
-    first_is : first.place ≡ a.place
-    first_is = elim (cases_lt first.place a.place) [
+    first_is : first.position ≡ a.position
+    first_is = elim (cases_lt first.position a.position) [
       | inl less ↦
-          absurd (let (i, some) = named (get_or xs first.place some_slot).index refl in
-          let s : (d : Slot) → get_or xs first.place d ≡ record { id = (get_or xs first.place some_slot).id; index = Some i }
-          = λ d. get_or_default xs first.place d some_slot first_low
-          ∙ (λ y. record { id = (get_or xs first.place some_slot).id; index = some y }) in
-          let n = here_next xs first.place (get_or xs first.place some_slot).id i first_low s in
-          let u = rank_up xs (first.place + 1) a.place (omega (arith, less)) in let r = a.rank_is in omega (arith, n, u, r))
+          absurd (let (i, some) = named (get_or xs first.position some_slot).index refl in
+          let s : (d : Slot) → get_or xs first.position d
+          ≡ record { id = (get_or xs first.position some_slot).id; index = Some i } =
+          λ d. get_or_default xs first.position d some_slot first_low
+          ∙ (λ y. record { id = (get_or xs first.position some_slot).id; index = some y }) in
+          let n = here_next xs first.position (get_or xs first.position some_slot).id i first_low s in
+          let u = rank_up xs (first.position + 1) a.position (omega (arith, less)) in let r = a.rank_is in omega (arith, n, u, r))
       | inr most ↦ (let m = behind_first 0 a in omega (arith, most, m))
     ]
 
@@ -331,51 +332,52 @@ module _ (xs : List Slot) (rises : Rises slot_id xs) where
     guessed =
         let f = first_is in
         let base = is.base_is first_low some_slot in
-        let at_a : (get_or xs first.place some_slot).id ≡ e.id =
+        let at_a : (get_or xs first.position some_slot).id ≡ e.id =
         ap (λ k. (get_or xs k some_slot).id) f ∙ ap slot_id (a.is some_slot) ∙ ap id_in (sym (a.entry e)) ∙ ap id_in (sym e_is) in
-        let at_b : (get_or xs b.place some_slot).id ≡ id =
+        let at_b : (get_or xs b.position some_slot).id ≡ id =
         ap slot_id (b.is some_slot) ∙ ap id_in (sym (b.entry e)) ∙ at.has_id e in
         let up_b = behind_first (id - e.id) b in
-        let rise = far (b.place - first.place) first.place b.place some_slot (omega (arith, up_b)) b.low in
-        let near = rank_near xs first.place b.place up_b in
-        let rank_a : rank xs first.place ≡ 0 = ap (rank xs) f ∙ a.rank_is in let rank_b = b.rank_is in
-        let there : id - first.base ≡ b.place = omega (arith, base, at_a, at_b, rise, near, rank_a, rank_b, up, up_b) in (
+        let rise = far (b.position - first.position) first.position b.position some_slot (omega (arith, up_b)) b.low in
+        let near = rank_near xs first.position b.position up_b in
+        let rank_a : rank xs first.position ≡ 0 = ap (rank xs) f ∙ a.rank_is in let rank_b = b.rank_is in
+        let there : id - first.base ≡ b.position = omega (arith, base, at_a, at_b, rise, near, rank_a, rank_b, up, up_b) in (
           omega (arith, base, at_a, up),
           record {
             in_range = (let l = b.low in omega (arith, there, l));
             has_id = λ d. ap (λ k. (get_or xs k d).id) there
-                ∙ ap (λ (s : Slot). s.id) (get_or_default xs b.place d some_slot b.low) ∙ at_b;
+                ∙ ap (λ (s : Slot). s.id) (get_or_default xs b.position d some_slot b.low) ∙ at_b;
           },
         )
 
--- the entry to which a walk comes next, where the slots from a place on come after what it has passed
-module _ (xs : List Slot) (first : First) (is : IsFirst xs first) (passed : Option ℕ) (a from place : ℕ)
+-- the entry to which a walk comes next, where the slots from a position on come after what it has passed
+module _ (xs : List Slot) (first : First) (is : IsFirst xs first) (passed : Option ℕ) (a from position : ℕ)
     (less : AllWithin (λ (s : Slot). IsPassed passed s.id) xs 0 a)
     (more : AllWithin (λ (s : Slot). ComesAfter passed s.id) xs a (length xs))
-    (at : from ≡ max a first.place) (gone : AllWithin IsGone xs from place) where
-  seen : (j : ℕ) (d : Slot) → j < place → j < length xs → (get_or xs j d).index ≢ None → IsPassed passed (get_or xs j d).id
+    (at : from ≡ max a first.position) (gone : AllWithin IsGone xs from position) where
+  seen : (j : ℕ) (d : Slot) → j < position → j < length xs → (get_or xs j d).index ≢ None → IsPassed passed (get_or xs j d).id
   seen j d near low here = elim (cases_lt j a) [
     | inl l ↦ less j d (omega arith) l
-    | inr m ↦ elim (cases_lt j first.place) [
+    | inr m ↦ elim (cases_lt j first.position) [
       | inl l ↦ absurd (here (is.gone_before j d (omega arith) l))
       | inr n ↦ absurd (here (gone j d (omega (arith, at, m, n)) near))
     ]
   ]
 
-  pub none_after : length xs ≤ place → (k : ℕ) (d : Entry) → k < length (entries_of xs)
+  pub none_after : length xs ≤ position → (k : ℕ) (d : Entry) → k < length (entries_of xs)
       → IsPassed passed (get_or (entries_of xs) k d).id
-  none_after past k d within = before_rank xs place (IsPassed passed) seen k d
-      (let r = rank_all xs place past in omega (arith, r, within)) within
+  none_after past k d within = before_rank xs position (IsPassed passed) seen k d
+      (let r = rank_all xs position past in omega (arith, r, within)) within
 
-  pub next_is : from ≤ place → (id i : ℕ) (within : place < length xs)
-      (slot : (d : Slot) → get_or xs place d ≡ record { id = id; index = Some i })
-      → IsNextAfter id_in (entries_of xs) passed (rank xs place)
+  pub next_is : from ≤ position → (id i : ℕ) (within : position < length xs)
+      (slot : (d : Slot) → get_or xs position d ≡ record { id = id; index = Some i })
+      → IsNextAfter id_in (entries_of xs) passed (rank xs position)
   next_is up id i within slot = record {
-    in_range = here_low xs place id i within slot;
+    in_range = here_low xs position id i within slot;
     passed_before = λ k d small.
-        before_rank xs place (IsPassed passed) seen k d small
-        (let r = here_low xs place id i within slot in omega (arith, small, r));
-    after_from = from_rank xs place (ComesAfter passed) (λ j d past within here. more j d (omega (arith, past, up, at)) within);
+        before_rank xs position (IsPassed passed) seen k d small
+        (let r = here_low xs position id i within slot in omega (arith, small, r));
+    after_from = from_rank xs position (ComesAfter passed)
+        (λ j d past within here. more j d (omega (arith, past, up, at)) within);
   }
 
 -- what is left of a packed list

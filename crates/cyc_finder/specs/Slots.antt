@@ -24,7 +24,7 @@ IsGone slot = slot.index ≡ None
 -- the first slot whose cyclic is here, behind the last where none is: those before it are gone. An id that follows it with none
 -- between them left out stands as far from the base as its number says
 pub record IsFirst (slots : List Slot) (first : First) : Type 0 where
-  pub in_range : first.place ≤ length slots
-  pub gone_before : AllWithin IsGone slots 0 first.place
-  pub here : first.place < length slots → HoldsAt (λ slot. slot.index ≢ None) slots first.place
-  pub base_is : first.place < length slots → HoldsAt (λ slot. first.base + first.place ≡ slot.id) slots first.place
+  pub in_range : first.position ≤ length slots
+  pub gone_before : AllWithin IsGone slots 0 first.position
+  pub here : first.position < length slots → HoldsAt (λ slot. slot.index ≢ None) slots first.position
+  pub base_is : first.position < length slots → HoldsAt (λ slot. first.base + first.position ≡ slot.id) slots first.position

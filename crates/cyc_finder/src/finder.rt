@@ -10,7 +10,7 @@ ghost use Rattle.cyc_finder.specs.Indexes.{Entry, new_finder, hint_at, id_in, in
 
 use crate::hints::Hints;
 use crate::slots::{
-    First, Slot, after, first_with, first_without, make_way, next_here, place_of, put, quick,
+    First, Slot, after, first_with, first_without, make_way, next_here, position_of, put, quick,
 };
 use crate::sorted::{search_new, search_unguessed};
 use cyc_types::{CYCLICS, CyclicId, Index};
@@ -61,7 +61,10 @@ impl Finder {
     {
         Ok(Finder {
             slots: Vec::with_capacity(alloc, 2)?,
-            first: First { place: 0, base: 0 },
+            first: First {
+                position: 0,
+                base: 0,
+            },
             hints: Hints::new(alloc)?,
             room: 1,
         })
@@ -89,8 +92,8 @@ impl Finder {
     pub fn find(&self, id: CyclicId) -> Option<Index>
         ensures { result ≡ index_of id self.now.entries }
     {
-        match place_of(&self.slots, self.first.base, &self.hints, id) {
-            Some(place) => self.slots[place].index,
+        match position_of(&self.slots, self.first.base, &self.hints, id) {
+            Some(position) => self.slots[position].index,
             None => None,
         }
     }
@@ -104,7 +107,7 @@ impl Finder {
             → ¬ IsAt id_in self.now.entries id (id - first.id)) }
     {
         match quick(&self.slots, self.first.base, &self.hints, id) {
-            Some(place) => self.slots[place].index,
+            Some(position) => self.slots[position].index,
             None => None,
         }
     }
@@ -117,9 +120,9 @@ impl Finder {
         ensures same { self.new ≡ self.old }
     {
         match search_unguessed(&self.slots, id) {
-            Ok(place) => {
-                self.hints.set(id, place);
-                self.slots[place].index
+            Ok(position) => {
+                self.hints.set(id, position);
+                self.slots[position].index
             }
             Err(_) => None,
         }
@@ -130,7 +133,7 @@ impl Finder {
         ensures { IsTrue result ↔ IsSome (index_of id self.now.entries) }
     {
         match search_new(&self.slots, id) {
-            Ok(place) => self.slots[place].index.is_some(),
+            Ok(position) => self.slots[position].index.is_some(),
             Err(_) => false,
         }
     }
@@ -142,12 +145,12 @@ impl Finder {
         ensures some { IfSome result (λ found. (k : ℕ) × IsNextAfter id_in self.now.entries passed k
             × HoldsAt (λ e. e ≡ record { id = found.0; index = found.1 }) self.now.entries k) }
     {
-        let from = after(&self.slots, passed).max(self.first.place);
-        let place = next_here(&self.slots, from);
-        if place >= self.slots.len() {
+        let from = after(&self.slots, passed).max(self.first.position);
+        let position = next_here(&self.slots, from);
+        if position >= self.slots.len() {
             return None;
         }
-        let slot = self.slots[place];
+        let slot = self.slots[position];
         match slot.index {
             Some(index) => Some((slot.id, index)),
             None => unreachable!(),
@@ -166,8 +169,8 @@ impl Finder {
         ensures room { self.new.room ≡ self.old.room }
     {
         self.first = make_way(&mut self.slots, &mut self.hints, self.first);
-        let place = put(&mut self.slots, &mut self.hints, id, index);
-        self.first = first_with(&self.slots, self.first, place);
+        let position = put(&mut self.slots, &mut self.hints, id, index);
+        self.first = first_with(&self.slots, self.first, position);
     }
 
     /// The id has no index any more: the answer is the one that it had. No slot is moved. O(1) where one of two looks finds it, else
@@ -179,14 +182,14 @@ impl Finder {
         ensures told { (j : ℕ) → index_of j self.new.entries ≡ cond (eqb j id) None (index_of j self.old.entries) }
         ensures room { self.new.room ≡ self.old.room }
     {
-        let Some(place) = place_of(&self.slots, self.first.base, &self.hints, id) else {
+        let Some(position) = position_of(&self.slots, self.first.base, &self.hints, id) else {
             unreachable!()
         };
-        let Some(index) = self.slots[place].index else {
+        let Some(index) = self.slots[position].index else {
             unreachable!()
         };
-        self.slots[place] = Slot { id, index: None };
-        self.first = first_without(&self.slots, self.first, place);
+        self.slots[position] = Slot { id, index: None };
+        self.first = first_without(&self.slots, self.first, position);
         index
     }
 }

@@ -12,9 +12,9 @@ use std::alloc::{AllocError, Global};
 /// of one of so many CPUs often are.
 #[derive(Drop)]
 pub(crate) struct Hints {
-    places: Vec<u16>,
+    positions: Vec<u16>,
     bits: u32,
-    ghost some: { 0 < length places.items },
+    ghost some: { 0 < length positions.items },
     ghost few: { bits < 64 },
 }
 
@@ -22,7 +22,7 @@ impl Hints {
     /// One hint.
     pub(crate) fn new(alloc: Global) -> Result<Hints, AllocError> {
         Ok(Hints {
-            places: vec![in alloc; 0; 1]?,
+            positions: vec![in alloc; 0; 1]?,
             bits: 0,
         })
     }
@@ -30,8 +30,8 @@ impl Hints {
     /// As many hints as so many cyclics need. Those that were are worth nothing then.
     pub(crate) fn reserve(&mut self, size: usize) -> Result<(), AllocError> {
         let length = size.checked_next_power_of_two().ok_or(AllocError)?;
-        if length > self.places.len() {
-            self.places.resize(length, 0)?;
+        if length > self.positions.len() {
+            self.positions.resize(length, 0)?;
             self.bits = length.ilog2();
         }
         Ok(())
@@ -40,27 +40,27 @@ impl Hints {
     /// Which hint is that of the id.
     #[inline(always)]
     fn number_of(&self, id: CyclicId) -> usize
-        ensures { result < length self.now.places.items }
+        ensures { result < length self.now.positions.items }
     {
         let number = id.number();
-        (number + (number >> self.bits)) as usize & (self.places.len() - 1)
+        (number + (number >> self.bits)) as usize & (self.positions.len() - 1)
     }
 
     /// Where the slot of this id may be.
     #[inline(always)]
     pub(crate) fn of(&self, id: CyclicId) -> usize {
-        usize::from(self.places[self.number_of(id)])
+        usize::from(self.positions[self.number_of(id)])
     }
 
-    /// The slot of this id is at this place.
-    pub(crate) fn set(&mut self, id: CyclicId, place: usize) {
+    /// The slot of this id is at this position.
+    pub(crate) fn set(&mut self, id: CyclicId, position: usize) {
         let number = self.number_of(id);
-        self.places[number] = place.min(usize::from(u16::MAX)) as u16;
+        self.positions[number] = position.min(usize::from(u16::MAX)) as u16;
     }
 
-    /// The slots from this place on are where they are.
-    pub(crate) fn set_from(&mut self, slots: &[Slot], place: usize) {
-        for at in place..slots.len() {
+    /// The slots from this position on are where they are.
+    pub(crate) fn set_from(&mut self, slots: &[Slot], position: usize) {
+        for at in position..slots.len() {
             self.set(slots[at].id, at);
         }
     }

@@ -26,10 +26,10 @@ impl HasId for Slot {
     }
 }
 
-/// The first slot whose cyclic is here, and its id less its place: by this base an id is guessed.
+/// The first slot whose cyclic is here, and its id less its position: by this base an id is guessed.
 #[derive(Clone, Copy)]
 pub struct First {
-    pub(crate) place: usize,
+    pub(crate) position: usize,
     pub(crate) base: u64,
 }
 
@@ -53,21 +53,21 @@ pub(crate) fn quick(slots: &[Slot], base: u64, hints: &Hints, id: CyclicId) -> O
 
 /// Where the slot of this id stands, by two looks and then by halving. None where there is none.
 #[inline(always)]
-pub(crate) fn place_of(slots: &[Slot], base: u64, hints: &Hints, id: CyclicId) -> Option<usize>
+pub(crate) fn position_of(slots: &[Slot], base: u64, hints: &Hints, id: CyclicId) -> Option<usize>
     requires { Rises slot_id slots.now }
     ensures some { IfSome result (IsAt slot_id slots.now id) }
     ensures none { IfNone result ((k : ℕ) × IsGap slot_id slots.now id k) }
 {
-    if let Some(place) = quick(slots, base, hints, id) {
-        return Some(place);
+    if let Some(position) = quick(slots, base, hints, id) {
+        return Some(position);
     }
     match search_unguessed(slots, id) {
-        Ok(place) => Some(place),
+        Ok(position) => Some(position),
         Err(_) => None,
     }
 }
 
-/// The first place from this one on whose cyclic is here, behind the last where there is none.
+/// The first position from this one on whose cyclic is here, behind the last where there is none.
 pub(crate) fn next_here(slots: &[Slot], from: usize) -> usize
     requires { from ≤ length slots.now }
     ensures after { from ≤ result }
@@ -75,14 +75,14 @@ pub(crate) fn next_here(slots: &[Slot], from: usize) -> usize
     ensures gone { AllWithin IsGone slots.now from result }
     ensures here { result < length slots.now → HoldsAt (λ slot. slot.index ≢ None) slots.now result }
 {
-    let mut place = from;
-    while place < slots.len() && slots[place].index.is_none() {
-        place += 1;
+    let mut position = from;
+    while position < slots.len() && slots[position].index.is_none() {
+        position += 1;
     }
-    place
+    position
 }
 
-/// The first place to which a walk comes that has passed this id, the first of all where it has passed none. O(log n).
+/// The first position to which a walk comes that has passed this id, the first of all where it has passed none. O(log n).
 pub(crate) fn after(slots: &[Slot], passed: Option<CyclicId>) -> usize
     requires { Rises slot_id slots.now }
     ensures within { result ≤ length slots.now }
@@ -93,65 +93,65 @@ pub(crate) fn after(slots: &[Slot], passed: Option<CyclicId>) -> usize
         return 0;
     };
     match search(slots, id) {
-        Ok(place) => place + 1,
-        Err(place) => place,
+        Ok(position) => position + 1,
+        Err(position) => position,
     }
 }
 
-/// The id at a place less the place, 0 where there is no slot.
-fn base_at(slots: &[Slot], place: usize) -> u64
+/// The id at a position less the position, 0 where there is no slot.
+fn base_at(slots: &[Slot], position: usize) -> u64
     requires { Rises slot_id slots.now }
-    ensures { place < length slots.now → HoldsAt (λ slot. result + place ≡ slot.id) slots.now place }
+    ensures { position < length slots.now → HoldsAt (λ slot. result + position ≡ slot.id) slots.now position }
 {
-    if place < slots.len() {
-        slots[place].id.number() - place as u64
+    if position < slots.len() {
+        slots[position].id.number() - position as u64
     } else {
         0
     }
 }
 
-/// The first that is here, where all before this place are gone.
-pub(crate) fn first_from(slots: &[Slot], place: usize) -> First
+/// The first that is here, where all before this position are gone.
+pub(crate) fn first_from(slots: &[Slot], position: usize) -> First
     requires rises { Rises slot_id slots.now }
-    requires within { place ≤ length slots.now }
-    requires gone { AllWithin IsGone slots.now 0 place }
+    requires within { position ≤ length slots.now }
+    requires gone { AllWithin IsGone slots.now 0 position }
     ensures { IsFirst slots.now result }
 {
-    let here = next_here(slots, place);
+    let here = next_here(slots, position);
     First {
-        place: here,
+        position: here,
         base: base_at(slots, here),
     }
 }
 
-/// The first that is here once the cyclic at this place is gone. Each slot is passed by once while the first goes up.
-pub(crate) fn first_without(slots: &[Slot], first: First, place: usize) -> First
+/// The first that is here once the cyclic at this position is gone. While the first goes up each slot is passed by once.
+pub(crate) fn first_without(slots: &[Slot], first: First, position: usize) -> First
     requires rises { Rises slot_id slots.now }
-    requires within { place < length slots.now }
-    requires gone { place ≡ first.place → AllWithin IsGone slots.now 0 (place + 1) }
-    requires other { place ≢ first.place → IsFirst slots.now first }
+    requires within { position < length slots.now }
+    requires gone { position ≡ first.position → AllWithin IsGone slots.now 0 (position + 1) }
+    requires other { position ≢ first.position → IsFirst slots.now first }
     ensures { IsFirst slots.now result }
 {
-    if place == first.place {
-        first_from(slots, place + 1)
+    if position == first.position {
+        first_from(slots, position + 1)
     } else {
         first
     }
 }
 
-/// The first that is here once a cyclic of this id is at this place.
-pub(crate) fn first_with(slots: &[Slot], first: First, place: usize) -> First
+/// The first that is here once a cyclic of this id is at this position.
+pub(crate) fn first_with(slots: &[Slot], first: First, position: usize) -> First
     requires rises { Rises slot_id slots.now }
-    requires within { place < length slots.now }
-    requires here { HoldsAt (λ slot. slot.index ≢ None) slots.now place }
-    requires gone { place ≤ first.place → AllWithin IsGone slots.now 0 place }
-    requires other { first.place < place → IsFirst slots.now first }
+    requires within { position < length slots.now }
+    requires here { HoldsAt (λ slot. slot.index ≢ None) slots.now position }
+    requires gone { position ≤ first.position → AllWithin IsGone slots.now 0 position }
+    requires other { first.position < position → IsFirst slots.now first }
     ensures { IsFirst slots.now result }
 {
-    if place <= first.place {
+    if position <= first.position {
         First {
-            place,
-            base: base_at(slots, place),
+            position,
+            base: base_at(slots, position),
         }
     } else {
         first
@@ -169,8 +169,8 @@ fn pack(slots: &mut Vec<Slot>)
     slots.retain(|slot| slot.index.is_some());
 }
 
-/// Where no more slots fit, drops those whose cyclics are gone, and says which is the first that is here. As many go as may be here,
-/// so for each that came it costs O(1) on average.
+/// Where no more slots fit, drops those whose cyclics are gone, and says which is the first that is here. More go than may be here,
+/// so that for each cyclic that came it costs O(1) on average.
 pub(crate) fn make_way(slots: &mut Vec<Slot>, hints: &mut Hints, first: First) -> First
     requires rises { Rises slot_id slots.old.items }
     requires few { length (entries_of slots.old.items) < vec_capacity slots.old }
@@ -209,15 +209,15 @@ pub(crate) fn put(slots: &mut Vec<Slot>, hints: &mut Hints, id: CyclicId, index:
         index: Some(index),
     };
     match search_new(slots, id) {
-        Ok(place) => {
-            slots[place] = slot;
-            hints.set(id, place);
-            place
+        Ok(position) => {
+            slots[position] = slot;
+            hints.set(id, position);
+            position
         }
-        Err(place) => {
-            let _ = slots.insert(place, slot);
-            hints.set_from(slots, place);
-            place
+        Err(position) => {
+            let _ = slots.insert(position, slot);
+            hints.set_from(slots, position);
+            position
         }
     }
 }

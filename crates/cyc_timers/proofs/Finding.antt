@@ -17,9 +17,9 @@ abbrev pub IsFound : List Row → ℕ → ℕ → Type 0
 IsFound rows id index = (k : ℕ) × (r : Row) × IsRow rows k r × (r.timer.id ≡ id) × (r.index ≡ index)
 
 -- an id stands at one position
-pub one_place : (entries : List Entry) → Rises id_in entries → (id i j : ℕ) → IsAt id_in entries id i → IsAt id_in entries id j
+pub one_position : (entries : List Entry) → Rises id_in entries → (id i j : ℕ) → IsAt id_in entries id i → IsAt id_in entries id j
     → i ≡ j
-one_place entries rises id i j a b =
+one_position entries rises id i j a b =
     let x = a.has_id no_place in let y = b.has_id no_place in
     elim (cases_lt i j) [
       | inl less ↦ absurd (let up = rises i j no_place less b.in_range in omega (arith, up, x, y))
@@ -29,10 +29,8 @@ one_place entries rises id i j a b =
       ]
     ]
 
-module _ (slots : List (Option Expiration)) (records : List Record) (entries : List Entry) (t : IsTable slots records entries) where
-  abbrev rows : List Row
-  rows = rows_of slots records entries
-
+module _ (slots : List (Option Expiration)) (records : List Record) (entries : List Entry)
+    (t : IsTable slots records entries) where
   pub found_row : (id i : ℕ) → index_of id entries ≡ Some i → IsFound (rows_of slots records entries) id i
   found_row id i e = let (k, low, at) = index_found entries id i e in (
     k,

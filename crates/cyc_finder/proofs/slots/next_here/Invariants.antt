@@ -3,8 +3,8 @@ use Rattle.std.specs.List.{AllWithin}
 use Rattle.cyc_finder.specs.Slots.{IsGone}
 use Rattle.cyc_finder.proofs.slots.next_here.Given as goal
 
-abbrev pub invariant-loop-place : goal.invariant-loop-place
-invariant-loop-place l = (l.from ≤ l.place) × (l.place ≤ length l.slots) × AllWithin IsGone l.slots l.from l.place
+abbrev pub invariant-loop-position : goal.invariant-loop-position
+invariant-loop-position l = (l.from ≤ l.position) × (l.position ≤ length l.slots) × AllWithin IsGone l.slots l.from l.position
 
-abbrev pub decreases-loop-place : goal.decreases-loop-place
-decreases-loop-place l = length l.slots - l.place
+abbrev pub decreases-loop-position : goal.decreases-loop-position
+decreases-loop-position l = length l.slots - l.position

@@ -7,7 +7,7 @@ use Rattle.cyc_finder.proofs.Here.{rank, some_slot, gap_gone, gap_is, gone_is, c
 use Rattle.cyc_finder.proofs.slots.put.Goals as goal
 
 pub returns-in-Ok-clause-entries : goal.returns-in-Ok-clause-entries
-returns-in-Ok-clause-entries c = let xs = c.args.slots.now.items in let id = c.args.id in let p = c.in-Ok.place in
+returns-in-Ok-clause-entries c = let xs = c.args.slots.now.items in let id = c.args.id in let p = c.in-Ok.position in
     let at = subst (λ ys. IsAt slot_id ys id p) c.deref.ensures.value c.in-Ok.ensures.found in
     let gone = gone_is xs c.requires.rises id p at c.requires.absent in (
       rank xs p,
@@ -16,7 +16,7 @@ returns-in-Ok-clause-entries c = let xs = c.args.slots.now.items in let id = c.a
     )
 
 pub returns-in-Err-clause-rises : goal.returns-in-Err-clause-rises
-returns-in-Err-clause-rises c = let xs = c.args.slots.now.items in let id = c.args.id in let p = c.in-Err.place in
+returns-in-Err-clause-rises c = let xs = c.args.slots.now.items in let id = c.args.id in let p = c.in-Err.position in
     let gap = subst (λ ys. IsGap slot_id ys id p) c.deref.ensures.value c.in-Err.ensures.absent in
     let ok = c.insert.ensures.succeeds (let f = c.requires.fits in omega (arith, f)) in
     let items = rw ok at c.insert.ensures.items in
@@ -24,7 +24,7 @@ returns-in-Err-clause-rises c = let xs = c.args.slots.now.items in let id = c.ar
     (rises_inserted slot_id xs id p gap c.requires.rises (record { id = id; index = Some c.args.index }) refl)
 
 pub returns-in-Err-clause-entries : goal.returns-in-Err-clause-entries
-returns-in-Err-clause-entries c = let xs = c.args.slots.now.items in let id = c.args.id in let p = c.in-Err.place in
+returns-in-Err-clause-entries c = let xs = c.args.slots.now.items in let id = c.args.id in let p = c.in-Err.position in
     let gap = subst (λ ys. IsGap slot_id ys id p) c.deref.ensures.value c.in-Err.ensures.absent in
     let ok = c.insert.ensures.succeeds (let f = c.requires.fits in omega (arith, f)) in
     let items = rw ok at c.insert.ensures.items in (

@@ -26,23 +26,25 @@ invariant_of-self c =
     let e = ap (λ (v : FinderView). v.room) c.self.view_is in omega (arith, r, e)) in
     let free = free_is xs index (entries_rise c.self.inside.slots.items f.rises)
     (λ s. c.requires.free (subst (λ (v : FinderView). IsIndexed index v.entries) c.self.view_is s)) in
-    let (k, gap, is) = c.put-place.ensures.entries in
+    let (k, gap, is) = c.put-position.ensures.entries in
     let entry : Entry = record { id = c.args.id; index = index } in
-    let new : entries_of c.put-place.new.slots.items ≡ insert xs k entry =
+    let new : entries_of c.put-position.new.slots.items ≡ insert xs k entry =
     is ∙ ap (λ ys. insert ys k entry) made.ensures.entries in
     let low : k ≤ length (map index_in xs) = (let l = gap.in_range in let e = ap length made.ensures.entries in
     let m = length-map xs index_in in omega (arith, l, e, m)) in
     record {
-      rises = c.put-place.ensures.rises;
+      rises = c.put-position.ensures.rises;
       distinct = subst (AreDistinct c.self.inside.room) (sym (ap (map index_in) new ∙ indexes_insert xs k entry))
           (distinct_insert c.self.inside.room (map index_in xs) f.distinct k index low small free);
-      room = (let r = f.room in let a = made.ensures.capacity in let b = c.put-place.ensures.capacity in omega (arith, r, a, b));
+      room = (let r = f.room in let a = made.ensures.capacity in let b = c.put-position.ensures.capacity in
+          omega (arith, r, a, b));
       first = subst (λ ys. IsFirst ys c.first_with-self-inside.result) c.deref.ensures.value c.first_with-self-inside.ensures;
     }
 
 pub returns-clause-told : goal.returns-clause-told
 returns-clause-told c j =
-    let (k, gap, is) = c.put-place.ensures.entries in let id = c.args.id in let made = c.make_way-self-inside.ensures.entries in
+    let (k, gap, is) = c.put-position.ensures.entries in let id = c.args.id in
+    let made = c.make_way-self-inside.ensures.entries in
     let xs = entries_of c.make_way-self-inside.new.slots.items in
     ap (index_of j) is ∙ index_inserted xs id k c.args.index gap j
     ∙ ap (λ ys. cond (eqb j id) (Some c.args.index) (index_of j ys)) (made ∙ ap (λ (v : FinderView). v.entries) c.self.view_is)

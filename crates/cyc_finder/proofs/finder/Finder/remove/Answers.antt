@@ -18,14 +18,15 @@ unreachable-requires c = let xs = c.self.inside.slots.items in let id = c.args.i
     ∙ index_none xs c.self.invariant.rises id k gap)
 
 pub unreachable-requires-in_default-index : goal.unreachable-requires-in_default-index
-unreachable-requires-in_default-index c = let xs = c.self.inside.slots.items in let id = c.args.id in let p = c.in-Some.place in
+unreachable-requires-in_default-index c = let xs = c.self.inside.slots.items in let id = c.args.id in
+    let p = c.in-Some.position in
     let at = subst (λ ys. IsAt slot_id ys id p) c.deref.ensures.value c.in-Some.ensures.some in
     c.requires (sym (ap (λ (v : FinderView). index_of id v.entries) c.self.view_is)
     ∙ index_is xs c.self.invariant.rises id p at c.index.result.now ∙ ap (λ (s : Slot). s.index) (sym c.index.ensures)
     ∙ c.in_default-index.is)
 
 pub returns-clause-index : goal.returns-clause-index
-returns-clause-index c = let xs = c.self.inside.slots.items in let id = c.args.id in let p = c.in-Some.place in
+returns-clause-index c = let xs = c.self.inside.slots.items in let id = c.args.id in let p = c.in-Some.position in
     let at = subst (λ ys. IsAt slot_id ys id p) c.deref.ensures.value c.in-Some.ensures.some in
     sym (ap (λ (v : FinderView). index_of id v.entries) c.self.view_is)
     ∙ index_is xs c.self.invariant.rises id p at c.index.result.now ∙ ap (λ (s : Slot). s.index) (sym c.index.ensures)
@@ -33,7 +34,7 @@ returns-clause-index c = let xs = c.self.inside.slots.items in let id = c.args.i
 
 pub invariant_of-self : goal.invariant_of-self
 invariant_of-self c =
-    let f = c.self.invariant in let xs = c.self.inside.slots.items in let id : ℕ = c.args.id in let p : ℕ = c.in-Some.place in
+    let f = c.self.invariant in let xs = c.self.inside.slots.items in let id : ℕ = c.args.id in let p : ℕ = c.in-Some.position in
     let at = subst (λ ys. IsAt slot_id ys id p) c.deref.ensures.value c.in-Some.ensures.some in
     let i : ℕ = c.in-Some-index.index in
     let some : index_of id (entries_of xs) ≡ Some i = index_is xs f.rises id p at c.index.result.now
@@ -53,7 +54,7 @@ invariant_of-self c =
 
 pub returns-clause-entries : goal.returns-clause-entries
 returns-clause-entries c =
-    let f = c.self.invariant in let xs = c.self.inside.slots.items in let id : ℕ = c.args.id in let p : ℕ = c.in-Some.place in
+    let f = c.self.invariant in let xs = c.self.inside.slots.items in let id : ℕ = c.args.id in let p : ℕ = c.in-Some.position in
     let at = subst (λ ys. IsAt slot_id ys id p) c.deref.ensures.value c.in-Some.ensures.some in
     let i : ℕ = c.in-Some-index.index in
     let some : index_of id (entries_of xs) ≡ Some i = index_is xs f.rises id p at c.index.result.now
@@ -66,7 +67,7 @@ returns-clause-entries c =
 
 pub returns-clause-told : goal.returns-clause-told
 returns-clause-told c j =
-    let f = c.self.invariant in let xs = c.self.inside.slots.items in let id : ℕ = c.args.id in let p : ℕ = c.in-Some.place in
+    let f = c.self.invariant in let xs = c.self.inside.slots.items in let id : ℕ = c.args.id in let p : ℕ = c.in-Some.position in
     let at = subst (λ ys. IsAt slot_id ys id p) c.deref.ensures.value c.in-Some.ensures.some in
     let i : ℕ = c.in-Some-index.index in
     let some : index_of id (entries_of xs) ≡ Some i = index_is xs f.rises id p at c.index.result.now

@@ -20,14 +20,14 @@ none_at entries rises id None e = λ first is up at. let (i, some) = index_at en
     let no : None ≡ Some i = e ∙ some in absurd (cc)
 
 pub returns-in-Some-clause-some : goal.returns-in-Some-clause-some
-returns-in-Some-clause-some c = let xs = c.self.inside.slots.items in let id = c.args.id in let p = c.in-Some.place in
+returns-in-Some-clause-some c = let xs = c.self.inside.slots.items in let id = c.args.id in let p = c.in-Some.position in
     let at = subst (λ ys. IsAt slot_id ys id p) c.deref.ensures.value c.in-Some.ensures.some in
     some_is (index_of id c.args.self.now.entries) c.index.result.now.index (ap (λ (s : Slot). s.index) c.index.ensures
     ∙ sym (index_is xs c.self.invariant.rises id p at c.index.result.now)
     ∙ ap (λ (v : FinderView). index_of id v.entries) c.self.view_is)
 
 pub returns-in-Some-clause-none : goal.returns-in-Some-clause-none
-returns-in-Some-clause-none c = let xs = c.self.inside.slots.items in let id = c.args.id in let p = c.in-Some.place in
+returns-in-Some-clause-none c = let xs = c.self.inside.slots.items in let id = c.args.id in let p = c.in-Some.position in
     let at = subst (λ ys. IsAt slot_id ys id p) c.deref.ensures.value c.in-Some.ensures.some in
     none_at c.args.self.now.entries
     (subst (λ (v : FinderView). Rises id_in v.entries) c.self.view_is (entries_rise xs c.self.invariant.rises)) id

@@ -2,7 +2,7 @@ use Rattle.std.proofs.Common.{◌≡◌, refl, sym, ap, ◌∙◌, subst, arith,
 use Rattle.std.proofs.Math.ListN.{set}
 use Rattle.cyc_timers.specs.Rows.{TableView, IsRow, IsTable, rows_of}
 use Rattle.cyc_timers.proofs.Tables.{standing, standing_at, entry_here}
-use Rattle.cyc_timers.proofs.Finding.{here_index, index_there, one_place}
+use Rattle.cyc_timers.proofs.Finding.{here_index, index_there, one_position}
 use Rattle.cyc_timers.proofs.Removing.{fewer_rows, fewer_table}
 use Rattle.cyc_timers.proofs.table.Table.remove.Goals as goal
 
@@ -46,7 +46,7 @@ returns-clause-rows c k r row named =
     let at = entry_here slots records entries c.args.id k r t row' named in
     let s = standing slots records entries k r t row' in
     let same = index_there slots records entries t c.args.id c.remove-index.result k r s at c.remove-index.ensures.index in
-    let moved : q ≡ k = one_place entries t.rising c.args.id q k there at in
+    let moved : q ≡ k = one_position entries t.rising c.args.id q k there at in
     ap (λ xs. rows_of xs records c.remove-index.new.self.entries) (c.remove.ensures.slots ∙ ap (λ n. set slots n None) (sym same))
     ∙ ap (λ ps. rows_of (set slots s.p.index None) records ps) (is ∙ ap (remove entries) moved)
     ∙ fewer_rows slots records entries k r s t
