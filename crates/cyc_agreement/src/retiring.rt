@@ -30,7 +30,7 @@ pub(crate) fn any_pending<R: Raise>(cpus: &mut Cpus<R>, source: u32) -> bool
 {
     cpus.law();
     let mut passed = None;
-    for place in 0..cpus.cpu(source).len() {
+    for _place in 0..cpus.cpu(source).len() {
         let Some(id) = cpus.cpu(source).id_after(passed) else {
             unreachable!()
         };

@@ -13,8 +13,8 @@ unreachable-requires g c =
     let i = c.loop-place.invariant in let w = c.loop-place.cpus in let source = c.args.source in
     let first = length_is c.args.cpus.now source c.cpu.result.now c.cpu.ensures in
     let same = ap length (i.asked.same.ids source) in let len = c.len-place-end.ensures in let less = c.loop-place-test.true in
-    let low : c.loop-place.place < length (ids_on source w) = omega (arith, first, same, len, less) in
-    some_next w source c.cpu-in-loop-place.result.now c.cpu-in-loop-place.ensures c.loop-place.passed c.loop-place.place
+    let low : c.loop-place._place < length (ids_on source w) = omega (arith, first, same, len, less) in
+    some_next w source c.cpu-in-loop-place.result.now c.cpu-in-loop-place.ensures c.loop-place.passed c.loop-place._place
     i.walk low c.in_default.ensures.none
 
 pub returns-then-ne-clause-some : goal.returns-then-ne-clause-some
@@ -23,19 +23,19 @@ returns-then-ne-clause-some g c records last =
     let x = c.cpu_mut.result.now in let id = c.in-Some.id in
     let first = length_is c.args.cpus.now source c.cpu.result.now c.cpu.ensures in
     let same = ap length (i.asked.same.ids source) in let len = c.len-place-end.ensures in let less = c.loop-place-test.true in
-    let low : c.loop-place.place < length (ids_on source w) = omega (arith, first, same, len, less) in
+    let low : c.loop-place._place < length (ids_on source w) = omega (arith, first, same, len, less) in
     let spot = next_spot w source c.cpu-in-loop-place.result.now c.cpu-in-loop-place.ensures c.loop-place.passed
-    c.loop-place.place i.walk low id c.in-Some.ensures.some in
+    c.loop-place._place i.walk low id c.in-Some.ensures.some in
     let (n, some, did) = found_some g.R.Raise id x c.pending.new.self c.pending.result
-    (cyclic_of w source c.loop-place.place id x c.cpu_mut.ensures.cpu spot) (sym c.ne.ensures ∙ c.if-ne.true)
+    (cyclic_of w source c.loop-place._place id x c.cpu_mut.ensures.cpu spot) (sym c.ne.ensures ∙ c.if-ne.true)
     c.pending.ensures in
-    finds g.R.Raise source c.args.cpus.now c.loop-place.place id w x c.pending.new.self
+    finds g.R.Raise source c.args.cpus.now c.loop-place._place id w x c.pending.new.self
     i.asked spot c.cpu_mut.ensures.cpu n some did records last
 
 pub loop-place-preserved : goal.loop-place-preserved
 loop-place-preserved g c =
     let i = c.loop-place.invariant in let w = c.loop-place.cpus in let source = c.args.source in let v = c.args.cpus.now in
-    let x = c.cpu_mut.result.now in let id = c.in-Some.id in let place = c.loop-place.place in
+    let x = c.cpu_mut.result.now in let id = c.in-Some.id in let place = c.loop-place._place in
     let first = length_is v source c.cpu.result.now c.cpu.ensures in
     let same = ap length (i.asked.same.ids source) in let len = c.len-place-end.ensures in let less = c.loop-place-test.true in
     let low : place < length (ids_on source w) = omega (arith, first, same, len, less) in
