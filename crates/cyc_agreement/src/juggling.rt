@@ -43,11 +43,15 @@ pub(crate) fn move_away<R: Raise>(
         pending: 0,
         refused: 0,
     };
-    let mut place = 0;
+    let mut passed = None;
     for _done in 0..cpus.cpu(source).len() {
         cpus.law();
         records.law();
-        place = visit(cpus, records, source, place, &mut report);
+        let Some(id) = cpus.cpu(source).id_after(passed) else {
+            unreachable!()
+        };
+        visit(cpus, records, source, id, &mut report);
+        passed = Some(id);
     }
     report
 }

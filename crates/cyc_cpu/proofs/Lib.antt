@@ -13,4 +13,6 @@ pub mod Lawful
 pub mod Calling
 pub mod Sizes
 pub mod Banks
+pub mod Reprogramming
 pub use Rattle.cyc_timers.proofs.Sharing
+pub use Rattle.cyc_timers.proofs.Walks

@@ -11,7 +11,7 @@ ghost use Rattle.cyc_ring.specs.Rows.{HoldsStays, stay_index, entry_in_hand};
 ghost use Rattle.cyc_ring.specs.Views.{IsSeenSound, IsBalanced};
 
 use cyc_finder::Finder;
-use cyc_types::CyclicId;
+use cyc_types::{CYCLICS, CyclicId};
 use ring_rule::Setting;
 use ring_steps::{FiringSide, INDEXES, SoftSide};
 use std::alloc::{AllocError, Global};
@@ -42,7 +42,8 @@ pub struct RaiseSeat {
     ghost next_is: { next ≡ producer_index setting.start side.seat.me.0.raise_trail % index_range },
     ghost ranges: { (0 < setting.ceiling) × (setting.ceiling < 2 ^ 32) × (setting.start < 2 ^ 32) },
     ghost rows: { HoldsStays stays.value.ids stays.value.sent stays.value.lost side.seat.me.0.raise_trail },
-    ghost listed: { (id : ℕ) → index_of id finder ≡ stay_index (open_stay id side.seat.me.0.raise_trail) },
+    ghost roomy: { cyclics ≤ finder.room },
+    ghost listed: { (id : ℕ) → index_of id finder.entries ≡ stay_index (open_stay id side.seat.me.0.raise_trail) },
     ghost seen: { IsSeenSound setting.ceiling side.seat.me.0.raise_trail },
     ghost balanced: { IsBalanced side.seat.me.0.raise_trail },
 }
@@ -75,7 +76,8 @@ impl RaiseSeat {
         requires ranges { (0 < setting.ceiling) × (setting.ceiling < 2 ^ 32) × (setting.start < 2 ^ 32) }
         ensures { IfOk result (λ r. (r.side ≡ side) × (r.setting ≡ setting)) }
     {
-        let finder = Finder::new(alloc)?;
+        let mut finder = Finder::new(alloc)?;
+        finder.reserve(usize::from(CYCLICS))?;
         let stays = Box::new(
             alloc,
             Stays {
@@ -102,7 +104,7 @@ impl RaiseSeat {
         ensures { (result < cyclics) × (slice_index self.now.stays.value.ids result ≡ id) }
     {
         match self.finder.find(id) {
-            Some(index) => index,
+            Some(index) => usize::from(index.number()),
             None => unreachable!(),
         }
     }

@@ -41,8 +41,10 @@ invariant_of-raise_seat g c = let r = c.args.raise_seat.now in let t : List Rais
           (λ z. (sym now z, sym e' z))
           (fits_admitted st.ids st.sent st.lost t r.rows n at low (ap (λ (j : ℕ). get_or st.ids j 0) is_at ∙ c.requires.index.1)
           (λ z. omega (arith, z, some)) (ap (λ (y : ℕ). open_stay y t) is_id ∙ c.requires.absent) l1 l2 l3);
-      listed = subst (λ (u : List RaiseStep). (j : ℕ) → index_of j c.insert.new.self ≡ stay_index (open_stay j u)) (sym e)
-          (listed_admitted t (λ j. index_of j r.finder) (λ j. index_of j c.insert.new.self) r.listed id i c.insert.ensures);
+      roomy = (let k = r.roomy in let e = c.insert.ensures.room in omega (arith, k, e));
+      listed = subst (λ (u : List RaiseStep). (j : ℕ) → index_of j c.insert.new.self.entries ≡ stay_index (open_stay j u)) (sym e)
+          (listed_admitted t (λ j. index_of j r.finder.entries) (λ j. index_of j c.insert.new.self.entries)
+          r.listed id i c.insert.ensures.told);
       seen = subst (IsSeenSound r.setting.ceiling) (sym e)
           (sound_admits r.setting.ceiling t r.seen id i (subst (λ (b : ℕ). i < 2 ^ b) r.bank_is.0 room));
       balanced = subst IsBalanced (sym e) (balanced_admitted t r.balanced id i c.requires.absent);
