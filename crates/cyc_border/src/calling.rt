@@ -1,9 +1,9 @@
 //! A call of a handler, as the caller takes and finishes it.
 
-ghost use Rattle.std.specs.Prelude.{◌≡◌, Some, None, IfSome, IfNone, IfOk, IfErr};
+ghost use Rattle.std.specs.Prelude.{◌≡◌, Some, None, Err, IfSome, IfNone, IfOk, IfErr};
 ghost use Rattle.cyc_cpu.specs.Soft.{end_at, held_at, HasEmptyLists};
 ghost use Rattle.cyc_border.specs.Border.{IsAsked, WhyNotAsked, AddsAsked, Adds, Fires, FiresCpu, refused_at, Takes, Finishes};
-ghost use Rattle.cyc_border.specs.Border.{add_numbers, grant, handed_after, call_at, with_call};
+ghost use Rattle.cyc_border.specs.Border.{add_numbers, grant, stopped_at, handed_after, call_at, with_call};
 
 use crate::cpu::Cpu;
 use crate::granted::Granted;
@@ -22,18 +22,31 @@ fn granted(called: Option<CyclicId>) -> Granted
     }
 }
 
-/// Keeps in `high` what is handed out behind a fire: the cyclic in front of which it stopped, and after a fire that was refused at
-/// once what was handed out before.
-fn hand_out(high: &mut Option<CyclicId>, answer: &Result<Fired, FireRefused>)
-    ensures { high.new ≡ handed_after high.old answer.now }
+/// What stays handed out behind a fire that was refused, but not in front of a high cyclic: what was handed out before, where it was
+/// refused at once. A call, so that LLVM takes it for rare, and a fire that stops in front of a high cyclic goes straight on.
+#[cold]
+#[inline(never)]
+fn stays_out(high: Option<CyclicId>, refused: &FireRefused) -> Option<CyclicId>
+    requires { stopped_at (Err refused.now) ≡ None }
+    ensures { result ≡ handed_after high (Err refused.now) }
+{
+    match refused.why {
+        Refusal::Suspended | Refusal::BadNow => high,
+        _ => None,
+    }
+}
+
+/// What is handed out behind a fire: the cyclic in front of which it stopped, and after a fire that was refused at once what was
+/// handed out before.
+fn handed_out(high: Option<CyclicId>, answer: &Result<Fired, FireRefused>) -> Option<CyclicId>
+    ensures { result ≡ handed_after high answer.now }
 {
     match answer {
+        Ok(_) => None,
         Err(refused) => match refused.why {
-            Refusal::HandlerRefused(id) => *high = Some(id),
-            Refusal::Suspended | Refusal::BadNow => {}
-            _ => *high = None,
+            Refusal::HandlerRefused(id) => Some(id),
+            _ => stays_out(high, refused),
         },
-        Ok(_) => *high = None,
     }
 }
 
@@ -120,7 +133,7 @@ pub fn fire<R: Raise>(
 {
     let mut calls = granted(*high);
     let answer = cpu.fire(now, &mut calls);
-    hand_out(high, &answer);
+    *high = handed_out(*high, &answer);
     answer
 }
 

@@ -112,12 +112,21 @@ pub(crate) fn write_fired(answer: Result<Fired, FireRefused>, fired: &mut Cyclic
     }
 }
 
+/// The number of what stopped a fire, but not in front of a high cyclic. A call, so that LLVM takes it for rare.
+#[cold]
+#[inline(never)]
+fn rare_number(why: &Refusal) -> u32
+    ensures { result ≡ number_of (Refused why.now) }
+{
+    u32::from(why.number())
+}
+
 /// The number of what stopped a fire. First that of a high cyclic, at which every part of a fire stops but the last.
 fn stop_number(why: &Refusal) -> u32
     ensures { result ≡ number_of (Refused why.now) }
 {
     match why {
         Refusal::HandlerRefused(_) => 12,
-        other => u32::from(other.number()),
+        other => rare_number(other),
     }
 }
