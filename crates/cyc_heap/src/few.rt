@@ -13,12 +13,8 @@ pub(crate) fn find(few: &[Entry], index: Index) -> Option<usize>
     ensures none { IfNone result (HasNo index few.now) }
     ensures some { IfSome result (λ p. (p < length few.now) × (index_of (entry_at few.now p) ≡ index)) }
 {
-    for place in 0..few.len() {
-        if few[place].index().number() == index.number() {
-            return Some(place);
-        }
-    }
-    None
+    few.iter()
+        .position(|entry| entry.index().number() == index.number())
 }
 
 /// The place below this one whose entry expires first, of a place that has one below it.
