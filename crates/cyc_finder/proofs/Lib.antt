@@ -3,4 +3,5 @@ pub mod Runs
 pub mod Few
 pub mod Entries
 pub mod Here
+pub mod Packing
 pub mod Walks

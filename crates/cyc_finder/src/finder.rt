@@ -10,8 +10,9 @@ ghost use Rattle.cyc_finder.specs.Indexes.{Entry, new_finder, hints, hint_at, id
 use crate::hints::Hints;
 use crate::slots::{
     First, Slot, after, first_with, first_without, make_way, next_here, position_of, put, quick,
+    sought,
 };
-use crate::sorted::{search_new, search_unguessed};
+use crate::sorted::search_new;
 use cyc_types::{CyclicId, Index};
 use std::alloc::{AllocError, Global};
 use std::marker::Model;
@@ -24,12 +25,15 @@ pub fn hints_law()
     ensures { HINTS ≡ hints }
 {}
 
+/// How many slots a finder has at least: with few cyclics those that are gone are then seldom dropped (our own rule).
+const FEWEST_SLOTS: usize = 64;
+
 /// The map from the ids of cyclics to their indexes, no two the same (our own; the kernel names a cyclic by its address). Contracts
 /// see its entries by rising id.
 ///
 /// It keeps a slot for each cyclic that came, by rising id, and a cyclic that goes leaves its slot behind, so that no other is moved.
 /// The slots of those that are gone are dropped all at once, when no more fit. Ids mostly rise by one, so the first look mostly answers;
-/// after it comes a hint, of which each id has one, and then halving.
+/// after it comes a hint, of which each id has one, with many cyclics a second one, which fewer ids share, and then halving.
 #[derive(Drop)]
 pub struct Finder {
     slots: Vec<Slot>,
@@ -62,22 +66,23 @@ pub fn hint_of(id: CyclicId) -> usize
 }
 
 impl Finder {
-    /// No id has an index. Takes the memory of one cyclic.
+    /// No id has an index. Takes the memory of one cyclic, with `FEWEST_SLOTS` slots.
     pub fn new(alloc: Global) -> Result<Finder, AllocError>
         ensures { IfOk result (λ finder. finder ≡ new_finder) }
     {
         Ok(Finder {
-            slots: Vec::with_capacity(alloc, 2)?,
+            slots: Vec::with_capacity(alloc, FEWEST_SLOTS)?,
             first: First {
                 position: 0,
                 base: 0,
             },
-            hints: Hints::new(alloc)?,
+            hints: Hints::new(alloc),
             room: 1,
         })
     }
 
-    /// Takes the memory of so many cyclics, so that none of these takes any: 32 bytes for each, and a hint. O(n) where it takes any.
+    /// Takes the memory of so many cyclics, so that none of these takes any: 32 bytes for each, and 16 KB once where they are more than
+    /// `HINTS`. O(n) where it takes any.
     pub fn reserve(&mut self, size: usize) -> Result<(), AllocError>
         ensures ok { OnOk result (self.new ≡ record self.old { room = max self.old.room size }) }
         ensures err { OnErr result (self.new ≡ self.old) }
@@ -88,8 +93,7 @@ impl Finder {
             let slots = size.checked_mul(2).ok_or(AllocError)?;
             self.slots
                 .reserve_exact(slots.saturating_sub(self.slots.len()))?;
-            self.hints.reserve(size)?;
-            self.hints.set_from(&self.slots, 0);
+            self.hints.reserve(&self.slots, size)?;
             self.room = size;
         }
         Ok(())
@@ -126,7 +130,7 @@ impl Finder {
         ensures value { result ≡ index_of id self.old.entries }
         ensures same { self.new ≡ self.old }
     {
-        match search_unguessed(&self.slots, id) {
+        match sought(&self.slots, &self.hints, id) {
             Ok(position) => {
                 self.hints.set(id, position);
                 self.slots[position].index
@@ -175,9 +179,9 @@ impl Finder {
         ensures told { (j : ℕ) → index_of j self.new.entries ≡ cond (eqb j id) (Some index) (index_of j self.old.entries) }
         ensures room { self.new.room ≡ self.old.room }
     {
-        self.first = make_way(&mut self.slots, &mut self.hints, self.first);
+        make_way(&mut self.slots, &mut self.hints, &mut self.first);
         let position = put(&mut self.slots, &mut self.hints, id, index);
-        self.first = first_with(&self.slots, self.first, position);
+        first_with(&self.slots, &mut self.first, position);
     }
 
     /// The id has no index any more: the answer is the one that it had. No slot is moved. O(1) where one of two looks finds it, else
@@ -192,11 +196,12 @@ impl Finder {
         let Some(position) = position_of(&self.slots, self.first.base, &self.hints, id) else {
             unreachable!()
         };
-        let Some(index) = self.slots[position].index else {
+        let slot = &mut self.slots[position];
+        let Some(index) = slot.index else {
             unreachable!()
         };
-        self.slots[position] = Slot { id, index: None };
-        self.first = first_without(&self.slots, self.first, position);
+        *slot = Slot { id, index: None };
+        first_without(&self.slots, &mut self.first, position);
         index
     }
 }

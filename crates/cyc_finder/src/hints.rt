@@ -1,66 +1,89 @@
 //! Where the slot of an id was last.
 
-ghost use Rattle.std.specs.Prelude.{◌<◌, length};
-
+use crate::finder::{HINTS, hint_of};
 use crate::slots::Slot;
 use cyc_types::CyclicId;
 use std::alloc::{AllocError, Global};
 
+/// How many far hints there are, where there are any: enough that ids a few apart, of as many cyclics as a CPU has, mostly don't share one.
+const FAR: usize = 8192;
+
 /// For the low bits of an id, with those above them added, where the slot of the last such one was: right or not, it says where to look.
 ///
-/// There are `2^bits` hints. As many ids in a row mostly have each their own, and so have as many that are 2, 4, 8 or 16 apart, as those
-/// of one of so many CPUs often are.
+/// The near hints are few and stand where a look at one needs no other read. Where more cyclics may be here than they are, there are
+/// far hints too.
 #[derive(Drop)]
 pub(crate) struct Hints {
-    positions: Vec<u16>,
-    bits: u32,
-    ghost some: { 0 < length positions.items },
-    ghost few: { bits < 64 },
+    near: [u16; HINTS],
+    far: Vec<u16>,
+}
+
+/// A position as a hint has it.
+#[inline(always)]
+fn short(position: usize) -> u16 {
+    (position % 65_536) as u16
+}
+
+/// Where the far hint of an id stands, as `hint_of` among the near ones.
+#[inline(always)]
+fn far_of(id: CyclicId) -> usize {
+    let number = id.number();
+    let hints = FAR as u64;
+    (number.wrapping_add(number / hints) % hints) as usize
 }
 
 impl Hints {
-    /// One hint.
-    pub(crate) fn new(alloc: Global) -> Result<Hints, AllocError> {
-        Ok(Hints {
-            positions: vec![in alloc; 0; 1]?,
-            bits: 0,
-        })
+    /// Near hints alone. Takes no memory.
+    pub(crate) fn new(alloc: Global) -> Hints {
+        Hints {
+            near: [0; HINTS],
+            far: Vec::new(alloc),
+        }
     }
 
-    /// As many hints as so many cyclics need. Those that were are worth nothing then.
-    pub(crate) fn reserve(&mut self, size: usize) -> Result<(), AllocError> {
-        let length = size.checked_next_power_of_two().ok_or(AllocError)?;
-        if length > self.positions.len() {
-            self.positions.resize(length, 0)?;
-            self.bits = length.ilog2();
+    /// As many hints as so many cyclics need, which stand in these slots.
+    pub(crate) fn reserve(&mut self, slots: &[Slot], size: usize) -> Result<(), AllocError> {
+        if size > HINTS && self.far.is_empty() {
+            self.far.resize(FAR, 0)?;
+            self.set_all(slots);
         }
         Ok(())
     }
 
-    /// Which hint is that of the id.
-    #[inline(always)]
-    fn number_of(&self, id: CyclicId) -> usize
-        ensures { result < length self.now.positions.items }
-    {
-        let number = id.number();
-        (number + (number >> self.bits)) as usize & (self.positions.len() - 1)
-    }
-
     /// Where the slot of this id may be.
     #[inline(always)]
-    pub(crate) fn of(&self, id: CyclicId) -> usize {
-        usize::from(self.positions[self.number_of(id)])
+    pub(crate) fn near(&self, id: CyclicId) -> usize {
+        usize::from(self.near[hint_of(id)])
+    }
+
+    /// Where it may be, where `near` was wrong: the first position where there are no far hints.
+    #[inline(always)]
+    pub(crate) fn far(&self, id: CyclicId) -> usize {
+        match self.far.get(far_of(id)) {
+            Some(position) => usize::from(*position),
+            None => 0,
+        }
     }
 
     /// The slot of this id is at this position.
+    #[inline(always)]
     pub(crate) fn set(&mut self, id: CyclicId, position: usize) {
-        let number = self.number_of(id);
-        self.positions[number] = position.min(usize::from(u16::MAX)) as u16;
+        self.near[hint_of(id)] = short(position);
+        if !self.far.is_empty() {
+            self.set_far(id, position);
+        }
     }
 
-    /// The slots from this position on are where they are.
-    pub(crate) fn set_from(&mut self, slots: &[Slot], position: usize) {
-        for at in position..slots.len() {
+    /// As `set`, of the far hint alone.
+    fn set_far(&mut self, id: CyclicId, position: usize) {
+        if let Some(hint) = self.far.get_mut(far_of(id)) {
+            *hint = short(position);
+        }
+    }
+
+    /// All slots are where they are.
+    pub(crate) fn set_all(&mut self, slots: &[Slot]) {
+        for at in 0..slots.len() {
             self.set(slots[at].id, at);
         }
     }

@@ -1,6 +1,6 @@
 //! The slots of a finder: looking an id up among them, putting one in, and dropping those that are gone.
 
-ghost use Rattle.std.specs.Prelude.{◌≡◌, ◌≢◌, ℕ, ◌+◌, ◌-◌, ◌<◌, ◌≤◌, length, slice_index_or, None, Some, IfSome, IfNone, insert};
+ghost use Rattle.std.specs.Prelude.{◌≡◌, ◌≢◌, ℕ, ◌+◌, ◌-◌, ◌<◌, ◌≤◌, length, slice_index_or, None, Some, IfSome, IfNone, IfOk, IfErr, insert};
 ghost use Rattle.std.specs.Prelude.{vec_capacity};
 ghost use Rattle.std.specs.List.{AllWithin, HoldsAt, SameBelow};
 ghost use Rattle.cyc_finder.specs.Sorted.{Rises, IsAt, IsGap, IsPassed, ComesAfter};
@@ -8,7 +8,7 @@ ghost use Rattle.cyc_finder.specs.Indexes.{id_in, index_of};
 ghost use Rattle.cyc_finder.specs.Slots.{slot_id, entries_of, IsGone, IsFirst};
 
 use crate::hints::Hints;
-use crate::sorted::{HasId, search, search_new, search_unguessed, stands_at};
+use crate::sorted::{HasId, is_above_all, search, search_unguessed, stands_at};
 use cyc_types::{CyclicId, Index};
 
 /// A cyclic that came: with its index while it is here, with none once it is gone.
@@ -44,14 +44,40 @@ pub(crate) fn quick(slots: &[Slot], base: u64, hints: &Hints, id: CyclicId) -> O
     if guessed < slots.len() as u64 && stands_at(slots, id, guessed as usize) {
         return Some(guessed as usize);
     }
-    let hinted = hints.of(id);
+    let hinted = hints.near(id);
     if stands_at(slots, id, hinted) {
         return Some(hinted);
     }
     None
 }
 
-/// Where the slot of this id stands, by two looks and then by halving. None where there is none.
+/// Where the slot of this id stands, or where it would stand, where `quick` did not find it: by a look where a far hint says, and then by
+/// halving. O(log n).
+#[inline(always)]
+pub(crate) fn sought(slots: &[Slot], hints: &Hints, id: CyclicId) -> Result<usize, usize>
+    requires { Rises slot_id slots.now }
+    ensures found { IfOk result (IsAt slot_id slots.now id) }
+    ensures absent { IfErr result (IsGap slot_id slots.now id) }
+{
+    let far = hints.far(id);
+    if stands_at(slots, id, far) {
+        return Ok(far);
+    }
+    search_unguessed(slots, id)
+}
+
+/// As `sought`, by a call, so that what calls it keeps no registers for it.
+#[cold]
+#[inline(never)]
+fn sought_apart(slots: &[Slot], hints: &Hints, id: CyclicId) -> Result<usize, usize>
+    requires { Rises slot_id slots.now }
+    ensures found { IfOk result (IsAt slot_id slots.now id) }
+    ensures absent { IfErr result (IsGap slot_id slots.now id) }
+{
+    sought(slots, hints, id)
+}
+
+/// Where the slot of this id stands, by `quick` and then as `sought`. None where there is none.
 #[inline(always)]
 pub(crate) fn position_of(slots: &[Slot], base: u64, hints: &Hints, id: CyclicId) -> Option<usize>
     requires { Rises slot_id slots.now }
@@ -61,7 +87,7 @@ pub(crate) fn position_of(slots: &[Slot], base: u64, hints: &Hints, id: CyclicId
     if let Some(position) = quick(slots, base, hints, id) {
         return Some(position);
     }
-    match search_unguessed(slots, id) {
+    match sought_apart(slots, hints, id) {
         Ok(position) => Some(position),
         Err(_) => None,
     }
@@ -125,73 +151,121 @@ pub(crate) fn first_from(slots: &[Slot], position: usize) -> First
 }
 
 /// The first that is here once the cyclic at this position is gone. While the first goes up each slot is passed by once.
-pub(crate) fn first_without(slots: &[Slot], first: First, position: usize) -> First
+#[inline(always)]
+pub(crate) fn first_without(slots: &[Slot], first: &mut First, position: usize)
     requires rises { Rises slot_id slots.now }
     requires within { position < length slots.now }
-    requires gone { position ≡ first.position → AllWithin IsGone slots.now 0 (position + 1) }
-    requires other { position ≢ first.position → IsFirst slots.now first }
-    ensures { IsFirst slots.now result }
+    requires gone { position ≡ first.old.position → AllWithin IsGone slots.now 0 (position + 1) }
+    requires other { position ≢ first.old.position → IsFirst slots.now first.old }
+    ensures { IsFirst slots.now first.new }
 {
     if position == first.position {
-        first_from(slots, position + 1)
-    } else {
-        first
+        *first = first_from(slots, position + 1);
     }
 }
 
 /// The first that is here once a cyclic of this id is at this position.
-pub(crate) fn first_with(slots: &[Slot], first: First, position: usize) -> First
+#[inline(always)]
+pub(crate) fn first_with(slots: &[Slot], first: &mut First, position: usize)
     requires rises { Rises slot_id slots.now }
     requires within { position < length slots.now }
     requires here { HoldsAt (λ slot. slot.index ≢ None) slots.now position }
-    requires gone { position ≤ first.position → AllWithin IsGone slots.now 0 position }
-    requires other { first.position < position → IsFirst slots.now first }
-    ensures { IsFirst slots.now result }
+    requires gone { position ≤ first.old.position → AllWithin IsGone slots.now 0 position }
+    requires other { first.old.position < position → IsFirst slots.now first.old }
+    ensures { IsFirst slots.now first.new }
 {
     if position <= first.position {
-        First {
+        *first = First {
             position,
             base: base_at(slots, position),
-        }
-    } else {
-        first
+        };
     }
 }
 
-/// Drops the slots whose cyclics are gone. O(n).
-fn pack(slots: &mut Vec<Slot>)
-    requires { Rises slot_id slots.old.items }
+/// Drops the slots whose cyclics are gone, as all before this position are. O(n), with no branch that a slot decides.
+fn pack(slots: &mut Vec<Slot>, position: usize)
+    requires rises { Rises slot_id slots.old.items }
+    requires within { position ≤ length slots.old.items }
+    requires gone { AllWithin IsGone slots.old.items 0 position }
     ensures entries { entries_of slots.new.items ≡ entries_of slots.old.items }
     ensures rises { Rises slot_id slots.new.items }
     ensures len { length slots.new.items ≡ length (entries_of slots.old.items) }
     ensures capacity { vec_capacity slots.new ≡ vec_capacity slots.old }
 {
-    slots.retain(|slot| slot.index.is_some());
+    let mut kept = 0;
+    for at in position..slots.len() {
+        let slot = slots[at];
+        slots[kept] = slot;
+        kept += slot.index.is_some() as usize;
+    }
+    slots.truncate(kept);
+}
+
+/// Drops the slots whose cyclics are gone, hints where the others are now, and says which is the first that is here.
+#[cold]
+#[inline(never)]
+fn pack_all(slots: &mut Vec<Slot>, hints: &mut Hints, first: First) -> First
+    requires rises { Rises slot_id slots.old.items }
+    requires first { IsFirst slots.old.items first }
+    ensures entries { entries_of slots.new.items ≡ entries_of slots.old.items }
+    ensures rises { Rises slot_id slots.new.items }
+    ensures len { length slots.new.items ≡ length (entries_of slots.old.items) }
+    ensures capacity { vec_capacity slots.new ≡ vec_capacity slots.old }
+    ensures first { IsFirst slots.new.items result }
+{
+    pack(slots, first.position);
+    hints.set_all(slots);
+    first_from(slots, 0)
 }
 
 /// Where no more slots fit, drops those whose cyclics are gone, and says which is the first that is here. More go than may be here,
 /// so that for each cyclic that came it costs O(1) on average.
-pub(crate) fn make_way(slots: &mut Vec<Slot>, hints: &mut Hints, first: First) -> First
+#[inline(always)]
+pub(crate) fn make_way(slots: &mut Vec<Slot>, hints: &mut Hints, first: &mut First)
     requires rises { Rises slot_id slots.old.items }
     requires few { length (entries_of slots.old.items) < vec_capacity slots.old }
-    requires first { IsFirst slots.old.items first }
+    requires first { IsFirst slots.old.items first.old }
     ensures entries { entries_of slots.new.items ≡ entries_of slots.old.items }
     ensures rises { Rises slot_id slots.new.items }
     ensures fits { length slots.new.items < vec_capacity slots.new }
     ensures capacity { vec_capacity slots.new ≡ vec_capacity slots.old }
-    ensures first { IsFirst slots.new.items result }
+    ensures first { IsFirst slots.new.items first.new }
 {
-    if slots.len() < slots.capacity() {
-        return first;
+    if slots.len() >= slots.capacity() {
+        *first = pack_all(slots, hints, *first);
     }
-    pack(slots);
-    hints.set_from(slots, 0);
-    first_from(slots, 0)
 }
 
-/// Puts in a cyclic of this id and index, and says where: behind the last where its id is above all others, where its slot is if
-/// it came before, else between two, and those above are moved.
+/// Puts in a cyclic of this id and index, and says where: behind the last where its id is above all others, else by `put_between`.
+#[inline(always)]
 pub(crate) fn put(slots: &mut Vec<Slot>, hints: &mut Hints, id: CyclicId, index: Index) -> usize
+    requires rises { Rises slot_id slots.old.items }
+    requires absent { index_of id (entries_of slots.old.items) ≡ None }
+    requires fits { length slots.old.items < vec_capacity slots.old }
+    ensures rises { Rises slot_id slots.new.items }
+    ensures entries { (k : ℕ) × IsGap id_in (entries_of slots.old.items) id k
+        × (entries_of slots.new.items ≡ insert (entries_of slots.old.items) k (record { id = id; index = index })) }
+    ensures near { result ≤ length slots.old.items }
+    ensures within { result < length slots.new.items }
+    ensures here { HoldsAt (λ slot. slot ≡ record { id = id; index = Some index }) slots.new.items result }
+    ensures before { SameBelow slots.old.items slots.new.items result }
+    ensures capacity { vec_capacity slots.old ≤ vec_capacity slots.new }
+{
+    if !is_above_all(slots, id) {
+        return put_between(slots, hints, id, index);
+    }
+    let position = slots.len();
+    let index = Some(index);
+    slots.push_reserved(Slot { id, index });
+    hints.set(id, position);
+    position
+}
+
+/// As `put`, at any id: where its slot is if it came before, else between two, and those above are moved. Where these are now no hint
+/// says before they are sought.
+#[cold]
+#[inline(never)]
+fn put_between(slots: &mut Vec<Slot>, hints: &mut Hints, id: CyclicId, index: Index) -> usize
     requires rises { Rises slot_id slots.old.items }
     requires absent { index_of id (entries_of slots.old.items) ≡ None }
     requires fits { length slots.old.items < vec_capacity slots.old }
@@ -208,7 +282,7 @@ pub(crate) fn put(slots: &mut Vec<Slot>, hints: &mut Hints, id: CyclicId, index:
         id,
         index: Some(index),
     };
-    match search_new(slots, id) {
+    match search(slots, id) {
         Ok(position) => {
             slots[position] = slot;
             hints.set(id, position);
@@ -216,7 +290,7 @@ pub(crate) fn put(slots: &mut Vec<Slot>, hints: &mut Hints, id: CyclicId, index:
         }
         Err(position) => {
             let _ = slots.insert(position, slot);
-            hints.set_from(slots, position);
+            hints.set(id, position);
             position
         }
     }

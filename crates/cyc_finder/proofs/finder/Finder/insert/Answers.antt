@@ -8,8 +8,8 @@ use Rattle.cyc_finder.proofs.Entries.{index_inserted, free_is, indexes_insert}
 use Rattle.cyc_finder.proofs.Here.{entries_rise}
 use Rattle.cyc_finder.proofs.finder.Finder.insert.Goals as goal
 
-pub make_way-self-inside-requires-clause-few : goal.make_way-self-inside-requires-clause-few
-make_way-self-inside-requires-clause-few c =
+pub make_way-requires-clause-few : goal.make_way-requires-clause-few
+make_way-requires-clause-few c =
     let f = c.self.invariant in let xs = entries_of c.self.inside.slots.items in
     let small : c.args.index < c.self.inside.room = (let r = c.requires.room in
     let e = ap (λ (v : FinderView). v.room) c.self.view_is in omega (arith, r, e)) in
@@ -20,7 +20,7 @@ make_way-self-inside-requires-clause-few c =
 
 pub invariant_of-self : goal.invariant_of-self
 invariant_of-self c =
-    let f = c.self.invariant in let xs = entries_of c.self.inside.slots.items in let made = c.make_way-self-inside in
+    let f = c.self.invariant in let xs = entries_of c.self.inside.slots.items in let made = c.make_way in
     let index : ℕ = c.args.index in
     let small : index < c.self.inside.room = (let r = c.requires.room in
     let e = ap (λ (v : FinderView). v.room) c.self.view_is in omega (arith, r, e)) in
@@ -38,13 +38,13 @@ invariant_of-self c =
           (distinct_insert c.self.inside.room (map index_in xs) f.distinct k index low small free);
       room = (let r = f.room in let a = made.ensures.capacity in let b = c.put-position.ensures.capacity in
           omega (arith, r, a, b));
-      first = subst (λ ys. IsFirst ys c.first_with-self-inside.result) c.deref.ensures.value c.first_with-self-inside.ensures;
+      first = subst (λ ys. IsFirst ys c.first_with.new.first) c.deref.ensures.value c.first_with.ensures;
     }
 
 pub returns-clause-told : goal.returns-clause-told
 returns-clause-told c j =
     let (k, gap, is) = c.put-position.ensures.entries in let id = c.args.id in
-    let made = c.make_way-self-inside.ensures.entries in
-    let xs = entries_of c.make_way-self-inside.new.slots.items in
+    let made = c.make_way.ensures.entries in
+    let xs = entries_of c.make_way.new.slots.items in
     ap (index_of j) is ∙ index_inserted xs id k c.args.index gap j
     ∙ ap (λ ys. cond (eqb j id) (Some c.args.index) (index_of j ys)) (made ∙ ap (λ (v : FinderView). v.entries) c.self.view_is)

@@ -22,14 +22,14 @@ unreachable-requires-in_default-index c = let xs = c.self.inside.slots.items in 
     let p = c.in-Some.position in
     let at = subst (λ ys. IsAt slot_id ys id p) c.deref.ensures.value c.in-Some.ensures.some in
     c.requires (sym (ap (λ (v : FinderView). index_of id v.entries) c.self.view_is)
-    ∙ index_is xs c.self.invariant.rises id p at c.index.result.now ∙ ap (λ (s : Slot). s.index) (sym c.index.ensures)
+    ∙ index_is xs c.self.invariant.rises id p at c.index_mut-slot.result.now ∙ ap (λ (s : Slot). s.index) (sym c.index_mut-slot.ensures.value)
     ∙ c.in_default-index.is)
 
 pub returns-clause-index : goal.returns-clause-index
 returns-clause-index c = let xs = c.self.inside.slots.items in let id = c.args.id in let p = c.in-Some.position in
     let at = subst (λ ys. IsAt slot_id ys id p) c.deref.ensures.value c.in-Some.ensures.some in
     sym (ap (λ (v : FinderView). index_of id v.entries) c.self.view_is)
-    ∙ index_is xs c.self.invariant.rises id p at c.index.result.now ∙ ap (λ (s : Slot). s.index) (sym c.index.ensures)
+    ∙ index_is xs c.self.invariant.rises id p at c.index_mut-slot.result.now ∙ ap (λ (s : Slot). s.index) (sym c.index_mut-slot.ensures.value)
     ∙ c.in-Some-index.is
 
 pub invariant_of-self : goal.invariant_of-self
@@ -37,8 +37,8 @@ invariant_of-self c =
     let f = c.self.invariant in let xs = c.self.inside.slots.items in let id : ℕ = c.args.id in let p : ℕ = c.in-Some.position in
     let at = subst (λ ys. IsAt slot_id ys id p) c.deref.ensures.value c.in-Some.ensures.some in
     let i : ℕ = c.in-Some-index.index in
-    let some : index_of id (entries_of xs) ≡ Some i = index_is xs f.rises id p at c.index.result.now
-    ∙ ap (λ (s : Slot). s.index) (sym c.index.ensures) ∙ c.in-Some-index.is in
+    let some : index_of id (entries_of xs) ≡ Some i = index_is xs f.rises id p at c.index_mut-slot.result.now
+    ∙ ap (λ (s : Slot). s.index) (sym c.index_mut-slot.ensures.value) ∙ c.in-Some-index.is in
     let here = here_is xs f.rises id p at i some in
     let new = gone_removed xs p id i at.in_range here in
     let gone : Slot = record { id = id; index = None } in
@@ -48,8 +48,8 @@ invariant_of-self c =
           (sym (ap (map index_in) new ∙ indexes_remove (entries_of xs) (rank xs p)))
           (distinct_remove c.self.inside.room (map index_in (entries_of xs)) f.distinct (rank xs p));
       room = f.room;
-      first = subst (λ ys. IsFirst ys c.first_without-self-inside.result) c.deref-2.ensures.value
-          c.first_without-self-inside.ensures;
+      first = subst (λ ys. IsFirst ys c.first_without.new.first) c.deref-2.ensures.value
+          c.first_without.ensures;
     }
 
 pub returns-clause-entries : goal.returns-clause-entries
@@ -57,8 +57,8 @@ returns-clause-entries c =
     let f = c.self.invariant in let xs = c.self.inside.slots.items in let id : ℕ = c.args.id in let p : ℕ = c.in-Some.position in
     let at = subst (λ ys. IsAt slot_id ys id p) c.deref.ensures.value c.in-Some.ensures.some in
     let i : ℕ = c.in-Some-index.index in
-    let some : index_of id (entries_of xs) ≡ Some i = index_is xs f.rises id p at c.index.result.now
-    ∙ ap (λ (s : Slot). s.index) (sym c.index.ensures) ∙ c.in-Some-index.is in
+    let some : index_of id (entries_of xs) ≡ Some i = index_is xs f.rises id p at c.index_mut-slot.result.now
+    ∙ ap (λ (s : Slot). s.index) (sym c.index_mut-slot.ensures.value) ∙ c.in-Some-index.is in
     let here = here_is xs f.rises id p at i some in
     let new = gone_removed xs p id i at.in_range here in
     subst (λ (v : FinderView). (k : ℕ) × IsAt id_in v.entries id k
@@ -70,8 +70,8 @@ returns-clause-told c j =
     let f = c.self.invariant in let xs = c.self.inside.slots.items in let id : ℕ = c.args.id in let p : ℕ = c.in-Some.position in
     let at = subst (λ ys. IsAt slot_id ys id p) c.deref.ensures.value c.in-Some.ensures.some in
     let i : ℕ = c.in-Some-index.index in
-    let some : index_of id (entries_of xs) ≡ Some i = index_is xs f.rises id p at c.index.result.now
-    ∙ ap (λ (s : Slot). s.index) (sym c.index.ensures) ∙ c.in-Some-index.is in
+    let some : index_of id (entries_of xs) ≡ Some i = index_is xs f.rises id p at c.index_mut-slot.result.now
+    ∙ ap (λ (s : Slot). s.index) (sym c.index_mut-slot.ensures.value) ∙ c.in-Some-index.is in
     let here = here_is xs f.rises id p at i some in
     ap (index_of j) (gone_removed xs p id i at.in_range here)
     ∙ index_removed (entries_of xs) (entries_rise xs f.rises) id (rank xs p) (is_here xs p id i at.in_range here) j
