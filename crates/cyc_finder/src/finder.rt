@@ -170,6 +170,7 @@ impl Finder {
 
     /// The id gets the index, which no other id has. Takes no memory. O(log n) on average where the id is above all that came, or was
     /// here before and its slot was not dropped; else those above it are moved.
+    #[inline(always)]
     pub fn insert(&mut self, id: CyclicId, index: Index)
         requires absent { index_of id self.old.entries ≡ None }
         requires free { ¬ IsIndexed index self.old.entries }
@@ -186,6 +187,7 @@ impl Finder {
 
     /// The id has no index any more: the answer is the one that it had. No slot is moved. O(1) where one of two looks finds it, else
     /// O(log n); where it was the first that is here, the slots of those that are gone behind it are passed by. Takes no memory.
+    #[inline(always)]
     pub fn remove(&mut self, id: CyclicId) -> Index
         requires { ¬ (index_of id self.old.entries ≡ None) }
         ensures index { index_of id self.old.entries ≡ Some result }
