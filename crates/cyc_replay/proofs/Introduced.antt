@@ -66,10 +66,12 @@ module _ (texts : List (List ℕ)) (f : ℕ → ℕ) (step : ℕ) (s : State) wh
       same_there (Advance now) s (does plain texts f step (Advance now) s).state refl h.names h.last
   introduces_does (Softint i) =
       still_there (Softint i) s (does plain texts f step (Softint i) s).state refl (still_softint texts step i s)
-  introduces_does (Juggle n) = still_there (Juggle n) s (does plain texts f step (Juggle n) s).state refl (still_juggle f step n s)
+  introduces_does (Juggle n) = still_there (Juggle n) s (does plain texts f step (Juggle n) s).state
+      refl (still_juggle f step n s)
   introduces_does (Offline n) =
       still_there (Offline n) s (does plain texts f step (Offline n) s).state refl (still_offline f step n s)
-  introduces_does (Online n) = still_there (Online n) s (does plain texts f step (Online n) s).state refl (still_online f step n s)
+  introduces_does (Online n) = still_there (Online n) s (does plain texts f step (Online n) s).state
+      refl (still_online f step n s)
   introduces_does Suspend = same_there Suspend s (does plain texts f step Suspend s).state refl refl refl
   introduces_does Resume = same_there Resume s (does plain texts f step Resume s).state refl refl refl
 

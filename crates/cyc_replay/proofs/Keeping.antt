@@ -75,7 +75,11 @@ kept_same v w h same = record {
 }
 
 kept_then : (v u w : SystemView Tables) → Kept v u → Kept u w → Kept v w
-kept_then v u w a b = record { half = b.half; most = λ n. b.most n ∙ a.most n; room = λ wanted all. b.room wanted (a.room wanted all) }
+kept_then v u w a b = record {
+  half = b.half;
+  most = λ n. b.most n ∙ a.most n;
+  room = λ wanted all. b.room wanted (a.room wanted all);
+}
 
 kept_parts : (v u w : SystemView Tables) → Kept v u → w.cpus ≡ u.cpus → w.records ≡ u.records → w.last ≡ u.last → Kept v w
 kept_parts v u w k cpus records last = record {

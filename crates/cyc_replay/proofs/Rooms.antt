@@ -1,6 +1,6 @@
 -- The memory of a CPU: no call takes from it what it has.
-use Rattle.std.proofs.Common.{◌≡◌, ◌≢◌, ℕ, zero, suc, ◌+◌, ◌<◌, ◌≤◌, ◌^◌, Bool, true, false, cond, inl, inr, length, Some, None, refl}
-use Rattle.std.proofs.Common.{pow_mono, ap, sym, ◌∙◌, subst, arith}
+use Rattle.std.proofs.Common.{◌≡◌, ◌≢◌, ℕ, zero, suc, ◌+◌, ◌<◌, ◌≤◌, ◌^◌, Bool, true, false, cond, inl, inr, length}
+use Rattle.std.proofs.Common.{Some, None, refl, pow_mono, ap, sym, ◌∙◌, subst, arith}
 use Rattle.std.specs.Prelude.{nat_le, slice_set, Ok, Err}
 use Rattle.std.proofs.lemmas.Bool.{cases_lt}
 use Rattle.std.proofs.lemmas.Bool.Decides.{nat_tests}
@@ -67,7 +67,8 @@ module _ {R : Type 0} (firing : Raise R) (wanted : ℕ) where
   room_not_added id now level when v w why.BadNow d h = room_equal wanted v w d.2 h
   room_not_added id now level when v w e d h = room_same wanted v w d.2.kept h
 
-  room_not_taken : (id : ℕ) (v w : CpuView R) (e : Refusal) → WhyNotTaken firing id v e w → HasRoomFor wanted v → HasRoomFor wanted w
+  room_not_taken : (id : ℕ) (v w : CpuView R) (e : Refusal) → WhyNotTaken firing id v e w
+      → HasRoomFor wanted v → HasRoomFor wanted w
   room_not_taken id v w why.NoCyclic d h = room_equal wanted v w d.1 h
   room_not_taken id v w (why.Busy removed) d h = room_equal wanted v w d.2 h
   room_not_taken id v w why.Pending (still, some, n, more, a) h = room_same wanted v w a.kept h

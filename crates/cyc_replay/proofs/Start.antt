@@ -199,7 +199,8 @@ pub record Reserving (wanted n : ℕ) (vs ws : List (CpuView Tables)) : Type 0 w
 pub reserving_none : (wanted : ℕ) (vs : List (CpuView Tables)) → Reserving wanted 0 vs vs
 reserving_none wanted vs = record { long = refl; done = λ k d low within. absurd (omega (arith, low)); left = λ k d low. refl }
 
-pub reserving_one : (wanted n : ℕ) (vs ws : List (CpuView Tables)) (x y : CpuView Tables) → Reserving wanted n vs ws → n < length ws
+pub reserving_one : (wanted n : ℕ) (vs ws : List (CpuView Tables)) (x y : CpuView Tables) → Reserving wanted n vs ws
+    → n < length ws
     → get_or ws n x ≡ x
     → HasReserved wanted x y → Reserving wanted (n + 1) vs (slice_set ws n y)
 reserving_one wanted n vs ws x y r within is h = record {
@@ -231,7 +232,8 @@ pub reserving_all : (wanted n : ℕ) (vs ws : List (CpuView Tables)) → Reservi
 reserving_all wanted n vs ws r all = each vs ws r.long (λ k d low. r.done k d (omega (arith, low, all)) low)
   where
     each : (xs ys : List (CpuView Tables)) → length ys ≡ length xs
-        → ((k : ℕ) (d : CpuView Tables) → k < length xs → HasReserved wanted (get_or xs k d) (get_or ys k d)) → EachTwo (HasReserved wanted) xs ys
+        → ((k : ℕ) (d : CpuView Tables) → k < length xs → HasReserved wanted (get_or xs k d) (get_or ys k d))
+        → EachTwo (HasReserved wanted) xs ys
     each [] [] long one = tt
     each [] (y ∷ ys) long one = absurd (omega (arith, long))
     each (x ∷ xs) [] long one = absurd (omega (arith, long))
@@ -239,7 +241,8 @@ reserving_all wanted n vs ws r all = each vs ws r.long (λ k d low. r.done k d (
         (one 0 x (omega arith), each xs ys (omega (arith, long)) (λ k d low. one (suc k) d (omega (arith, low))))
 
 -- they may come back to their system
-pub come_back : (wanted : ℕ) (vs ws : List (CpuView Tables)) → All IsEmpty vs → EachTwo (HasReserved wanted) vs ws → AllComeBack firing_at vs ws
+pub come_back : (wanted : ℕ) (vs ws : List (CpuView Tables)) → All IsEmpty vs → EachTwo (HasReserved wanted) vs ws
+    → AllComeBack firing_at vs ws
 come_back wanted [] [] empty two = tt
 come_back wanted [] (w ∷ ws) empty two = two
 come_back wanted (v ∷ vs) [] empty two = two
@@ -267,7 +270,8 @@ come_back wanted (v ∷ vs) (w ∷ ws) empty two =
 
 -- ---- the definition has them as before
 
-same_shown : (wanted : ℕ) (online : Bool) (v w : CpuView Tables) → HasReserved wanted v w → shown_cpu online w ≡ shown_cpu online v
+same_shown : (wanted : ℕ) (online : Bool) (v w : CpuView Tables) → HasReserved wanted v w
+    → shown_cpu online w ≡ shown_cpu online v
 same_shown wanted online v w h = λ z. record {
   online = online;
   cyclics = map shown (h.cyclics z);
@@ -277,7 +281,8 @@ same_shown wanted online v w h = λ z. record {
   low = h.low z;
 }
 
-shown_two : (wanted : ℕ) (os : List Bool) (vs ws : List (CpuView Tables)) → EachTwo (HasReserved wanted) vs ws → shown_list os ws ≡ shown_list os vs
+shown_two : (wanted : ℕ) (os : List Bool) (vs ws : List (CpuView Tables)) → EachTwo (HasReserved wanted) vs ws
+    → shown_list os ws ≡ shown_list os vs
 shown_two wanted [] vs ws two = refl
 shown_two wanted (o ∷ os) [] [] two = refl
 shown_two wanted (o ∷ os) [] (w ∷ ws) two = absurd two
@@ -291,7 +296,8 @@ reserved_tied wanted v w h t = record {
   own = λ online. subst (λ c. HasOwn c) (sym (same_shown wanted online v w h)) (t.own online);
 }
 
-two_at : (wanted : ℕ) (vs ws : List (CpuView Tables)) (n : ℕ) (w : CpuView Tables) → EachTwo (HasReserved wanted) vs ws → slice_get ws n ≡ Some w
+two_at : (wanted : ℕ) (vs ws : List (CpuView Tables)) (n : ℕ) (w : CpuView Tables) → EachTwo (HasReserved wanted) vs ws
+    → slice_get ws n ≡ Some w
     → (v : CpuView Tables) × (slice_get vs n ≡ Some v) × HasReserved wanted v w
 two_at wanted [] [] n w two is = absurd (none_some is)
 two_at wanted [] (y ∷ ys) n w two is = absurd two
@@ -318,7 +324,8 @@ same_marks wanted [] (y ∷ ys) two = absurd two
 same_marks wanted (x ∷ xs) [] two = absurd two
 same_marks wanted (x ∷ xs) (y ∷ ys) two = ap Some two.0.suspended
 
-module _ (wanted : ℕ) (v w : SystemView Tables) (two : EachTwo (HasReserved wanted) v.cpus.cpus w.cpus.cpus) (online : w.cpus.online ≡ v.cpus.online)
+module _ (wanted : ℕ) (v w : SystemView Tables) (two : EachTwo (HasReserved wanted) v.cpus.cpus w.cpus.cpus)
+    (online : w.cpus.online ≡ v.cpus.online)
     (records : w.records ≡ v.records) (last : w.last ≡ v.last) where
   pub still_system : IsSystem v → Agrees w → IsSystem w
   still_system h agrees = record {
@@ -326,12 +333,14 @@ module _ (wanted : ℕ) (v w : SystemView Tables) (two : EachTwo (HasReserved wa
     rising = subst (λ rs. RecordsRise rs) (sym records) h.rising;
     full = subst (λ rs. AllFull (length w.cpus.cpus) rs) (sym records)
         (subst (λ k. AllFull k v.records) (sym (two_long wanted v.cpus.cpus w.cpus.cpus two)) h.full);
-    tied = λ n cpu is. let x = two_at wanted v.cpus.cpus w.cpus.cpus n cpu two is in reserved_tied wanted x.0 cpu x.2 (h.tied n x.0 x.1);
+    tied = λ n cpu is. let x = two_at wanted v.cpus.cpus w.cpus.cpus n cpu two is in
+        reserved_tied wanted x.0 cpu x.2 (h.tied n x.0 x.1);
   }
 
   pub still_shows : (s : State) → ShowsSystem s v → ShowsSystem s w
   still_shows s h = record {
-    cpus = h.cpus ∙ sym (shown_two wanted v.cpus.online v.cpus.cpus w.cpus.cpus two) ∙ ap (λ os. shown_list os w.cpus.cpus) (sym online);
+    cpus = h.cpus ∙ sym (shown_two wanted v.cpus.online v.cpus.cpus w.cpus.cpus two)
+        ∙ ap (λ os. shown_list os w.cpus.cpus) (sym online);
     placed = h.placed ∙ sym (ap (map shown_record) records);
     ended = λ k r is n. h.ended k r (subst (λ rs. IsRecord rs k r) records is) n;
     fresh = h.fresh;
@@ -342,7 +351,8 @@ module _ (wanted : ℕ) (v w : SystemView Tables) (two : EachTwo (HasReserved wa
   still_most all n cpu is = let x = two_at wanted v.cpus.cpus w.cpus.cpus n cpu two is in x.2.most ∙ all n x.0 x.1
 
   pub still_awake : is_suspended v ≡ false → is_suspended w ≡ false
-  still_awake awake = ap (λ o. option_map_or (λ suspended. suspended) o false) (same_marks wanted v.cpus.cpus w.cpus.cpus two) ∙ awake
+  still_awake awake = ap (λ o. option_map_or (λ suspended. suspended) o false) (same_marks wanted v.cpus.cpus w.cpus.cpus two)
+      ∙ awake
 
   -- memory for so many names, as far as a CPU can have them
   pub now_room : (names : ℕ) → wanted ≡ min names most_cyclics → All IsEmpty v.cpus.cpus → HaveRoomFor names w.cpus

@@ -1,6 +1,6 @@
 -- The turn of one cyclic of a juggle.
-use Rattle.std.proofs.Common.{◌≡◌, ◌≢◌, ℕ, ◌+◌, ◌<◌, ◌≤◌, true, false, cond, List, [], ◌∷◌, length, map, get_or, Option, Some, refl}
-use Rattle.std.proofs.Common.{ap, sym, ◌∙◌, subst, arith}
+use Rattle.std.proofs.Common.{◌≡◌, ◌≢◌, ℕ, ◌+◌, ◌<◌, ◌≤◌, true, false, cond, List, [], ◌∷◌, length, map, get_or}
+use Rattle.std.proofs.Common.{Option, Some, refl, ap, sym, ◌∙◌, subst, arith}
 use Rattle.std.specs.Prelude.{slice_set, nat_lt, is_some, Err}
 use Rattle.std.specs.Option.{option_map_or}
 use Rattle.cyc_types.specs.declared.level.Soft.{Soft}
@@ -204,7 +204,8 @@ turned source id there.StaysPending v w hv agrees wanted few all (at, k, some, (
         admissions = omega arith;
       },
     )
-turned source id there.StaysRefused v w hv agrees wanted few all (at, d, dest, e, ((u1, ask, (u2, reserve, same)), records, last)) =
+turned source id there.StaysRefused v w hv agrees wanted few all
+    (at, d, dest, e, ((u1, ask, (u2, reserve, same)), records, last)) =
     let a = done_at source (AskPending id (Some 0)) v.cpus u1 hv.long hv.tied ask in
     let r = done_at d (Reserve 1 (Err e)) u1 u2 a.long a.tied reserve in
     let asked = unchanged v.cpus u1 source a.cpus in

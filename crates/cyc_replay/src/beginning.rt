@@ -78,8 +78,8 @@ fn wanted_of(names: usize) -> usize
     names.min(usize::from(CYCLICS))
 }
 
-/// The system with memory on each CPU for a cyclic of each name, or for as many as a CPU can have: from here on no cyclic of a name
-/// that comes to a CPU is refused for want of memory there.
+/// The system with memory on each CPU for a cyclic of each name, or for as many as a CPU can have: from here on no cyclic of a
+/// name that comes to a CPU is refused for want of memory there.
 fn with_room(system: System<LevelCore>, names: usize) -> Result<System<LevelCore>, Refusal>
     requires empty { All IsEmpty system.cpus.cpus }
     ensures cpus { IfOk result (λ wide. EachTwo (HasReserved (min names most_cyclics)) system.cpus.cpus wide.cpus.cpus
@@ -142,8 +142,8 @@ fn beside(
     Ok((tally, ids, counted, named))
 }
 
-/// So many CPUs, all online, with no cyclic, and so many names with no id. Each CPU takes the memory for a cyclic of each name, or
-/// for as many as it can have, and for no more than the next power of two.
+/// So many CPUs, all online, with no cyclic, and so many names with no id. Each CPU takes the memory for a cyclic of each name,
+/// or for as many as it can have, that of the least power of two.
 pub fn begin(alloc: Global, cpus: u32, ceiling: Ceiling, names: usize) -> Result<Machine, Refusal>
     requires some { 1 ≤ cpus }
     requires few { cpus ≤ most_cpus }

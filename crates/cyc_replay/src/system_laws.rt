@@ -181,8 +181,8 @@ pub fn juggle_law()
         → Changes raise_tables v (Juggle n (Err e)) w → IsRefusedFor e (steps.Juggle n) s w }
 {}
 
-/// An `offline` of a system whose CPUs have memory for as many cyclics as the system has is the word `offline`: the cyclics of the
-/// CPU have their turns; then it is refused where one is left that is not omnipresent, with the report of the turns, and then
+/// An `offline` of a system whose CPUs have memory for as many cyclics as the system has is the word `offline`: the cyclics of
+/// the CPU have their turns; then it is refused where one is left that is not omnipresent, with the report of the turns, and then
 /// where a component has calls outstanding, and what moved stays moved; or the components end, their counts are kept, and the CPU
 /// takes no further part. Or both are refused before that, for one reason.
 ///

@@ -9,7 +9,8 @@ pub reserve_wanted-requires : goal.reserve_wanted-requires
 reserve_wanted-requires c =
     let r = c.loop-number.invariant in let low = c.loop-number-test.true in let all = c.len-number-end.ensures in
     record {
-      empty = empty_left c.args.wanted c.loop-number.number c.args.hards.now.items c.loop-number.hards.items c.index_mut.result.now r
+      empty = empty_left c.args.wanted c.loop-number.number c.args.hards.now.items c.loop-number.hards.items
+          c.index_mut.result.now r
           (omega (arith, low, all)) c.index_mut.ensures.value c.requires.empty;
       few = c.requires.few;
     }
