@@ -142,7 +142,7 @@ fn text_of(alloc: Global, script: &Script) -> Option<Vec<u8>> {
 }
 
 /// What the replay of a script of this text writes.
-fn written<R: AllocGlobal + Abort>(rt: &R, script: &str) -> Vec<u8> {
+pub(crate) fn written<R: AllocGlobal + Abort>(rt: &R, script: &str) -> Vec<u8> {
     let script = script_of(rt, script);
     text_of(rt.alloc(), &script).expect(rt, "a text")
 }
@@ -161,7 +161,7 @@ fn each_script_gives_its_text(rt: HostRuntime) {
 }
 
 /// The cyclics that a CPU can hold.
-const MOST: u32 = CYCLICS as u32;
+pub(crate) const MOST: u32 = CYCLICS as u32;
 
 /// Whether both soft interrupts follow the add of this number, counted from 1: after each power of two up to 2,048, so that the levels
 /// have followed to the bank that it filled.
@@ -202,7 +202,7 @@ fn filled(alloc: Global, kind: &str, last: &str) -> Result<String, AllocError> {
 }
 
 /// The report of a cyclic that was called for each of its expirations.
-fn push_report(text: &mut String, k: u32, calls: u32) -> Result<(), AllocError> {
+pub(crate) fn push_report(text: &mut String, k: u32, calls: u32) -> Result<(), AllocError> {
     write!(
         text,
         "c{k} expired {calls} called {calls} lost 0 pending 0\n"
