@@ -44,9 +44,7 @@ impl CyclicCpu {
     pub(crate) fn put(&mut self, cpu: Box<Cpu>)
         ensures { self.new.inner.held ≡ Some cpu.value }
     {
-        *self = CyclicCpu {
-            inner: Sealed::of(Loose::of(cpu)),
-            open: true,
-        };
+        self.inner = Sealed::of(Loose::of(cpu));
+        self.open = true;
     }
 }

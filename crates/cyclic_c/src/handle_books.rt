@@ -48,9 +48,7 @@ impl CyclicBooks {
         requires { shelf.value.books ≢ None }
         ensures { self.new.inner.held ≡ Some shelf.value }
     {
-        *self = CyclicBooks {
-            inner: SealedBooks::of(Loose::of(shelf)),
-            open: true,
-        };
+        self.inner = SealedBooks::of(Loose::of(shelf));
+        self.open = true;
     }
 }

@@ -45,9 +45,7 @@ impl CyclicFiring {
     pub(crate) fn put(&mut self, value: Box<Firing>)
         ensures { self.new.inner.held ≡ Some value.value }
     {
-        *self = CyclicFiring {
-            inner: SealedFiring::of(Loose::of(value)),
-            open: true,
-        };
+        self.inner = SealedFiring::of(Loose::of(value));
+        self.open = true;
     }
 }

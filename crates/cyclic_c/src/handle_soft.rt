@@ -45,9 +45,7 @@ impl CyclicSoft {
     pub(crate) fn put(&mut self, value: Box<SoftSide>)
         ensures { self.new.inner.held ≡ Some value.value }
     {
-        *self = CyclicSoft {
-            inner: SealedSoft::of(Loose::of(value)),
-            open: true,
-        };
+        self.inner = SealedSoft::of(Loose::of(value));
+        self.open = true;
     }
 }
