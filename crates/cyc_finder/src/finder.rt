@@ -38,7 +38,7 @@ const FEWEST_SLOTS: usize = 64;
 pub struct Finder {
     slots: Vec<Slot>,
     first: First,
-    hints: Hints,
+    hints: Box<Hints>,
     room: usize,
 }
 
@@ -76,7 +76,7 @@ impl Finder {
                 position: 0,
                 base: 0,
             },
-            hints: Hints::new(alloc),
+            hints: Hints::new(alloc)?,
             room: 1,
         })
     }

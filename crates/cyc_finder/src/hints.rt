@@ -10,8 +10,8 @@ const FAR: usize = 8192;
 
 /// For the low bits of an id, with those above them added, where the slot of the last such one was: right or not, it says where to look.
 ///
-/// The near hints are few and stand where a look at one needs no other read. Where more cyclics may be here than they are, there are
-/// far hints too.
+/// The near hints are few and stand in the hints themselves, so that a look at one needs no other read. Where more cyclics may be here
+/// than they are, there are far hints too.
 #[derive(Drop)]
 pub(crate) struct Hints {
     near: [u16; HINTS],
@@ -33,12 +33,19 @@ fn far_of(id: CyclicId) -> usize {
 }
 
 impl Hints {
-    /// Near hints alone. Takes no memory.
-    pub(crate) fn new(alloc: Global) -> Hints {
-        Hints {
-            near: [0; HINTS],
-            far: Vec::new(alloc),
-        }
+    /// Near hints alone, in memory of their own, so that a finder that is moved copies little. By a call, so that what calls it has no room
+    /// for them on its stack.
+    #[cold]
+    #[inline(never)]
+    pub(crate) fn new(alloc: Global) -> Result<Box<Hints>, AllocError> {
+        let hints = Box::new(
+            alloc,
+            Hints {
+                near: [0; HINTS],
+                far: Vec::new(alloc),
+            },
+        )?;
+        Ok(hints)
     }
 
     /// As many hints as so many cyclics need, which stand in these slots.

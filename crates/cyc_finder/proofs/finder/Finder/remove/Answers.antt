@@ -48,7 +48,7 @@ invariant_of-self c =
           (sym (ap (map index_in) new ∙ indexes_remove (entries_of xs) (rank xs p)))
           (distinct_remove c.self.inside.room (map index_in (entries_of xs)) f.distinct (rank xs p));
       room = f.room;
-      first = subst (λ ys. IsFirst ys c.first_without.new.first) c.deref-2.ensures.value
+      first = subst (λ ys. IsFirst ys c.first_without.new.first) c.deref-3.ensures.value
           c.first_without.ensures;
     }
 
