@@ -9,11 +9,33 @@ use crate::entry::Entry;
 use cyc_types::Index;
 
 /// The place of the entry of this index, None where there is none (the walk of `cyclic_remove_here` and `cyclic_reprogram_here`).
+/// It passes by four entries a turn, which is faster than one a turn where eight or more are few.
 pub(crate) fn find(few: &[Entry], index: Index) -> Option<usize>
     ensures none { IfNone result (HasNo index few.now) }
     ensures some { IfSome result (λ p. (p < length few.now) × (index_of (entry_at few.now p) ≡ index)) }
 {
-    few.iter().position(|entry| entry.is_of(index))
+    let fours = few.len() / 4;
+    for four in 0..fours {
+        let place = 4 * four;
+        if few[place].is_of(index) {
+            return Some(place);
+        }
+        if few[place + 1].is_of(index) {
+            return Some(place + 1);
+        }
+        if few[place + 2].is_of(index) {
+            return Some(place + 2);
+        }
+        if few[place + 3].is_of(index) {
+            return Some(place + 3);
+        }
+    }
+    for place in 4 * fours..few.len() {
+        if few[place].is_of(index) {
+            return Some(place);
+        }
+    }
+    None
 }
 
 /// The place below this one whose entry expires first, of a place that has one below it.
