@@ -9,42 +9,11 @@ use crate::entry::Entry;
 use cyc_types::Index;
 
 /// The place of the entry of this index, None where there is none (the walk of `cyclic_remove_here` and `cyclic_reprogram_here`).
-///
-/// It looks at the first and then from the last on, four a turn: one that was armed again mostly expires after others, so it stands
-/// behind them, unless it is the next one.
 pub(crate) fn find(few: &[Entry], index: Index) -> Option<usize>
     ensures none { IfNone result (HasNo index few.now) }
     ensures some { IfSome result (λ p. (p < length few.now) × (index_of (entry_at few.now p) ≡ index)) }
 {
-    if few.is_empty() {
-        return None;
-    }
-    if few[0].is_of(index) {
-        return Some(0);
-    }
-    let mut place = few.len();
-    while place % 4 != 0 {
-        place -= 1;
-        if few[place].is_of(index) {
-            return Some(place);
-        }
-    }
-    while place >= 4 {
-        place -= 4;
-        if few[place + 3].is_of(index) {
-            return Some(place + 3);
-        }
-        if few[place + 2].is_of(index) {
-            return Some(place + 2);
-        }
-        if few[place + 1].is_of(index) {
-            return Some(place + 1);
-        }
-        if few[place].is_of(index) {
-            return Some(place);
-        }
-    }
-    None
+    few.iter().position(|entry| entry.is_of(index))
 }
 
 /// The place below this one whose entry expires first, of a place that has one below it.
