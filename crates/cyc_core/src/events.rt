@@ -12,9 +12,9 @@ ghost use Rattle.cyc_core.specs.Reached.{Happens};
 
 use crate::admitted::Admitted;
 use crate::level_core::LevelCore;
-use cyc_finder::hint_of;
+use cyc_finder::{HINTS, hint_of};
 use cyc_level::Event;
-use cyc_types::{CYCLICS, CyclicId, GREATEST_BANK, Index};
+use cyc_types::{CyclicId, GREATEST_BANK, Index};
 use thiserror::Error;
 
 /// The event is not enabled.
@@ -36,9 +36,9 @@ fn has_index(table: &[Admitted], index: Index) -> bool
 }
 
 /// Hints where each entry from this place on stands. Each hint is checked when it is used, so a wrong one would cost time alone.
-fn hint_from(place: usize, table: &[Admitted], hints: &mut [u8; CYCLICS as usize]) {
+fn hint_from(place: usize, table: &[Admitted], hints: &mut [u16; HINTS]) {
     for at in place..table.len() {
-        hints[hint_of(table[at].id)] = at.min(usize::from(u8::MAX)) as u8;
+        hints[hint_of(table[at].id)] = at.min(usize::from(u16::MAX)) as u16;
     }
 }
 

@@ -10,9 +10,9 @@ ghost use Rattle.cyc_core.specs.Tables.{id_in, cyclic_of, level_of, lookup};
 ghost use Rattle.cyc_core.specs.Reached.{IsReached};
 
 use crate::admitted::Admitted;
-use cyc_finder::{hint_of, search_near};
+use cyc_finder::{HINTS, hint_of, search_near};
 use cyc_types::{CYCLICS, Ceiling, CyclicId, Refusal};
-use std::alloc::Global;
+use std::alloc::{AllocError, Global};
 use std::collections::VecDeque;
 use std::marker::Model;
 
@@ -30,8 +30,9 @@ pub struct LevelCore {
     pub(crate) old_list: VecDeque<CyclicId>,
     pub(crate) new_list: VecDeque<CyclicId>,
     pub(crate) drainer_hand: Option<CyclicId>,
-    // Where an entry stands, by its id's low bits. Another may have these bits too, so each look is checked.
-    pub(crate) hints: [u8; CYCLICS as usize],
+    // Where an entry stands, by its id's low bits. Another may have these bits too, so each look is checked. They stand in memory of
+    // their own, so that a level that is moved copies little.
+    pub(crate) hints: Box<[u16; HINTS]>,
 }
 
 impl Model for LevelCore {
@@ -46,10 +47,18 @@ impl Model for LevelCore {
     ghost invariant = { IsSound };
 }
 
+/// Hints that say nothing yet. By a call, so that what makes a level has no room for them on its stack.
+#[cold]
+#[inline(never)]
+fn no_hints(alloc: Global) -> Result<Box<[u16; HINTS]>, AllocError> {
+    let hints = Box::new(alloc, [0; HINTS])?;
+    Ok(hints)
+}
+
 impl LevelCore {
     /// An empty level with both banks 0 and this ceiling.
     ///
-    /// It takes room for `CYCLICS` admitted cyclics and two lists of as many ids; no other call takes memory. Refuses
+    /// It takes room for `CYCLICS` admitted cyclics, two lists of as many ids and the hints; no other call takes memory. Refuses
     /// Memory alone.
     pub fn new(alloc: Global, ceiling: Ceiling) -> Result<LevelCore, Refusal>
         ensures ok { IfOk result (λ core. level_of core ≡ empty_level ceiling) }
@@ -66,7 +75,7 @@ impl LevelCore {
             old_list: VecDeque::with_capacity(alloc, room)?,
             new_list: VecDeque::with_capacity(alloc, room)?,
             drainer_hand: None,
-            hints: [0; CYCLICS as usize],
+            hints: no_hints(alloc)?,
         })
     }
 

@@ -13,12 +13,7 @@ pub(crate) fn find(few: &[Entry], index: Index) -> Option<usize>
     ensures none { IfNone result (HasNo index few.now) }
     ensures some { IfSome result (λ p. (p < length few.now) × (index_of (entry_at few.now p) ≡ index)) }
 {
-    for place in 0..few.len() {
-        if few[place].index().number() == index.number() {
-            return Some(place);
-        }
-    }
-    None
+    few.iter().position(|entry| entry.is_of(index))
 }
 
 /// The place below this one whose entry expires first, of a place that has one below it.
