@@ -22,7 +22,7 @@ use Rattle.cyc_core.specs.declared.admitted.Admitted.{Admitted}
 use Rattle.cyc_core.specs.declared.level_core.LevelCore.TheInside.{Inside}
 use Rattle.cyc_core.specs.Tables.{Tables, lookup, cyclic_of, cyclics_of, level_of}
 use Rattle.cyc_core.specs.Reached.{IsReached}
-use Rattle.cyc_core.specs.Shown.{shown, IsKept, IsSound}
+use Rattle.cyc_core.specs.Shown.{shown, AreKept, IsSound}
 use Rattle.cyc_core.proofs.Keeping.{FindsElse}
 
 pub reached_lawful : (l : SoftLevel) → IsReached l → Lawful l
@@ -41,7 +41,7 @@ reached_on l m event (events, all, is) may made =
 
 -- fields that show what an enabled event leaves, with the memory that was there
 pub sound_by : (a b : Inside) (event : Event) → IsSound a → Enabled event (level_of (shown a))
-    → level_of (shown b) ≡ after event (level_of (shown a)) → IsKept b.kept.items b.ids.entries →
+    → level_of (shown b) ≡ after event (level_of (shown a)) → AreKept b.kept.items b.ids.entries →
     vec_capacity a.kept ≤ vec_capacity b.kept → a.ids.room ≤ b.ids.room → deque_capacity a.old_list ≤ deque_capacity b.old_list
     → deque_capacity a.new_list ≤ deque_capacity b.new_list → IsSound b
 sound_by a b event h may made here kept ids old new = record {
@@ -57,7 +57,7 @@ sound_by a b event h may made here kept ids old new = record {
 
 -- the same, where the lists' memory is not what it was
 pub sound_roomy : (a b : Inside) (event : Event) → IsSound a → Enabled event (level_of (shown a))
-    → level_of (shown b) ≡ after event (level_of (shown a)) → IsKept b.kept.items b.ids.entries →
+    → level_of (shown b) ≡ after event (level_of (shown a)) → AreKept b.kept.items b.ids.entries →
     cyclics ≤ vec_capacity b.kept → cyclics ≤ b.ids.room → cyclics ≤ deque_capacity b.old_list →
     cyclics ≤ deque_capacity b.new_list → IsSound b
 sound_roomy a b event h may made here kept ids old new = record {

@@ -12,11 +12,11 @@ use Rattle.cyc_finder.specs.Indexes.{Entry, index_of, index_in}
 use Rattle.cyc_core.specs.declared.admitted.Admitted.{Admitted}
 use Rattle.cyc_core.specs.declared.admitted.Kept.{Kept}
 use Rattle.cyc_core.specs.Tables.{lookup, cyclic_of, cyclics_of}
-use Rattle.cyc_core.specs.Shown.{no_cyclic, kept_id, read_as, table_of, IsKept}
+use Rattle.cyc_core.specs.Shown.{nothing_kept, kept_id, read_as, table_of, AreKept}
 
 -- what is kept at an index
 abbrev pub there : List Kept → ℕ → Kept
-there kept i = get_or kept i no_cyclic
+there kept i = get_or kept i nothing_kept
 
 -- the second list finds this of the id, and of all others what the first does
 abbrev pub FindsElse : List Admitted → List Admitted → ℕ → Option Admitted → Type 0
@@ -79,7 +79,7 @@ pub kept_low : (kept : List Kept) (i id : ℕ) → kept_id (there kept i) ≡ So
 kept_low kept i id h = elim (cases_lt i (length kept)) [
   | inl low ↦ low
   | inr past ↦
-      absurd (let no : None ≡ Some id = sym (ap kept_id (get_or_past kept i no_cyclic past)) ∙ h in
+      absurd (let no : None ≡ Some id = sym (ap kept_id (get_or_past kept i nothing_kept past)) ∙ h in
       let wrong : ⊥ = cc in wrong)
 ]
 
@@ -88,7 +88,7 @@ module _ (kept more : List Kept) (es : List Entry) (same : (i : ℕ) → there m
   pub same_table : table_of more es ≡ table_of kept es
   same_table = λ z. map (λ (e : Entry). read_as e.id e.index (same e.index z)) es
 
-  pub same_kept : IsKept kept es → IsKept more es
+  pub same_kept : AreKept kept es → AreKept more es
   same_kept t = record {
     ordered = t.ordered;
     named = λ id i. (λ h. (t.named id i).0 (sym (ap kept_id (same i)) ∙ h), λ h. ap kept_id (same i) ∙ (t.named id i).1 h);
@@ -99,16 +99,16 @@ chosen true x y h = (refl, some_same x y h)
 chosen false x y h = absurd (let no : ⊥ = cc in no)
 
 -- another cyclic at one index, or none: the finder names this for the one id where a cyclic is kept there, and else nothing
-module _ (kept : List Kept) (es new : List Entry) (t : IsKept kept es) (id i : ℕ) (b : Bool) (k : Kept)
+module _ (kept : List Kept) (es new : List Entry) (t : AreKept kept es) (id i : ℕ) (b : Bool) (k : Kept)
     (told : (q : ℕ) → index_of q new ≡ cond (eqb q id) (then_some b i) (index_of q es))
     (alone : (q : ℕ) → kept_id (there kept i) ≡ Some q → q ≡ id)
     (only : (j : ℕ) → index_of id es ≡ Some j → j ≡ i)
     (low : i < length kept) (is : kept_id k ≡ then_some b id) where
   at_index : there (set kept i k) i ≡ k
-  at_index = get_or-set_same kept i k no_cyclic low
+  at_index = get_or-set_same kept i k nothing_kept low
 
   elsewhere : (j : ℕ) → j ≢ i → there (set kept i k) j ≡ there kept j
-  elsewhere j ne = get_or-set_other kept i j k no_cyclic ne
+  elsewhere j ne = get_or-set_other kept i j k nothing_kept ne
 
   told_id : index_of id new ≡ then_some b i
   told_id = told id ∙ ap (λ c. cond c (then_some b i) (index_of id es)) (eq-eqb id id refl)
@@ -138,7 +138,7 @@ module _ (kept : List Kept) (es new : List Entry) (t : IsKept kept es) (id i : �
           let far : j ≢ i = λ s. ne (alone q ((t.named q i).1 (e ∙ ap Some s))) in
           ap (λ x. Some (read_as q j x)) (elsewhere j far)
 
-  pub still_kept : Rises finder.id_in new → IsKept (set kept i k) new
+  pub still_kept : Rises finder.id_in new → AreKept (set kept i k) new
   still_kept ordered = record {
     ordered = ordered;
     named = λ q j. elim (cases_eq j i) [
@@ -181,7 +181,7 @@ named_index kept es q some = some_index kept q (index_of q es)
     (subst (λ (o : Option Admitted). IsSome (option_map cyclic_of o)) (lookup_is kept es q) some)
 
 -- an index has one id, and an id one index
-pub one_id : (kept : List Kept) (es : List Entry) → IsKept kept es → (id i : ℕ) → index_of id es ≡ Some i → (q : ℕ)
+pub one_id : (kept : List Kept) (es : List Entry) → AreKept kept es → (id i : ℕ) → index_of id es ≡ Some i → (q : ℕ)
     → kept_id (there kept i) ≡ Some q → q ≡ id
 one_id kept es t id i e q h = some_same q id (sym h ∙ (t.named id i).1 e)
 
@@ -189,7 +189,7 @@ pub one_index : (es : List Entry) (id i : ℕ) → index_of id es ≡ Some i →
 one_index es id i e j h = some_same j i (sym h ∙ e)
 
 -- a cyclic that is admitted at a free index
-module _ (kept more : List Kept) (es new : List Entry) (t : IsKept kept es) (same : (i : ℕ) → there more i ≡ there kept i)
+module _ (kept more : List Kept) (es new : List Entry) (t : AreKept kept es) (same : (i : ℕ) → there more i ≡ there kept i)
     (id index place : ℕ) (at : place ≡ index) (k : Kept) (absent : index_of id es ≡ None)
     (free : kept_id (there kept index) ≡ None)
     (told : (q : ℕ) → index_of q new ≡ cond (eqb q id) (Some index) (index_of q es))
@@ -210,12 +210,12 @@ module _ (kept more : List Kept) (es new : List Entry) (t : IsKept kept es) (sam
       finds_else more es new (same_kept kept more es same t) id place true k told_place none_there none_named low is q
       ∙ (λ z. cond (eqb q id) (Some (read_as id (at z) k)) (lookup q (same_table kept more es same z)))
 
-  pub admitted_kept : Rises finder.id_in new → IsKept (set more place k) new
+  pub admitted_kept : Rises finder.id_in new → AreKept (set more place k) new
   admitted_kept ordered =
       still_kept more es new (same_kept kept more es same t) id place true k told_place none_there none_named low is ordered
 
 -- a cyclic that leaves its index
-module _ (kept : List Kept) (es new : List Entry) (t : IsKept kept es) (id index place : ℕ) (at : place ≡ index) (k : Kept)
+module _ (kept : List Kept) (es new : List Entry) (t : AreKept kept es) (id index place : ℕ) (at : place ≡ index) (k : Kept)
     (named : index_of id es ≡ Some index)
     (told : (q : ℕ) → index_of q new ≡ cond (eqb q id) None (index_of q es)) (is : kept_id k ≡ None) where
   named_place : index_of id es ≡ Some place
@@ -228,12 +228,12 @@ module _ (kept : List Kept) (es new : List Entry) (t : IsKept kept es) (id index
   finds_left = finds_else kept es new t id place false k told (one_id kept es t id place named_place)
       (one_index es id place named_place) left_low is
 
-  pub left_kept : Rises finder.id_in new → IsKept (set kept place k) new
+  pub left_kept : Rises finder.id_in new → AreKept (set kept place k) new
   left_kept = still_kept kept es new t id place false k told (one_id kept es t id place named_place)
       (one_index es id place named_place) left_low is
 
 -- what was found is read at its index
-module _ (kept : List Kept) (es : List Entry) (t : IsKept kept es) (id index place : ℕ) (at : place ≡ index)
+module _ (kept : List Kept) (es : List Entry) (t : AreKept kept es) (id index place : ℕ) (at : place ≡ index)
     (found : Some index ≡ option_map (λ (e : Admitted). e.index) (lookup id (table_of kept es))) where
   found_named : index_of id es ≡ Some index
   found_named = index_found kept es id ∙ sym found
@@ -245,10 +245,10 @@ module _ (kept : List Kept) (es : List Entry) (t : IsKept kept es) (id index pla
       → lookup id (table_of kept es) ≡ Some e
   found_read k e read is = named_entry kept es id index found_named
       ∙ ap (λ x. Some (read_as id index x)) (ap (there kept) (sym at)
-      ∙ sym (read ∙ get_or_default kept place k no_cyclic found_low)) ∙ ap Some (sym is)
+      ∙ sym (read ∙ get_or_default kept place k nothing_kept found_low)) ∙ ap Some (sym is)
 
 -- the counts of one cyclic, that is read and written at its place
-module _ (kept : List Kept) (es : List Entry) (t : IsKept kept es) (e : Admitted) (place : ℕ) (at : place ≡ e.index)
+module _ (kept : List Kept) (es : List Entry) (t : AreKept kept es) (e : Admitted) (place : ℕ) (at : place ≡ e.index)
     (found : lookup e.id (table_of kept es) ≡ Some e) where
   entry_index : index_of e.id es ≡ Some place
   entry_index = (found_entry kept es e.id e found).0 ∙ ap Some (sym at)
@@ -261,7 +261,7 @@ module _ (kept : List Kept) (es : List Entry) (t : IsKept kept es) (e : Admitted
 
   module _ (k : Kept) (read : k ≡ get_or kept place k) where
     read_there : k ≡ there kept place
-    read_there = read ∙ get_or_default kept place k no_cyclic place_low
+    read_there = read ∙ get_or_default kept place k nothing_kept place_low
 
     -- the entry has the counts that are read
     pub counts_read : e ≡ read_as e.id e.index k
@@ -284,7 +284,7 @@ module _ (kept : List Kept) (es : List Entry) (t : IsKept kept es) (e : Admitted
           (one_id kept es t e.id place entry_index) (one_index es e.id place entry_index) place_low new_id q
           ∙ ap (λ n. cond (eqb q e.id) (Some (read_as e.id n new)) (lookup q (table_of kept es))) at
 
-      pub counted_kept : IsKept (set kept place new) es
+      pub counted_kept : AreKept (set kept place new) es
       counted_kept = still_kept kept es es t e.id place true new told_same
           (one_id kept es t e.id place entry_index) (one_index es e.id place entry_index) place_low new_id
           t.ordered

@@ -14,7 +14,7 @@ use Rattle.cyc_core.specs.declared.books.Place.TheVariants.{FirerHand, OldBank, 
 use Rattle.cyc_core.specs.declared.admitted.Kept.{Kept}
 use Rattle.cyc_finder.specs.Indexes.{Entry, IsIndexed}
 use Rattle.cyc_core.specs.Tables.{lookup, cyclic_of, cyclics_of}
-use Rattle.cyc_core.specs.Shown.{kept_id, table_of, IsKept}
+use Rattle.cyc_core.specs.Shown.{kept_id, table_of, AreKept}
 use Rattle.cyc_core.specs.Showing.{StandsAt}
 use Rattle.cyc_core.proofs.Keeping.{there, found_entry, named_entry}
 
@@ -132,7 +132,7 @@ cyclic_behind None c is = absurd (let none : ⊥ = cc in none)
 cyclic_behind (Some e) c is = (e, refl, some_same (cyclic_of e) c is)
 
 -- where no cyclic is kept at an index, none is admitted at it, and the other way round
-module _ (kept : List Kept) (es : List Entry) (t : IsKept kept es) (index : ℕ) where
+module _ (kept : List Kept) (es : List Entry) (t : AreKept kept es) (index : ℕ) where
   pub unused_is : kept_id (there kept index) ≡ None → (id : ℕ) (c : AdmittedCyclic) → cyclics_of (table_of kept es) id ≡ Some c
       → c.index ≢ index
   unused_is free id c is same =

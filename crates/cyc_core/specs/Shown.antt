@@ -13,8 +13,8 @@ use Rattle.cyc_core.specs.declared.admitted.Kept.{Kept}
 use Rattle.cyc_core.specs.declared.level_core.LevelCore.TheInside.{Inside}
 
 -- what is read at an index where no cyclic was admitted yet
-abbrev pub no_cyclic : Kept
-no_cyclic = record { id = last_id; sent = 0; done = 0; lost = 0; count = 0; here = false }
+abbrev pub nothing_kept : Kept
+nothing_kept = record { id = last_id; sent = 0; done = 0; lost = 0; count = 0; here = false }
 
 -- the id of the cyclic that is admitted, where one is
 abbrev pub kept_id : Kept → Option ℕ
@@ -26,7 +26,7 @@ read_as id index k = record { id = id; index = index; sent = k.sent; done = k.do
 
 -- each id that the finder names, with what is kept at its index
 abbrev pub table_of : List Kept → List Entry → List Admitted
-table_of kept entries = map (λ e. read_as e.id e.index (slice_index_or kept e.index no_cyclic)) entries
+table_of kept entries = map (λ e. read_as e.id e.index (slice_index_or kept e.index nothing_kept)) entries
 
 abbrev pub shown : Inside → Tables
 shown a = record {
@@ -43,14 +43,14 @@ shown a = record {
 }
 
 -- the ids rise, and a cyclic is kept at an index exactly where the finder names this for its id
-pub record IsKept (kept : List Kept) (entries : List Entry) : Type 0 where
+pub record AreKept (kept : List Kept) (entries : List Entry) : Type 0 where
   pub ordered : Rises finder.id_in entries
-  pub named : (id index : ℕ) → (kept_id (slice_index_or kept index no_cyclic) ≡ Some id) ↔ (index_of id entries ≡ Some index)
+  pub named : (id index : ℕ) → (kept_id (slice_index_or kept index nothing_kept) ≡ Some id) ↔ (index_of id entries ≡ Some index)
 
 -- the level is reached by enabled events, each cyclic is kept at its index, and all memory is there
 pub record IsSound (a : Inside) : Type 0 where
   pub reached : IsReached (level_of (shown a))
-  pub cyclics_kept : IsKept a.kept.items a.ids.entries
+  pub cyclics_kept : AreKept a.kept.items a.ids.entries
   pub some_ceiling : 0 < a.ceiling
   pub kept_room : cyclics ≤ vec_capacity a.kept
   pub ids_room : cyclics ≤ a.ids.room

@@ -1,7 +1,7 @@
 //! What a level keeps of an admitted cyclic.
 
 ghost use Rattle.std.specs.Prelude.{◌≡◌, ◌↔◌, ℕ, ◌≤◌, ◌<◌, length, slice_index_or, vec_capacity, Some, None, IsTrue};
-ghost use Rattle.cyc_core.specs.Shown.{no_cyclic, kept_id, read_as};
+ghost use Rattle.cyc_core.specs.Shown.{nothing_kept, kept_id, read_as};
 
 use cyc_types::{CyclicId, Index};
 
@@ -30,7 +30,7 @@ pub(crate) struct Kept {
 impl Kept {
     /// What stands at an index where none was admitted yet.
     fn nothing() -> Kept
-        ensures { result ≡ no_cyclic }
+        ensures { result ≡ nothing_kept }
     {
         Kept {
             id: CyclicId::last(),
@@ -61,7 +61,7 @@ impl Kept {
 /// Whether the cyclic of this id is kept at this index. O(1).
 #[inline(always)]
 pub(crate) fn is_kept_at(kept: &[Kept], index: Index, id: CyclicId) -> bool
-    ensures { IsTrue result ↔ (kept_id (slice_index_or kept.now index no_cyclic) ≡ Some id) }
+    ensures { IsTrue result ↔ (kept_id (slice_index_or kept.now index nothing_kept) ≡ Some id) }
 {
     match kept.get(index.number() as usize) {
         Some(there) => there.id.number() == id.number() && there.here,
@@ -71,7 +71,7 @@ pub(crate) fn is_kept_at(kept: &[Kept], index: Index, id: CyclicId) -> bool
 
 /// Whether no cyclic is kept at this index. O(1).
 pub(crate) fn is_free_at(kept: &[Kept], index: Index) -> bool
-    ensures { IsTrue result ↔ (kept_id (slice_index_or kept.now index no_cyclic) ≡ None) }
+    ensures { IsTrue result ↔ (kept_id (slice_index_or kept.now index nothing_kept) ≡ None) }
 {
     match kept.get(index.number() as usize) {
         Some(there) => !there.here,
@@ -83,7 +83,7 @@ pub(crate) fn is_free_at(kept: &[Kept], index: Index) -> bool
 pub(crate) fn reach(kept: &mut Vec<Kept>, place: usize)
     requires { place < vec_capacity kept.old }
     ensures within { place < length kept.new.items }
-    ensures same { (i : ℕ) → slice_index_or kept.new.items i no_cyclic ≡ slice_index_or kept.old.items i no_cyclic }
+    ensures same { (i : ℕ) → slice_index_or kept.new.items i nothing_kept ≡ slice_index_or kept.old.items i nothing_kept }
     ensures capacity { vec_capacity kept.old ≤ vec_capacity kept.new }
 {
     if place >= kept.len() {
