@@ -121,15 +121,6 @@ impl LevelCore {
         if is_kept_at(&self.kept, hint, id) {
             return Some(hint);
         }
-        self.search_anew(id)
-    }
-
-    /// As `search`, where the hint was wrong, which mostly is right: out of its way.
-    #[cold]
-    #[inline(never)]
-    fn search_anew(&self, id: CyclicId) -> Option<Index>
-        ensures { result ≡ option_map (λ entry. entry.index) (lookup id self.now.table) }
-    {
         self.ids.find(id)
     }
 

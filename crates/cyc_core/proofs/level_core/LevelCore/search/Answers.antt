@@ -8,3 +8,7 @@ returns-then-is_kept_at c =
     let told = rw c.deref-2.ensures.value at c.is_kept_at.ensures in
     let named = (c.self.invariant.cyclics_kept.named c.args.id _).0 (told.0 c.if-is_kept_at.true) in
     rw (← c.self.view_is) (sym named ∙ index_found a.kept.items a.ids.entries c.args.id)
+
+pub returns : goal.returns
+returns c = let a = c.self.inside in
+    rw (← c.self.view_is) (c.find.ensures ∙ index_found a.kept.items a.ids.entries c.args.id)
