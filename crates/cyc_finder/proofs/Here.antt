@@ -55,7 +55,7 @@ rank_near xs p q up = let s = rank_sum xs p (q - p) in let e : rank xs (p + (q -
 pub rank_all : (xs : List Slot) (p : ℕ) → length xs ≤ p → rank xs p ≡ length (entries_of xs)
 rank_all xs p past = ap (λ ys. length (entries_of ys)) (take_all p xs past)
 
-split : (xs : List Slot) (p : ℕ) (d : Slot) → p < length xs
+pub split : (xs : List Slot) (p : ℕ) (d : Slot) → p < length xs
     → entries_of xs ≡ entries_of (take p xs) ++ entries_of (get_or xs p d ∷ drop (suc p) xs)
 split xs p d low = ap entries_of (sym (take-append-drop p xs) ∙ ap (λ ys. take p xs ++ ys) (drop-cons xs p d low))
     ∙ filter_map-append entry_of (take p xs) (get_or xs p d ∷ drop (suc p) xs)

@@ -5,3 +5,4 @@ pub mod Entries
 pub mod Here
 pub mod Packing
 pub mod Walks
+pub mod Coming

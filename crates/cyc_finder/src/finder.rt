@@ -32,8 +32,9 @@ const FEWEST_SLOTS: usize = 64;
 /// see its entries by rising id.
 ///
 /// It keeps a slot for each cyclic that came, by rising id, and a cyclic that goes leaves its slot behind, so that no other is moved.
-/// The slots of those that are gone are dropped all at once, when no more fit. Ids mostly rise by one, so the first look mostly answers;
-/// after it comes a hint, of which each id has one, with many cyclics a second one, which fewer ids share, and then halving.
+/// One that comes between others takes over such a slot near it; those that are left are dropped all at once, when no more fit. Ids mostly
+/// rise by one, so the first look mostly answers; after it comes a hint, of which each id has one, with many cyclics a second one, which
+/// fewer ids share, and then halving.
 #[derive(Drop)]
 pub struct Finder {
     slots: Vec<Slot>,
@@ -168,8 +169,9 @@ impl Finder {
         }
     }
 
-    /// The id gets the index, which no other id has. Takes no memory. O(log n) on average where the id is above all that came, or was
-    /// here before and its slot was not dropped; else those above it are moved.
+    /// The id gets the index, which no other id has. Takes no memory. O(log n) on average where the id is above all that came, where its own
+    /// slot is still there, or where the slot below it is of one that is gone; else the slots above it are moved, up to the next of one that
+    /// is gone or all where none is: O(n).
     #[inline(always)]
     pub fn insert(&mut self, id: CyclicId, index: Index)
         requires absent { index_of id self.old.entries ≡ None }

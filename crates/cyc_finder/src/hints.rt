@@ -1,5 +1,7 @@
 //! Where the slot of an id was last.
 
+ghost use Rattle.std.specs.Prelude.{◌≤◌, length};
+
 use crate::finder::{HINTS, hint_of};
 use crate::slots::Slot;
 use cyc_types::CyclicId;
@@ -85,6 +87,15 @@ impl Hints {
     fn set_far(&mut self, id: CyclicId, position: usize) {
         if let Some(hint) = self.far.get_mut(far_of(id)) {
             *hint = short(position);
+        }
+    }
+
+    /// The slots from one position up to another are where they are: the first `HINTS` of them, since there are no more near hints.
+    pub(crate) fn set_few(&mut self, slots: &[Slot], from: usize, to: usize)
+        requires { to ≤ length slots.now }
+    {
+        for at in from..to.min(from.saturating_add(HINTS)) {
+            self.set(slots[at].id, at);
         }
     }
 

@@ -1,7 +1,7 @@
 //! The slots of a finder: looking an id up among them, putting one in, and dropping those that are gone.
 
-ghost use Rattle.std.specs.Prelude.{◌≡◌, ◌≢◌, ℕ, ◌+◌, ◌-◌, ◌<◌, ◌≤◌, length, slice_index_or, None, Some, IfSome, IfNone, IfOk, IfErr, insert};
-ghost use Rattle.std.specs.Prelude.{vec_capacity};
+ghost use Rattle.std.specs.Prelude.{◌≡◌, ◌≢◌, ℕ, ◌+◌, ◌-◌, ◌<◌, ◌≤◌, ◌⊎◌, length, slice_index_or, None, Some, IfSome, IfNone, IfOk, IfErr};
+ghost use Rattle.std.specs.Prelude.{insert, remove, vec_capacity};
 ghost use Rattle.std.specs.List.{AllWithin, HoldsAt, SameBelow};
 ghost use Rattle.cyc_finder.specs.Sorted.{Rises, IsAt, IsGap, IsPassed, ComesAfter};
 ghost use Rattle.cyc_finder.specs.Indexes.{id_in, index_of};
@@ -261,8 +261,48 @@ pub(crate) fn put(slots: &mut Vec<Slot>, hints: &mut Hints, id: CyclicId, index:
     position
 }
 
-/// As `put`, at any id: where its slot is if it came before, else between two, and those above are moved. Where these are now no hint
-/// says before they are sought.
+/// The first position from this one on whose cyclic is gone, behind the last where there is none.
+fn next_gone(slots: &[Slot], from: usize) -> usize
+    requires { from ≤ length slots.now }
+    ensures after { from ≤ result }
+    ensures within { result ≤ length slots.now }
+    ensures here { AllWithin (λ slot. slot.index ≢ None) slots.now from result }
+    ensures gone { result < length slots.now → HoldsAt IsGone slots.now result }
+{
+    let mut position = from;
+    while position < slots.len() && slots[position].index.is_some() {
+        position += 1;
+    }
+    position
+}
+
+/// Where a slot comes in that would stand at this position: at the one before where that is of a cyclic that is gone.
+#[inline(always)]
+fn way_in(slots: &[Slot], gap: usize) -> usize
+    requires { gap ≤ length slots.now }
+    ensures { (result ≡ gap) ⊎ ((result + 1 ≡ gap) × HoldsAt IsGone slots.now result) }
+{
+    if gap > 0 && slots[gap - 1].index.is_none() {
+        return gap - 1;
+    }
+    gap
+}
+
+/// Puts a slot in at this position: those from there on move up by one, over that of a cyclic that is gone, and those behind that stay.
+fn move_up(slots: &mut Vec<Slot>, position: usize, gone: usize, slot: Slot)
+    requires up { position ≤ gone }
+    requires within { gone < length slots.old.items }
+    ensures items { slots.new.items ≡ insert (remove slots.old.items gone) position slot }
+    ensures capacity { vec_capacity slots.new ≡ vec_capacity slots.old }
+{
+    slots.copy_within(position..gone, position + 1);
+    slots[position] = slot;
+}
+
+/// As `put`, at any id: where its slot is if that is still there, else between two. Where the lower of these is of a cyclic that is gone it
+/// takes that over, and moves none. Else those above it move up by one, over the next that is gone, and the first `HINTS` of them get their
+/// hints: O(log n) where that is near. Where none of them is gone all of them are moved, O(n), and where they are now no hint says before
+/// they are sought.
 #[cold]
 #[inline(never)]
 fn put_between(slots: &mut Vec<Slot>, hints: &mut Hints, id: CyclicId, index: Index) -> usize
@@ -288,7 +328,14 @@ fn put_between(slots: &mut Vec<Slot>, hints: &mut Hints, id: CyclicId, index: In
             hints.set(id, position);
             position
         }
-        Err(position) => {
+        Err(gap) => {
+            let position = way_in(slots, gap);
+            let gone = next_gone(slots, position);
+            if gone < slots.len() {
+                move_up(slots, position, gone, slot);
+                hints.set_few(slots, position, gone + 1);
+                return position;
+            }
             let _ = slots.insert(position, slot);
             hints.set(id, position);
             position
