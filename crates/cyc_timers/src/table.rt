@@ -119,7 +119,7 @@ impl Table {
     }
 
     /// Puts in a cyclic with this record and this first expiration, and gives its index, which was free (`cyclic_add_here`).
-    /// O(log n) on average where the id is above all that came, else those above it are moved. Takes no memory.
+    /// O(log n) on average where the id is above all that came, else as `insert` of a `Finder`. Takes no memory.
     pub fn insert(&mut self, id: CyclicId, moment: Moment, kept: Record) -> Index
         requires free { length self.old.rows < self.old.size }
         requires absent { HasNo id self.old.rows }
