@@ -90,6 +90,7 @@ impl LevelCore {
         self.drainer_hand = self.old_list.pop_front();
     }
 
+    #[inline(always)]
     pub(crate) fn finish_call(&mut self)
         requires { Enabled Finish (level_of self.old) }
         ensures { level_of self.new ≡ after Finish (level_of self.old) }

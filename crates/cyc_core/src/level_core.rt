@@ -6,6 +6,7 @@ ghost use Rattle.cyc_types.specs.Limits.{cyclics};
 ghost use Rattle.cyc_level.specs.Level.{empty_level};
 ghost use Rattle.cyc_level.specs.Lawful.{Lawful};
 ghost use Rattle.cyc_level.specs.Conservation.{IsConserved};
+ghost use Rattle.cyc_finder.specs.Indexes.{index_of};
 ghost use Rattle.cyc_core.specs.Tables.{cyclic_of, level_of, lookup};
 ghost use Rattle.cyc_core.specs.Reached.{IsReached};
 
@@ -74,6 +75,16 @@ fn no_ids(alloc: Global) -> Result<Finder, AllocError>
     Ok(ids)
 }
 
+/// As `find` of the finder, where a hint was wrong, which mostly is right. By a call that is lent the finder alone, so that what makes
+/// it keeps neither registers nor the level's other fields for it.
+#[cold]
+#[inline(never)]
+fn find_apart(ids: &Finder, id: CyclicId) -> Option<Index>
+    ensures { result ≡ index_of id ids.now.entries }
+{
+    ids.find(id)
+}
+
 impl LevelCore {
     /// An empty level with both banks 0 and this ceiling.
     ///
@@ -121,7 +132,7 @@ impl LevelCore {
         if is_kept_at(&self.kept, hint, id) {
             return Some(hint);
         }
-        self.ids.find(id)
+        find_apart(&self.ids, id)
     }
 
     /// The entry of the id, where it is admitted.
@@ -136,6 +147,7 @@ impl LevelCore {
     }
 
     /// The entry of an admitted id.
+    #[inline(always)]
     pub(crate) fn entry_of(&self, id: CyclicId) -> Admitted
         requires { IsSome (lookup id self.now.table) }
         ensures here { lookup id self.now.table ≡ Some result }

@@ -30,7 +30,8 @@ impl Raise for LevelCore {
         entry.count
     }
 
-    #[inline(always)]
+    // A call: its registers are then not those of a fire's loop.
+    #[inline(never)]
     fn raise(&mut self, id: CyclicId) -> Raised {
         let entry = self.entry_of(id);
         let count = entry.count;

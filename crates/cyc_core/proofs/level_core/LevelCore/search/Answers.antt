@@ -11,4 +11,4 @@ returns-then-is_kept_at c =
 
 pub returns : goal.returns
 returns c = let a = c.self.inside in
-    rw (← c.self.view_is) (c.find.ensures ∙ index_found a.kept.items a.ids.entries c.args.id)
+    rw (← c.self.view_is) (c.find_apart.ensures ∙ index_found a.kept.items a.ids.entries c.args.id)
