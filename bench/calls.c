@@ -7,6 +7,7 @@
  *     calls low N same|last|turn|random [ROUNDS]       the same at low level
  *     calls between N same|last|turn|random [ROUNDS]   such a one goes, and a new one comes whose id is between those of its neighbours
  *     calls fire N PEAK [ROUNDS]                       N that are left of PEAK, of one interval
+ *     calls soft N PEAK [ROUNDS]                       the same at low level: each expiration is taken and finished too
  *
  * It prints the nanoseconds of a call, the least of the rounds: 15 where no number is given. */
 #include "cyclic.h"
@@ -150,23 +151,44 @@ static long fire(void)
     return expired;
 }
 
+static long soft(void)
+{
+    static int64_t moment = START;
+    cyclic_fired fired;
+    long expired = 0;
+    while (expired < CALLS) {
+        uint64_t hand;
+        moment += 1000;
+        check(cyclic_fire(&cpu, moment, &fired));
+        expired += fired.expired;
+        for (;;) {
+            check(cyclic_take(&cpu, CYCLIC_LOW, &hand));
+            if (hand == 0)
+                break;
+            check(cyclic_finish(&cpu, CYCLIC_LOW));
+        }
+    }
+    return expired;
+}
+
 int main(int count, char **words)
 {
     if (count < 4)
         return 2;
     const char *job = words[1];
     int is_swing = strcmp(job, "swing") == 0, is_fire = strcmp(job, "fire") == 0, is_low = strcmp(job, "low") == 0;
+    int is_soft = strcmp(job, "soft") == 0;
     int is_between = strcmp(job, "between") == 0, is_churn = is_low || is_between || strcmp(job, "churn") == 0;
     uint64_t first = strtoull(words[2], NULL, 10), peak = strtoull(words[is_swing ? 4 : 3], NULL, 10);
     int rounds = count > 4 + is_swing ? atoi(words[4 + is_swing]) : 15;
     double least = 1e18;
     gap = strcmp(job, "apart") == 0 ? 7 : is_between ? 1 << 20 : 1;
-    level = is_low ? CYCLIC_LOW : CYCLIC_HIGH;
+    level = is_low || is_soft ? CYCLIC_LOW : CYCLIC_HIGH;
     check(cyclic_cpu_open(UINT32_MAX, UINT64_MAX, &cpu));
-    fill(first, is_swing || is_fire ? peak : 0);
+    fill(first, is_swing || is_fire || is_soft ? peak : 0);
     for (int round = 0; round < rounds; round++) {
         double begin = now();
-        long calls = is_swing ? swing(first, strtoull(words[3], NULL, 10)) : is_fire ? fire()
+        long calls = is_swing ? swing(first, strtoull(words[3], NULL, 10)) : is_fire ? fire() : is_soft ? soft()
             : is_churn ? churn(first, words[3][0], is_between) : again(first, words[3][0]);
         double each = (now() - begin) / calls;
         if (each < least)
