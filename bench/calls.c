@@ -4,6 +4,7 @@
  *     calls apart N same|last|turn|random [ROUNDS]     the same of ids that are 7 apart, as on a CPU of several
  *     calls swing LOW HIGH PEAK [ROUNDS]               from LOW to HIGH cyclics and back, on a CPU that once had PEAK
  *     calls fire N PEAK [ROUNDS]                       N that are left of PEAK, of one interval
+ *     calls soft N PEAK [ROUNDS]                       the same at low level: each expiration is taken and finished too
  *
  * It prints the nanoseconds of a call, the least of the rounds: 15 where no number is given. */
 #include "cyclic.h"
@@ -18,6 +19,7 @@
 static cyclic_cpu cpu = CYCLIC_CLOSED;
 /* from one id to the next */
 static uint64_t gap = 1;
+static uint32_t level = CYCLIC_HIGH;
 static uint64_t state = 88172645463325252ull;
 
 static uint64_t any(void)
@@ -46,7 +48,7 @@ static void check(uint32_t answer)
 static void add(uint64_t id, int64_t start)
 {
     uint64_t busy, hand;
-    check(cyclic_add(&cpu, id, CYCLIC_HIGH, start, 1000, 0, &busy));
+    check(cyclic_add(&cpu, id, level, start, 1000, 0, &busy));
     /* where the CPU grew, both soft sides follow */
     cyclic_take(&cpu, CYCLIC_LOCK, &hand);
     cyclic_take(&cpu, CYCLIC_LOW, &hand);
@@ -130,21 +132,42 @@ static long fire(void)
     return expired;
 }
 
+static long soft(void)
+{
+    static int64_t moment = START;
+    cyclic_fired fired;
+    long expired = 0;
+    while (expired < CALLS) {
+        uint64_t hand;
+        moment += 1000;
+        check(cyclic_fire(&cpu, moment, &fired));
+        expired += fired.expired;
+        for (;;) {
+            check(cyclic_take(&cpu, CYCLIC_LOW, &hand));
+            if (hand == 0)
+                break;
+            check(cyclic_finish(&cpu, CYCLIC_LOW));
+        }
+    }
+    return expired;
+}
+
 int main(int count, char **words)
 {
     if (count < 4)
         return 2;
     const char *job = words[1];
-    int is_swing = strcmp(job, "swing") == 0, is_fire = strcmp(job, "fire") == 0;
+    int is_swing = strcmp(job, "swing") == 0, is_fire = strcmp(job, "fire") == 0, is_soft = strcmp(job, "soft") == 0;
     uint64_t first = strtoull(words[2], NULL, 10), peak = strtoull(words[is_swing ? 4 : 3], NULL, 10);
     int rounds = count > 4 + is_swing ? atoi(words[4 + is_swing]) : 15;
     double least = 1e18;
     gap = strcmp(job, "apart") == 0 ? 7 : 1;
+    level = is_soft ? CYCLIC_LOW : CYCLIC_HIGH;
     check(cyclic_cpu_open(UINT32_MAX, UINT64_MAX, &cpu));
-    fill(first, is_swing || is_fire ? peak : 0);
+    fill(first, is_swing || is_fire || is_soft ? peak : 0);
     for (int round = 0; round < rounds; round++) {
         double begin = now();
-        long calls = is_swing ? swing(first, strtoull(words[3], NULL, 10)) : is_fire ? fire() : again(first, words[3][0]);
+        long calls = is_swing ? swing(first, strtoull(words[3], NULL, 10)) : is_fire ? fire() : is_soft ? soft() : again(first, words[3][0]);
         double each = (now() - begin) / calls;
         if (each < least)
             least = each;
