@@ -3,6 +3,9 @@
  *     calls again N same|last|turn|random [ROUNDS]     the one in the middle, the last one, each in turn, any of N
  *     calls apart N same|last|turn|random [ROUNDS]     the same of ids that are 7 apart, as on a CPU of several
  *     calls swing LOW HIGH PEAK [ROUNDS]               from LOW to HIGH cyclics and back, on a CPU that once had PEAK
+ *     calls churn N same|last|turn|random [ROUNDS]     such a one goes, and a new one comes; in turn it is the oldest
+ *     calls low N same|last|turn|random [ROUNDS]       the same at low level
+ *     calls between N same|last|turn|random [ROUNDS]   such a one goes, and a new one comes whose id is between those of its neighbours
  *     calls fire N PEAK [ROUNDS]                       N that are left of PEAK, of one interval
  *     calls soft N PEAK [ROUNDS]                       the same at low level: each expiration is taken and finished too
  *
@@ -15,6 +18,7 @@
 
 #define START 1000000000
 #define CALLS 20000
+#define MOST 4096
 
 static cyclic_cpu cpu = CYCLIC_CLOSED;
 /* from one id to the next */
@@ -113,6 +117,21 @@ static long swing(uint64_t low, uint64_t high)
     return calls;
 }
 
+static long churn(uint64_t count, char pattern, int between)
+{
+    static uint64_t next = 1000000, ids[MOST];
+    if (ids[0] == 0)
+        for (uint64_t place = 0; place < count; place++)
+            ids[place] = id_at(place);
+    for (long call = 0; call < CALLS; call += 2) {
+        uint64_t *id = &ids[place_of(pattern, call / 2, count)];
+        remove_now(*id);
+        *id = between ? *id + 1 : next++;
+        add(*id, START + (any() & 0xffff));
+    }
+    return CALLS;
+}
+
 static long fire(void)
 {
     static int64_t moment = START;
@@ -157,17 +176,20 @@ int main(int count, char **words)
     if (count < 4)
         return 2;
     const char *job = words[1];
-    int is_swing = strcmp(job, "swing") == 0, is_fire = strcmp(job, "fire") == 0, is_soft = strcmp(job, "soft") == 0;
+    int is_swing = strcmp(job, "swing") == 0, is_fire = strcmp(job, "fire") == 0, is_low = strcmp(job, "low") == 0;
+    int is_soft = strcmp(job, "soft") == 0;
+    int is_between = strcmp(job, "between") == 0, is_churn = is_low || is_between || strcmp(job, "churn") == 0;
     uint64_t first = strtoull(words[2], NULL, 10), peak = strtoull(words[is_swing ? 4 : 3], NULL, 10);
     int rounds = count > 4 + is_swing ? atoi(words[4 + is_swing]) : 15;
     double least = 1e18;
-    gap = strcmp(job, "apart") == 0 ? 7 : 1;
-    level = is_soft ? CYCLIC_LOW : CYCLIC_HIGH;
+    gap = strcmp(job, "apart") == 0 ? 7 : is_between ? 1 << 20 : 1;
+    level = is_low || is_soft ? CYCLIC_LOW : CYCLIC_HIGH;
     check(cyclic_cpu_open(UINT32_MAX, UINT64_MAX, &cpu));
     fill(first, is_swing || is_fire || is_soft ? peak : 0);
     for (int round = 0; round < rounds; round++) {
         double begin = now();
-        long calls = is_swing ? swing(first, strtoull(words[3], NULL, 10)) : is_fire ? fire() : is_soft ? soft() : again(first, words[3][0]);
+        long calls = is_swing ? swing(first, strtoull(words[3], NULL, 10)) : is_fire ? fire() : is_soft ? soft()
+            : is_churn ? churn(first, words[3][0], is_between) : again(first, words[3][0]);
         double each = (now() - begin) / calls;
         if (each < least)
             least = each;

@@ -16,7 +16,7 @@ fn main() {
         "Cyclics",
         &["Rust, ns", "Rattle, ns", "Rattle to Rust"],
     );
-    for ids in [1, 16, 256] {
+    for ids in [1, 16, 256, 4096] {
         let rust = || level::hand_overs(ids, TURNS);
         // The call takes numbers and keeps nothing.
         let rattle = || unsafe { rattle_hand_overs(ids, TURNS) };

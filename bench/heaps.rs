@@ -10,7 +10,18 @@ use std::collections::BinaryHeap;
 pub const ROUNDS: usize = 9;
 
 /// The rows: how many cyclics, and the nanoseconds between two fires.
-pub const FIRES: [(usize, u64); 6] = [(16, 64), (16, 8), (64, 64), (64, 8), (256, 64), (256, 8)];
+pub const FIRES: [(usize, u64); 10] = [
+    (16, 64),
+    (16, 8),
+    (64, 64),
+    (64, 8),
+    (256, 64),
+    (256, 8),
+    (1024, 64),
+    (1024, 8),
+    (4096, 64),
+    (4096, 8),
+];
 
 /// What the rows of the tables are.
 pub const WHAT: &str = "Cyclics, nanoseconds between two fires";

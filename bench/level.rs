@@ -2,6 +2,9 @@
 use std::collections::VecDeque;
 use std::hint::black_box;
 
+/// The cyclics of a CPU.
+const CYCLICS: usize = 4096;
+
 #[derive(Clone, Copy, PartialEq, Eq, PartialOrd, Ord)]
 struct CyclicId(u64);
 
@@ -39,10 +42,10 @@ impl Level {
             ceiling,
             hard_bank: bank,
             soft_bank: 0,
-            table: Vec::with_capacity(256),
+            table: Vec::with_capacity(CYCLICS),
             marked: None,
-            old_list: VecDeque::with_capacity(256),
-            new_list: VecDeque::with_capacity(256),
+            old_list: VecDeque::with_capacity(CYCLICS),
+            new_list: VecDeque::with_capacity(CYCLICS),
             drainer_hand: None,
         }
     }

@@ -1,6 +1,6 @@
 /*
  * Times an expiration with its call in C: of the proved CPU (include/cyclic.h), at high and at low level, beside libev's and
- * libevent's timers and Linux' timerfd, one descriptor for each timer. Each has 16 and then 256 timers of one interval, and a round
+ * libevent's timers and Linux' timerfd, one descriptor for each timer. Each has 16, 256 and then 4,096 timers of one interval, and a round
  * makes the expirations that are due; the handler counts them.
  *
  * Each round of libev and libevent reads the clock and asks the kernel for events, and a round of timerfd asks the kernel for the
@@ -11,6 +11,7 @@
 #include <stdlib.h>
 #include <string.h>
 #include <sys/epoll.h>
+#include <sys/resource.h>
 #include <sys/timerfd.h>
 #include <time.h>
 #include <unistd.h>
@@ -24,7 +25,7 @@
 #endif
 
 #define INTERVAL 1000 /* nanoseconds */
-#define TIMERS 256
+#define TIMERS 4096
 #define ROUNDS 15
 
 static uint64_t calls[TIMERS + 1];
@@ -220,6 +221,12 @@ int main(void)
 {
     static double (*const sides[])(size_t, uint64_t) = { high, low, libev, libevent, timerfd };
     enum { SIDES = sizeof sides / sizeof sides[0] };
+    /* a descriptor for each timer */
+    struct rlimit files;
+    if (getrlimit(RLIMIT_NOFILE, &files) == 0) {
+        files.rlim_cur = files.rlim_max;
+        setrlimit(RLIMIT_NOFILE, &files);
+    }
     puts("| Timers | `cyclic_fire` at high level, ns | at low level, taken and finished, ns | libev, ns | libevent, ns | timerfd, ns |\n"
          "|--:|--:|--:|--:|--:|--:|");
     for (size_t count = 16; count <= TIMERS; count *= 16) {

@@ -7,7 +7,7 @@ mod words;
 
 use std::hint::black_box;
 use std::sync::atomic::{AtomicU64, Ordering::SeqCst};
-use words::{DrainEnd, HARD, PRODUCERS, RaiseEnd, Ring, pend_word, spread};
+use words::{BANK, CYCLICS, DrainEnd, HARD, PRODUCERS, RaiseEnd, Ring, WORDS, pend_word, spread};
 
 unsafe extern "C" {
     fn bench_ring(ids: u16, turns: u64) -> u64;
@@ -39,9 +39,9 @@ fn calls(ids: u16, turns: u64) -> u64 {
 /// The same atomic steps, and nothing else that needs memory.
 #[inline(never)]
 fn steps(ids: u16, turns: u64) -> u64 {
-    let words: Vec<AtomicU64> = (0..778).map(|_| AtomicU64::new(0)).collect();
-    let bank = black_box(8);
-    words[HARD].store(8, SeqCst);
+    let words: Vec<AtomicU64> = (0..WORDS).map(|_| AtomicU64::new(0)).collect();
+    let bank = black_box(BANK);
+    words[HARD].store(BANK as u64, SeqCst);
     let (mut producer, mut consumer) = (0, 0);
     let mut last = 0;
     let mut id = 1;
@@ -49,15 +49,16 @@ fn steps(ids: u16, turns: u64) -> u64 {
         let index = id as usize - 1;
         let pend = &words[pend_word::<9>(index)];
         if pend.load(SeqCst) != u64::from(u32::MAX) && pend.fetch_add(1, SeqCst) == 0 {
-            words[511 + spread::<9>(256, producer)].store(id * 256 + index as u64, SeqCst);
+            words[2 * CYCLICS - 1 + spread::<9>(CYCLICS, producer)]
+                .store(id * CYCLICS as u64 + index as u64, SeqCst);
             producer += 1;
             words[PRODUCERS + bank].store(producer as u64, SeqCst);
         }
         words[HARD].load(SeqCst);
         if words[PRODUCERS + bank].load(SeqCst) != consumer as u64 {
-            let entry = words[511 + spread::<9>(256, consumer)].load(SeqCst);
+            let entry = words[2 * CYCLICS - 1 + spread::<9>(CYCLICS, consumer)].load(SeqCst);
             consumer += 1;
-            let pend = &words[pend_word::<9>(entry as usize % 256)];
+            let pend = &words[pend_word::<9>(entry as usize % CYCLICS)];
             last += u64::from(pend.fetch_sub(1, SeqCst) == 1);
         }
         id = following(id, ids);
@@ -73,7 +74,7 @@ fn main() {
         "Rattle to Rust",
     ];
     timing::head("A hand-over on a ring, in one thread", "Cyclics", &columns);
-    for ids in [1, 16, 256] {
+    for ids in [1, 16, 256, 4096] {
         // The call takes numbers and keeps nothing.
         let rattle = || unsafe { bench_ring(ids, TURNS) };
         let sides: [timing::Side; 3] = [&|| steps(ids, TURNS), &|| calls(ids, TURNS), &rattle];

@@ -8,6 +8,7 @@ type Run = unsafe extern "C" fn(cyclics: u64, operations: u64) -> u64;
 
 unsafe extern "C" {
     fn bench_system_replace(cyclics: u64, operations: u64) -> u64;
+    fn bench_system_churn(cyclics: u64, operations: u64) -> u64;
     fn bench_system_bind(cyclics: u64, operations: u64) -> u64;
     fn bench_system_reprogram(cyclics: u64, operations: u64) -> u64;
 }
@@ -34,11 +35,14 @@ fn nanoseconds(run: Run, cyclics: u64) -> f64 {
 
 fn main() {
     println!("A call of a system of 16 CPUs:\n");
-    println!("| Cyclics | A removal and an `add`, ns | A `bind` to another CPU and one back, ns | A `reprogram`, ns |");
-    println!("|--|--:|--:|--:|");
-    for cyclics in [256, 1024, 4080] {
-        let times = [bench_system_replace as Run, bench_system_bind, bench_system_reprogram]
-            .map(|run| nanoseconds(run, cyclics));
-        println!("| {cyclics} | {:.0} | {:.0} | {:.0} |", times[0], times[1], times[2]);
+    println!("| Cyclics | A removal of the oldest and an `add`, ns | Of any, ns | A `bind` to another CPU and one back, ns | A `reprogram`, ns |");
+    println!("|--|--:|--:|--:|--:|");
+    for cyclics in [256, 1024, 4080, 16384, 65280] {
+        let runs = [bench_system_replace as Run, bench_system_churn, bench_system_bind, bench_system_reprogram];
+        let times = runs.map(|run| nanoseconds(run, cyclics));
+        println!(
+            "| {cyclics} | {:.0} | {:.0} | {:.0} | {:.0} |",
+            times[0], times[1], times[2], times[3]
+        );
     }
 }

@@ -6,9 +6,16 @@
 use std::hint::spin_loop;
 use std::sync::atomic::{AtomicU64, Ordering::SeqCst};
 
-pub const PRODUCERS: usize = 767;
-pub const HARD: usize = 776;
-const SOFT: usize = 777;
+/// The indexes of a ring: as many as there are slots in its greatest bank.
+pub const CYCLICS: usize = 1 << BANK;
+pub const BANK: usize = 12;
+/// Behind a word for each index and those of all banks are one for each bank's producer, and then the banks of the two sides.
+pub const PRODUCERS: usize = 3 * CYCLICS - 1;
+pub const HARD: usize = PRODUCERS + BANK + 1;
+const SOFT: usize = HARD + 1;
+pub const WORDS: usize = SOFT + 1;
+/// The hints of a look-up.
+const HINTS: usize = 256;
 const MARK: u64 = 1 << 32;
 
 pub struct Ring<const APART: usize, const SPREAD: usize> {
@@ -18,7 +25,7 @@ pub struct Ring<const APART: usize, const SPREAD: usize> {
 impl<const APART: usize, const SPREAD: usize> Ring<APART, SPREAD> {
     pub fn open() -> Ring<APART, SPREAD> {
         Ring {
-            words: (0..778 * APART).map(|_| AtomicU64::new(0)).collect(),
+            words: (0..WORDS * APART).map(|_| AtomicU64::new(0)).collect(),
         }
     }
 
@@ -34,7 +41,7 @@ pub fn spread<const SPREAD: usize>(size: usize, index: usize) -> usize {
 
 /// The pend word of an index.
 pub fn pend_word<const SPREAD: usize>(index: usize) -> usize {
-    spread::<SPREAD>(256, index)
+    spread::<SPREAD>(CYCLICS, index)
 }
 
 /// The index of each id: a hint by its low bits, and behind it the ids in rising order.
@@ -49,11 +56,11 @@ impl Finder {
         let place = self.ids.partition_point(|other| *other < id);
         self.ids.insert(place, id);
         self.indexes.insert(place, index);
-        self.hints[id as usize % 256] = (id, index);
+        self.hints[id as usize % HINTS] = (id, index);
     }
 
     fn find(&self, id: u64) -> Option<usize> {
-        let (hinted, index) = self.hints[id as usize % 256];
+        let (hinted, index) = self.hints[id as usize % HINTS];
         if hinted == id {
             return Some(index);
         }
@@ -68,8 +75,8 @@ pub struct RaiseEnd<'a, const APART: usize, const SPREAD: usize> {
     ring: &'a Ring<APART, SPREAD>,
     finder: Finder,
     ceiling: u32,
-    sent: [u64; 256],
-    lost: [u64; 256],
+    sent: [u64; CYCLICS],
+    lost: [u64; CYCLICS],
     bank: usize,
     mask: usize,
     next: u32,
@@ -81,18 +88,18 @@ impl<'a, const APART: usize, const SPREAD: usize> RaiseEnd<'a, APART, SPREAD> {
         let mut raise_end = RaiseEnd {
             ring,
             finder: Finder {
-                ids: Vec::with_capacity(256),
-                indexes: Vec::with_capacity(256),
-                hints: vec![(0, 0); 256],
+                ids: Vec::with_capacity(CYCLICS),
+                indexes: Vec::with_capacity(CYCLICS),
+                hints: vec![(0, 0); HINTS],
             },
             ceiling: u32::MAX,
-            sent: [0; 256],
-            lost: [0; 256],
-            bank: 8,
-            mask: 255,
+            sent: [0; CYCLICS],
+            lost: [0; CYCLICS],
+            bank: BANK,
+            mask: CYCLICS - 1,
             next: 0,
         };
-        ring.word(HARD).store(8, SeqCst);
+        ring.word(HARD).store(BANK as u64, SeqCst);
         for index in 0..usize::from(ids) {
             ring.word(pend_word::<SPREAD>(index)).load(SeqCst);
             raise_end.finder.insert(index as u64 + 1, index);
@@ -112,8 +119,8 @@ impl<'a, const APART: usize, const SPREAD: usize> RaiseEnd<'a, APART, SPREAD> {
         if pend.fetch_add(1, SeqCst) != 0 {
             return;
         }
-        let place = 256 + self.mask + spread::<SPREAD>(self.mask + 1, self.next as usize);
-        self.ring.word(place).store(id * 256 + index as u64, SeqCst);
+        let place = CYCLICS + self.mask + spread::<SPREAD>(self.mask + 1, self.next as usize);
+        self.ring.word(place).store(id * CYCLICS as u64 + index as u64, SeqCst);
         self.next = self.next.wrapping_add(1);
         self.ring
             .word(PRODUCERS + self.bank)
@@ -168,7 +175,7 @@ impl<'a, const APART: usize, const SPREAD: usize> DrainEnd<'a, APART, SPREAD> {
             let bank = self.ring.word(HARD).load(SeqCst) as usize;
             let end = self.ring.word(PRODUCERS + self.bank).load(SeqCst);
             if end != u64::from(self.next) {
-                let place = 256 + self.mask + spread::<SPREAD>(self.mask + 1, self.next as usize);
+                let place = CYCLICS + self.mask + spread::<SPREAD>(self.mask + 1, self.next as usize);
                 self.hand = self.ring.word(place).load(SeqCst);
                 self.next = self.next.wrapping_add(1);
                 return true;
@@ -190,14 +197,14 @@ impl<'a, const APART: usize, const SPREAD: usize> DrainEnd<'a, APART, SPREAD> {
 
     /// The id of the cyclic in hand, which is taken where the hand is empty.
     pub fn in_hand(&mut self) -> Option<u64> {
-        self.has_taken().then(|| self.hand / 256)
+        self.has_taken().then(|| self.hand / CYCLICS as u64)
     }
 
     /// The call of the cyclic in hand is done. Whether it was its last.
     pub fn finish(&mut self) -> bool {
         let found = self
             .ring
-            .word(pend_word::<SPREAD>(self.hand as usize % 256))
+            .word(pend_word::<SPREAD>(self.hand as usize % CYCLICS))
             .fetch_sub(1, SeqCst);
         if found % MARK <= 1 {
             self.hand = 0;

@@ -54,12 +54,15 @@ extern "C" {
 #define CYCLIC_VERSION_NUMBER \
     (CYCLIC_VERSION_MAJOR * UINT32_C(1000000) + CYCLIC_VERSION_MINOR * UINT32_C(1000) + CYCLIC_VERSION_PATCH)
 
+/* The cyclics that a CPU can hold; a level has as many indexes. */
+#define CYCLIC_CYCLICS 4096u
+
 /* The refusals. */
 #define CYCLIC_MEMORY 1u          /* a growth of memory was refused */
 #define CYCLIC_BAD_WHEN 2u        /* a start or a moment is negative */
 #define CYCLIC_BAD_INTERVAL 3u    /* an interval is below 1 */
 #define CYCLIC_BAD_NOW 4u         /* the moment of a fire or an add is CYCLIC_NEVER */
-#define CYCLIC_FULL 5u            /* the CPU holds 256 cyclics */
+#define CYCLIC_FULL 5u            /* the CPU holds 4,096 cyclics */
 #define CYCLIC_EXPANDING 6u       /* a soft level has not followed the last doubling: take from both until they are idle */
 #define CYCLIC_BUSY 7u            /* a removal is open: poll it until it answers */
 #define CYCLIC_NO_CYCLIC 8u       /* there is no such cyclic, or its removal is open */
@@ -79,7 +82,7 @@ extern "C" {
     EACH(CYCLIC_BAD_WHEN, "BadWhen", "a start or a moment is negative")                                                      \
     EACH(CYCLIC_BAD_INTERVAL, "BadInterval", "an interval is below 1")                                                       \
     EACH(CYCLIC_BAD_NOW, "BadNow", "the moment of a fire or an add is never")                                                \
-    EACH(CYCLIC_FULL, "Full", "the CPU holds 256 cyclics")                                                                   \
+    EACH(CYCLIC_FULL, "Full", "the CPU holds 4,096 cyclics")                                                                 \
     EACH(CYCLIC_EXPANDING, "Expanding", "a soft level has not followed the last doubling: take from both until they are idle") \
     EACH(CYCLIC_BUSY, "Busy", "a removal is open: poll it until it answers")                                                 \
     EACH(CYCLIC_NO_CYCLIC, "NoCyclic", "there is no such cyclic, or its removal is open")                                    \
@@ -115,7 +118,7 @@ static inline const char *cyclic_refusal_text(uint32_t answer)
 /* The moment that is never due (CY_INFINITY of sys/cyclic.h). As an interval it makes a one-shot. */
 #define CYCLIC_NEVER INT64_MAX
 /* The greatest id. */
-#define CYCLIC_LAST_ID ((UINT64_C(1) << 56) - 1)
+#define CYCLIC_LAST_ID ((UINT64_C(1) << 52) - 1)
 
 /* The levels (CY_LOW_LEVEL, CY_LOCK_LEVEL and CY_HIGH_LEVEL of sys/cyclic.h). The first two are the soft levels. */
 #define CYCLIC_LOW 0u
@@ -332,7 +335,7 @@ uint32_t cyclic_open(uint32_t ceiling, uint64_t most, cyclic_firing *firing, cyc
 uint32_t cyclic_close(cyclic_firing *firing, cyclic_soft *lock, cyclic_soft *low, cyclic_books *books);
 
 /*
- * The book of the cyclic at an index, from 0 to 255, of a soft level; its id is 0 where none is.
+ * The book of the cyclic at an index, below CYCLIC_CYCLICS, of a soft level; its id is 0 where none is.
  * Refuses with CYCLIC_MISUSED where the books are closed, or the level or the index is none, and `*book` stays.
  * Stands in the thread that has the books, also in an interrupt: it takes no memory.
  */

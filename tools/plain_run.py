@@ -6,7 +6,7 @@ pictures (tools/timeline) are drawn by it, and tests compare texts with its line
 
 NEVER = 2**63 - 1
 SECOND = 10**9
-MOST_CYCLICS = 256
+MOST_CYCLICS = 4096
 
 
 def first(start, interval, now):

@@ -193,7 +193,7 @@ int main(int count, char **words)
     done(cyclic_firing_totals(&firing, 1, &high));
     agree &= report(0, high.expired, high.lost);
     done(cyclic_close(&firing, &drainers[1].soft, &drainers[0].soft, &books));
-    for (uint32_t index = 0; index < 256; index++) {
+    for (uint32_t index = 0; index < CYCLIC_CYCLICS; index++) {
         cyclic_book_of book;
         done(cyclic_book(&books, CYCLIC_LOCK, index, &book));
         if (book.id != 0)

@@ -67,7 +67,7 @@ static void compare_books(void)
     if (cyclic_close(&sides.firing, &sides.lock, &sides.low, &books) != 0)
         wrong("the CPU was not closed", 0);
     for (uint32_t level = CYCLIC_LOW; level <= CYCLIC_LOCK; level++)
-        for (uint32_t index = 0; index < 256; index++) {
+        for (uint32_t index = 0; index < CYCLIC_CYCLICS; index++) {
             cyclic_book_of book;
             if (cyclic_book(&books, level, index, &book) != 0)
                 wrong("a book was refused", index);

@@ -1,10 +1,13 @@
 /* How deep the stack of each call goes: it is made on a stack that was filled with a pattern, in all its cases that matter. */
 #include "kernel.h"
 
-#define DEEP(call, ...) deep(#call, (const void *)call, (const uint64_t[7]){__VA_ARGS__})
+/* A call that goes no deeper than MOST, and one that may: to look through a deep stack takes its time. */
+#define DEEP(call, ...) deep(#call, (const void *)call, (const uint64_t[7]){__VA_ARGS__}, MOST)
+#define DEEPEST(call, ...) deep(#call, (const void *)call, (const uint64_t[7]){__VA_ARGS__}, sizeof stack)
 #define AT(value) (uint64_t)&(value)
+#define MOST 8192
 
-static uint64_t stack[4096] __attribute__((aligned(16)));
+static uint64_t stack[65536] __attribute__((aligned(16)));
 static struct {
     const char *name;
     const void *call;
@@ -25,14 +28,17 @@ static uint32_t kept, pending;
 static int64_t moment;
 
 /* Makes the call. Its depth is from its return address on, which is 16 bytes below the top. */
-static uint32_t deep(const char *name, const void *call, const uint64_t arguments[7])
+static uint32_t deep(const char *name, const void *call, const uint64_t arguments[7], size_t most)
 {
+    uint64_t *end = stack + (sizeof stack - most) / 8;
     uint64_t before = memory.mallocs + memory.reallocs + memory.frees;
     uint32_t answer;
     size_t depth, k = 0;
-    stack_fill(stack, sizeof stack);
+    stack_fill(end, most);
     answer = call_on((uint8_t *)stack + sizeof stack, call, arguments);
-    depth = stack_depth(stack, sizeof stack) - 16;
+    depth = stack_depth(end, most) - 16;
+    if (depth > most - 64)
+        wrong("a call goes deeper", depth);
     while (calls[k].call != NULL && calls[k].call != call)
         k++;
     calls[k].name = name;
@@ -47,8 +53,8 @@ static uint32_t deep(const char *name, const void *call, const uint64_t argument
 static void cpu_calls(void)
 {
     DEEP(cyclic_version, 0);
-    DEEP(cyclic_cpu_open, 100, UINT64_MAX, AT(cpu));
-    for (uint64_t k = 1; k <= 257; k++) {
+    DEEPEST(cyclic_cpu_open, 100, UINT64_MAX, AT(cpu));
+    for (uint64_t k = 1; k <= CYCLIC_CYCLICS + 1; k++) {
         DEEP(cyclic_add, AT(cpu), k, k % 3, k % 2 == 0 ? 0 : k, 10 + k % 7, 1, AT(busy));
         DEEP(cyclic_take, AT(cpu), CYCLIC_LOW, AT(id));
         DEEP(cyclic_take, AT(cpu), CYCLIC_LOCK, AT(id));
@@ -60,7 +66,7 @@ static void cpu_calls(void)
     DEEP(cyclic_fire, AT(cpu), (uint64_t)(5 * SECOND), AT(fired));
     DEEP(cyclic_resume, AT(cpu));
     DEEP(cyclic_next, AT(cpu), AT(moment));
-    for (uint64_t k = 1; k <= 257; k++) {
+    for (uint64_t k = 1; k <= CYCLIC_CYCLICS + 1; k++) {
         DEEP(cyclic_reprogram, AT(cpu), k, (uint64_t)(9 * SECOND) - k);
         DEEP(cyclic_pending, AT(cpu), k, AT(pending));
         DEEP(cyclic_totals, AT(cpu), k, AT(totals));
@@ -70,7 +76,7 @@ static void cpu_calls(void)
                 DEEP(cyclic_finish, AT(cpu), level);
         DEEP(cyclic_poll_remove, AT(cpu), AT(receipt));
     }
-    DEEP(cyclic_cpu_close, AT(cpu));
+    DEEPEST(cyclic_cpu_close, AT(cpu));
 }
 
 static void serve(cyclic_soft *soft)
@@ -84,8 +90,8 @@ static void serve(cyclic_soft *soft)
 /* The same for a CPU between three sides. */
 static void pair_calls(void)
 {
-    DEEP(cyclic_open, 100, UINT64_MAX, AT(firing), AT(lock), AT(low));
-    for (uint64_t k = 1; k <= 257; k++) {
+    DEEPEST(cyclic_open, 100, UINT64_MAX, AT(firing), AT(lock), AT(low));
+    for (uint64_t k = 1; k <= CYCLIC_CYCLICS + 1; k++) {
         DEEP(cyclic_firing_add, AT(firing), k, k % 3, k % 2 == 0 ? 0 : k, 10 + k % 7, 1, AT(busy));
         DEEP(cyclic_soft_take, AT(low), AT(id));
         DEEP(cyclic_soft_take, AT(lock), AT(id));
@@ -97,7 +103,7 @@ static void pair_calls(void)
     DEEP(cyclic_firing_fire, AT(firing), (uint64_t)(5 * SECOND), AT(fired));
     DEEP(cyclic_firing_resume, AT(firing));
     DEEP(cyclic_firing_next, AT(firing), AT(moment));
-    for (uint64_t k = 1; k <= 250; k++) {
+    for (uint64_t k = 1; k <= CYCLIC_CYCLICS - 6; k++) {
         DEEP(cyclic_firing_reprogram, AT(firing), k, (uint64_t)(9 * SECOND) - k);
         DEEP(cyclic_firing_pending, AT(firing), k, AT(pending));
         DEEP(cyclic_firing_totals, AT(firing), k, AT(totals));
@@ -106,14 +112,14 @@ static void pair_calls(void)
         serve(&lock);
         DEEP(cyclic_firing_poll_remove, AT(firing), AT(receipt));
     }
-    DEEP(cyclic_close, AT(firing), AT(lock), AT(low), AT(books));
-    for (uint64_t index = 0; index < 256; index++)
+    DEEPEST(cyclic_close, AT(firing), AT(lock), AT(low), AT(books));
+    for (uint64_t index = 0; index < CYCLIC_CYCLICS; index++)
         DEEP(cyclic_book, AT(books), CYCLIC_LOW, index, AT(book));
-    DEEP(cyclic_books_close, AT(books));
-    DEEP(cyclic_open, 100, UINT64_MAX, AT(firing), AT(lock), AT(low));
-    DEEP(cyclic_soft_drop, AT(lock));
-    DEEP(cyclic_firing_drop, AT(firing));
-    DEEP(cyclic_soft_drop, AT(low));
+    DEEPEST(cyclic_books_close, AT(books));
+    DEEPEST(cyclic_open, 100, UINT64_MAX, AT(firing), AT(lock), AT(low));
+    DEEPEST(cyclic_soft_drop, AT(lock));
+    DEEPEST(cyclic_firing_drop, AT(firing));
+    DEEPEST(cyclic_soft_drop, AT(low));
 }
 
 void stack_use(void)

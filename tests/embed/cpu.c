@@ -91,12 +91,12 @@ static void a_full_cpu_is_refused(void)
 {
     cyclic_cpu cpu;
     opened(&cpu, 1, 1);
-    for (uint64_t k = 1; k <= 256; k++) {
+    for (uint64_t k = 1; k <= CYCLIC_CYCLICS; k++) {
         WANT(cyclic_add(&cpu, k, (uint32_t)(k % 3), 10, 10, 0, &busy), 0);
         WANT(serve(&cpu, CYCLIC_LOW, 1), 0);
         WANT(serve(&cpu, CYCLIC_LOCK, 1), 0);
     }
-    WANT(cyclic_add(&cpu, 257, CYCLIC_LOW, 10, 10, 0, &busy), CYCLIC_FULL);
+    WANT(cyclic_add(&cpu, CYCLIC_CYCLICS + 1, CYCLIC_LOW, 10, 10, 0, &busy), CYCLIC_FULL);
     WANT(cyclic_cpu_close(&cpu), 0);
 }
 

@@ -128,7 +128,7 @@ static void every_answer(void)
     WANT(cyclic_close(&firing, &lock, &low, &books), 0);
     WANT(cyclic_soft_take(&low, &id), CYCLIC_MISUSED);
     WANT(cyclic_book(&books, 2, 0, &book), CYCLIC_MISUSED);
-    WANT(cyclic_book(&books, 0, 256, &book), CYCLIC_MISUSED);
+    WANT(cyclic_book(&books, 0, CYCLIC_CYCLICS, &book), CYCLIC_MISUSED);
     WANT(book.id, 7);
     WANT(cyclic_book(&books, CYCLIC_LOW, 0, &book), 0);
     WANT(book.id, 5);
@@ -137,7 +137,7 @@ static void every_answer(void)
     WANT(book.lost, 1);
     WANT(book.pending, 2);
     WANT(book.removed, false);
-    WANT(cyclic_book(&books, CYCLIC_LOW, 255, &book), 0);
+    WANT(cyclic_book(&books, CYCLIC_LOW, CYCLIC_CYCLICS - 1, &book), 0);
     WANT(book.id, 0);
     WANT(cyclic_book(&books, CYCLIC_LOCK, 0, &book), 0);
     WANT(book.id, 0);
@@ -271,7 +271,7 @@ static void hand_overs(uint64_t wanted)
 
     WANT(cyclic_close(&firing, &drainers[1].soft, &drainers[0].soft, &books), 0);
     for (uint32_t level = 0; level < 2; level++)
-        for (uint32_t index = 0; index < 256; index++) {
+        for (uint32_t index = 0; index < CYCLIC_CYCLICS; index++) {
             cyclic_book_of book;
             WANT(cyclic_book(&books, level, index, &book), 0);
             if (book.id == 0)

@@ -3,6 +3,7 @@ use Rattle.std.proofs.Common.{◌≡◌, ◌≢◌, ℕ, ◌+◌, ◌-◌, ◌<�
 use Rattle.std.proofs.Common.{arith, Option, Some, None, eq-eqb, ne_eqb}
 use mathlib.Core.Logic.{dite}
 use native.Mathlib.Decide.{ℕ_discrete}
+use Rattle.cyc_types.specs.Limits.{greatest_bank, cyclics}
 use Rattle.cyc_types.specs.Firing.{FiringView, Admits, Raises, Loads, Expands, Learns, Stay, IsAdmitted, MayAdmit, MayAsk}
 use Rattle.cyc_types.specs.Firing.{MayRaise, MayExpand, after_admit}
 use Rattle.cyc_types.specs.declared.firing.Raised.{Raised}
@@ -12,11 +13,11 @@ use Rattle.cyc_level.proofs.Maps.{none_some, some_same}
 use Rattle.bench_sides.specs.Ready.{IsNew, IsReady, IsFilled}
 
 -- a new level may be switched to its greatest bank
-pub may_expand : (v : FiringView) → IsNew v → MayExpand 8 v
+pub may_expand : (v : FiringView) → IsNew v → MayExpand greatest_bank v
 may_expand v n = (rw n.bank (omega arith), omega arith, n.followed, n.free)
 
 -- a new level in its greatest bank
-pub expand_fills : (v w : FiringView) → IsNew v → Learns v (Expands 8) w → IsFilled 0 w
+pub expand_fills : (v w : FiringView) → IsNew v → Learns v (Expands greatest_bank) w → IsFilled 0 w
 expand_fills v w n is = subst (λ (x : FiringView). IsFilled 0 x) (sym is) (record {
   bank = refl;
   ready = record { free = n.free; unmarked = n.unmarked; stays = λ id some few. absurd (omega (arith, some, few)) };
@@ -24,7 +25,7 @@ expand_fills v w n is = subst (λ (x : FiringView). IsFilled 0 x) (sym is) (reco
 })
 
 -- the next id may be admitted at the next index
-pub may_admit : (n : ℕ) (v : FiringView) → n < 256 → IsFilled n v → MayAdmit (n + 1) n v
+pub may_admit : (n : ℕ) (v : FiringView) → n < cyclics → IsFilled n v → MayAdmit (n + 1) n v
 may_admit n v low f = (
   absent (v.stays (n + 1)) refl,
   (λ j s here e. let lt = (f.only j s here).1 in

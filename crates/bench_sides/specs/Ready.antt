@@ -1,5 +1,6 @@
 -- A firing side whose cyclics may be raised in turn.
 use Rattle.std.specs.Prelude.{◌≡◌, ℕ, ◌<◌, ◌≤◌, Some, None, true}
+use Rattle.cyc_types.specs.Limits.{greatest_bank}
 use Rattle.cyc_types.specs.Firing.{FiringView, Stay, IsAdmitted}
 
 -- no id is admitted, and both sides are on the first bank
@@ -18,6 +19,6 @@ pub record IsReady (n most : ℕ) (v : FiringView) : Type 0 where
 
 -- the ids up to n are admitted at the indexes below them, in the greatest bank, and none has expired
 pub record IsFilled (n : ℕ) (v : FiringView) : Type 0 where
-  pub bank : v.bank ≡ 8
+  pub bank : v.bank ≡ greatest_bank
   pub ready : IsReady n 0 v
   pub only : (id : ℕ) (s : Stay) → v.stays id ≡ Some s → (id ≤ n) × (s.index < n)

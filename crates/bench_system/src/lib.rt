@@ -53,6 +53,26 @@ fn replace(alloc: Global, cyclics: u64, operations: u64) -> Result<u64, Refusal>
     Ok(last)
 }
 
+/// Removes one of the cyclics, as chosen at random, and adds another, so many times.
+fn churn(alloc: Global, cyclics: u64, operations: u64) -> Result<u64, Refusal> {
+    let mut system = started(alloc, cyclics)?;
+    let mut ids = Vec::new(alloc);
+    for number in 1..=cyclics {
+        ids.push(id_of(number)?)?;
+    }
+    let mut number = 1;
+    for _ in 0..operations {
+        number = following(number);
+        let within = number.wrapping_shr(33).checked_rem(cyclics).unwrap_or(0);
+        let Some(id) = ids.get_mut(within as usize) else {
+            return Err(Refusal::NoCyclic);
+        };
+        let _ = system.begin_remove(*id)?;
+        *id = system.add(Level::High, when_of(cyclics)?, Moment::ZERO)?;
+    }
+    Ok(number)
+}
+
 /// A number that looks as if made at random, from the one before.
 fn following(number: u64) -> u64 {
     number
@@ -92,10 +112,16 @@ fn reprogram(alloc: Global, cyclics: u64, operations: u64) -> Result<u64, Refusa
     Ok(number)
 }
 
-/// So many times one of so many cyclics of 16 CPUs is removed and another added; 0 where it was refused.
+/// So many times the oldest of so many cyclics of 16 CPUs is removed and another added; 0 where it was refused.
 #[unsafe(no_mangle)]
 pub extern "C" fn bench_system_replace(alloc: Global, cyclics: u64, operations: u64) -> u64 {
     replace(alloc, cyclics, operations).unwrap_or(0)
+}
+
+/// So many times any one of so many cyclics of 16 CPUs is removed and another added; 0 where it was refused.
+#[unsafe(no_mangle)]
+pub extern "C" fn bench_system_churn(alloc: Global, cyclics: u64, operations: u64) -> u64 {
+    churn(alloc, cyclics, operations).unwrap_or(0)
 }
 
 /// So many times one of so many cyclics of 16 CPUs is bound to another CPU and back; 0 where it was refused.

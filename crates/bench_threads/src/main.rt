@@ -3,23 +3,25 @@
 #![tactic(auto)]
 
 ghost use Rattle.std.specs.Prelude.{◌≡◌, ◌<◌, ◌≤◌};
-ghost use Rattle.cyc_types.specs.Limits.{cyclics};
 ghost use Rattle.cyc_ring.specs.Ends.{end_view};
 ghost use Rattle.bench_sides.specs.Ready.{IsReady};
 
 use anyhow::{Context, Result, bail};
 use bench_sides::{fill, raise_done, serve_until};
 use cyc_ring::{DrainEnd, RaiseEnd, Ring};
-use cyc_types::{CYCLICS, Ceiling};
+use cyc_types::Ceiling;
 use std::env::{self, Env};
 use std::thread::{Threads, join};
 use std::time::Instant;
 
+/// The cyclics that are raised, as many as the items that the peers of the benchmark have on the way.
+const IDS: u16 = 256;
+
 /// Raises so many times, the ids round, each where its calls are done.
 fn raise_all(mut raise: RaiseEnd<'_>, count: u64)
-    requires { IsReady cyclics 0 (end_view raise) }
+    requires { IsReady 256 0 (end_view raise) }
 {
-    raise_done(&mut raise, CYCLICS, count);
+    raise_done(&mut raise, IDS, count);
 }
 
 /// Makes so many calls.
@@ -29,7 +31,7 @@ fn serve_all(mut drain: DrainEnd<'_>, count: u64) -> u64 {
 
 /// Both at once. The answer is how many calls were made.
 fn both<R: Threads>(rt: &R, raise: RaiseEnd<'_>, drain: DrainEnd<'_>, count: u64) -> u64
-    requires { IsReady cyclics 0 (end_view raise) }
+    requires { IsReady 256 0 (end_view raise) }
 {
     let (_, made) = join(rt, || raise_all(raise, count), || serve_all(drain, count));
     made
@@ -49,7 +51,7 @@ fn main(rt: HostRuntime) -> Result<()> {
     let (ring, raise_seat, drain_seat) = Ring::open(rt.alloc(), ceiling, 0)?;
     let mut raise = RaiseEnd::new(&ring, raise_seat);
     let drain = DrainEnd::new(&ring, drain_seat);
-    fill(&mut raise, CYCLICS);
+    fill(&mut raise, IDS);
     let start = Instant::now(&rt)?;
     let made = both(&rt, raise, drain, count);
     let spent = start.elapsed(&rt)?;

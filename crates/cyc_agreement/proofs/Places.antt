@@ -4,6 +4,7 @@ use Rattle.std.specs.Prelude.{◌==◌}
 use Rattle.std.specs.List.{slice_get}
 use Rattle.std.proofs.lemmas.Option.{slice_get-map, slice_get_within, get_or_from_slice_get}
 use Rattle.std.proofs.lemmas.List.{length-map}
+use Rattle.cyc_types.specs.Limits.{cyclics as most_cyclics}
 use Rattle.cyc_types.specs.Firing.{FiringView}
 use Rattle.cyc_cpu.specs.Cpu.{CpuView, IsCyclic}
 use Rattle.cyc_cpu.specs.Laws.{IsLawful}
@@ -19,7 +20,7 @@ module _ {R : Type 0} (v : CpusView R) (n : ℕ) (cpu : CpuView R) (at : IsCpu n
   pub length_is : length (ids_on n v) ≡ length cpu.cyclics
   length_is = ap length (ids_there v n cpu cpu at) ∙ length-map cpu.cyclics id_in
 
-  pub few_ids : (view : R → FiringView) → IsLawful view cpu → length (ids_on n v) ≤ 256
+  pub few_ids : (view : R → FiringView) → IsLawful view cpu → length (ids_on n v) ≤ most_cyclics
   few_ids view law = let l = length_is in let a = law.few in let b = law.size in omega (arith, l, a, b)
 
   -- a cyclic by its place

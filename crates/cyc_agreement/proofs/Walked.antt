@@ -15,10 +15,11 @@ use Rattle.cyc_agreement.proofs.Shifted.{Rise}
 use Rattle.cyc_agreement.specs.declared.turning.Turn.{Turn}
 use Rattle.cyc_agreement.specs.declared.turning.Turn.TheVariants.{StaysBound, StaysPending, StaysRefused, Moves}
 use Rattle.cyc_agreement.specs.Juggling.{system_of, TakesTurn, Turns, counted, no_turns, single_ids}
-use Rattle.cyc_agreement.specs.Walking.{Visits, VisitsAt, counted_if, next_place, all_turns, all_left}
+use Rattle.cyc_agreement.specs.Walking.{Visits, counted_if, all_turns, all_left}
 use Rattle.cyc_agreement.proofs.ListsUpTo.{drop_removed, take_removed, first_at, rest_after, none_more, take_whole, filter_same}
 use Rattle.cyc_agreement.proofs.ListsUpTo.{filter_in, filter_out, length_more}
 use Rattle.cyc_agreement.proofs.Stepped.{Stepped, stepped, ids_after}
+use Rattle.cyc_agreement.proofs.Stepping.{WalksOver, next_place, walks_on}
 
 -- ---- turns
 
@@ -100,7 +101,7 @@ module _ {R : Type 0} (firing : Raise R) (source : ℕ) (v : CpusView R)
     within = λ last h. h;
   }
 
-  module _ (done place next : ℕ) (report after : JuggleReport) (w x : CpusView R) (qs ps : RecordsView)
+  module _ (done place : ℕ) (report after : JuggleReport) (w x : CpusView R) (qs ps : RecordsView)
       (i : Walked firing source v rs done place report w qs)
       (rising : HasRisingIds qs.list) (rise : Rise (ids_on source w)) (low : source < length w.cpus)
       (agrees : (last : ℕ) → Agrees (system_of w qs last) → Agrees (system_of x ps last)) where
@@ -199,12 +200,18 @@ module _ {R : Type 0} (firing : Raise R) (source : ℕ) (v : CpusView R)
         within = λ last h. within_step last p.most p.ended (i.within last h);
       }
 
-    pub walked_more : VisitsAt firing source (record { place = place; report = report; cpus = w; records = qs })
-        (record { place = next; report = after; cpus = x; records = ps }) → Walked firing source v rs (done + 1) next after x ps
-    walked_more (id, spot, turn, visits, counts, place_is) =
-        subst (λ n. Walked firing source v rs (done + 1) n after x ps) (sym place_is)
-        (subst (λ r. Walked firing source v rs (done + 1) (next_place turn place) r x ps) (sym counts)
-        (by_turn id spot turn visits))
+    -- one more has its turn, and the walk goes on
+    pub walked_more : (id : ℕ) → slice_get (ids_on source w) place ≡ Some id → (passed : Option ℕ)
+        → WalksOver (ids_on source w) passed place → (turn : Option Turn)
+        → ((last : ℕ) → Visits firing source id turn (system_of w qs last) (system_of x ps last))
+        → after ≡ counted_if turn report → (next : ℕ) × Walked firing source v rs (done + 1) next after x ps
+        × WalksOver (ids_on source x) (Some id) next
+    walked_more id spot passed walk turn visits counts = (
+      next_place turn place,
+      subst (λ r. Walked firing source v rs (done + 1) (next_place turn place) r x ps) (sym counts) (by_turn id spot turn visits),
+      subst (λ ids. WalksOver ids (Some id) (next_place turn place)) (sym (steps id spot turn visits).ids)
+          (walks_on turn (ids_on source w) passed place id rise spot walk),
+    )
 
   -- all had their turns
   module _ (done place : ℕ) (report : JuggleReport) (w : CpusView R) (qs : RecordsView)

@@ -1,6 +1,5 @@
 -- The walk over a CPU's cyclics, from which some leave.
 use Rattle.std.specs.Prelude.{◌≡◌, ℕ, ◌+◌, true, false, Option, Some, None}
-use Rattle.std.specs.List.{slice_get}
 use Rattle.cyc_types.specs.declared.Raise.{Ghosts as Raise}
 use Rattle.cyc_types.specs.Firing.{FiringView}
 use Rattle.cyc_types.specs.declared.refusal.JuggleReport.{JuggleReport}
@@ -8,9 +7,8 @@ use Rattle.cyc_cpu.specs.Rows.{Cyclic}
 use Rattle.cyc_cpu.specs.Cpu.{CpuView, IsCyclic, seen_at}
 use Rattle.cyc_places.specs.Places.{RecordsView}
 use Rattle.cyc_agreement.specs.Cpus.{CpusView}
-use Rattle.cyc_agreement.specs.System.{SystemView, ids_on, is_omnipresent}
+use Rattle.cyc_agreement.specs.System.{SystemView, is_omnipresent}
 use Rattle.cyc_agreement.specs.declared.turning.Turn.{Turn}
-use Rattle.cyc_agreement.specs.declared.turning.Turn.TheVariants.{StaysBound, StaysPending, StaysRefused, Moves}
 use Rattle.cyc_agreement.specs.Juggling.{system_of, TakesTurn, counted}
 
 -- a cyclic of the source has its turn, unless it is omnipresent
@@ -24,17 +22,8 @@ abbrev pub counted_if : Option Turn → JuggleReport → JuggleReport
 counted_if None r = r
 counted_if (Some turn) r = counted turn r
 
--- the place of the next cyclic
-abbrev pub next_place : Option Turn → ℕ → ℕ
-next_place None place = place + 1
-next_place (Some StaysBound) place = place + 1
-next_place (Some StaysPending) place = place + 1
-next_place (Some StaysRefused) place = place + 1
-next_place (Some Moves) place = place
-
--- where a walk stands: the place of the next cyclic, the turns so far, the CPUs and the records
+-- where a walk stands: the turns so far, the CPUs and the records
 pub record Walk (R : Type 0) : Type 0 where
-  pub place : ℕ
   pub report : JuggleReport
   pub cpus : CpusView R
   pub records : RecordsView
@@ -43,11 +32,11 @@ pub record Walk (R : Type 0) : Type 0 where
 abbrev pub system_at : {R : Type 0} → Walk R → ℕ → SystemView R
 system_at walk last = system_of walk.cpus walk.records last
 
--- the cyclic at the walk's place has its turn, whatever id was given last
-abbrev pub VisitsAt : {R : Type 0} → Raise R → ℕ → Walk R → Walk R → Type 0
-VisitsAt firing source a b = (id : ℕ) × (slice_get (ids_on source a.cpus) a.place ≡ Some id)
-    × (turn : Option Turn) × ((last : ℕ) → Visits firing source id turn (system_at a last) (system_at b last))
-    × (b.report ≡ counted_if turn a.report) × (b.place ≡ next_place turn a.place)
+-- a cyclic of the source has its turn, whatever id was given last, and the report has it
+abbrev pub VisitsOne : {R : Type 0} → Raise R → ℕ → ℕ → Walk R → Walk R → Type 0
+VisitsOne firing source id a b = (turn : Option Turn)
+    × ((last : ℕ) → Visits firing source id turn (system_at a last) (system_at b last))
+    × (b.report ≡ counted_if turn a.report)
 
 -- all turns of a report
 abbrev pub all_turns : JuggleReport → ℕ

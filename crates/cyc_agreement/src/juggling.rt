@@ -1,6 +1,7 @@
 //! The juggle of a CPU: each of its cyclics has its turn.
 
 ghost use Rattle.std.specs.Prelude.{◌≡◌, ℕ, ◌<◌, ◌≤◌, length, true, Some, None};
+ghost use Rattle.cyc_types.specs.Limits.{cyclics};
 ghost use Rattle.cyc_agreement.specs.Destination.{destination};
 ghost use Rattle.cyc_agreement.specs.System.{is_online, removal_on};
 ghost use Rattle.cyc_agreement.specs.Agreement.{Agrees};
@@ -30,7 +31,7 @@ pub(crate) fn move_away<R: Raise>(
     ensures within { (last : ℕ) → EndedWithin (system_of cpus.old records.old last)
         → EndedWithin (system_of cpus.new records.new last) }
     ensures left { (last : ℕ) → length (single_ids source (system_of cpus.new records.new last)) ≡ all_left result }
-    ensures few { all_turns result ≤ 256 }
+    ensures few { all_turns result ≤ cyclics }
     ensures online { cpus.new.online ≡ cpus.old.online }
     ensures there { length cpus.new.cpus ≡ length cpus.old.cpus }
     ensures still { removal_on source cpus.new ≡ None }
@@ -42,11 +43,15 @@ pub(crate) fn move_away<R: Raise>(
         pending: 0,
         refused: 0,
     };
-    let mut place = 0;
+    let mut passed = None;
     for _done in 0..cpus.cpu(source).len() {
         cpus.law();
         records.law();
-        place = visit(cpus, records, source, place, &mut report);
+        let Some(id) = cpus.cpu(source).id_after(passed) else {
+            unreachable!()
+        };
+        visit(cpus, records, source, id, &mut report);
+        passed = Some(id);
     }
     report
 }

@@ -28,11 +28,16 @@ pub(crate) fn any_pending<R: Raise>(cpus: &mut Cpus<R>, source: u32) -> bool
     ensures none { OnFalse result (Works R.Raise (quiet source (ids_on source cpus.old)) cpus.old cpus.new) }
     ensures quiet { OnFalse result (OfCpu source (AreQuiet R.view) cpus.new) }
 {
-    for place in 0..cpus.cpu(source).len() {
-        let id = cpus.cpu(source).id_at(place);
+    cpus.law();
+    let mut passed = None;
+    for _place in 0..cpus.cpu(source).len() {
+        let Some(id) = cpus.cpu(source).id_after(passed) else {
+            unreachable!()
+        };
         if cpus.cpu_mut(source).pending(id) != Some(0) {
             return true;
         }
+        passed = Some(id);
     }
     false
 }
@@ -77,7 +82,9 @@ pub(crate) fn retire_all<R: Raise>(cpus: &mut Cpus<R>, records: &mut Records, so
     records.law();
     for _done in 0..cpus.cpu(source).len() {
         cpus.law();
-        let id = cpus.cpu(source).id_at(0);
+        let Some(id) = cpus.cpu(source).id_after(None) else {
+            unreachable!()
+        };
         retire(cpus, records, source, id);
     }
 }

@@ -2,6 +2,7 @@
 
 ghost use Rattle.std.specs.Prelude.{◌≡◌, ℕ, ◌+◌, ◌<◌, length, true, false, Some, None};
 ghost use Rattle.std.specs.List.{slice_get};
+ghost use Rattle.cyc_types.specs.Limits.{cyclics};
 ghost use Rattle.cyc_places.specs.declared.record.Placement.TheVariants.{On};
 ghost use Rattle.cyc_places.specs.declared.record.Record.{Record};
 ghost use Rattle.cyc_places.specs.Places.{IsRecord};
@@ -9,7 +10,7 @@ ghost use Rattle.cyc_agreement.specs.Destination.{destination};
 ghost use Rattle.cyc_agreement.specs.System.{has, ids_on, removal_on};
 ghost use Rattle.cyc_agreement.specs.Agreement.{Agrees};
 ghost use Rattle.cyc_agreement.specs.Juggling.{system_of, TakesTurn, counted};
-ghost use Rattle.cyc_agreement.specs.Walking.{Visits, VisitsAt, all_turns};
+ghost use Rattle.cyc_agreement.specs.Walking.{Visits, VisitsOne, all_turns};
 
 use crate::cpus::Cpus;
 use cyc_places::{Placement, Records};
@@ -97,7 +98,7 @@ fn turn_of<R: Raise>(
 
 /// Counts a turn.
 fn count(report: &mut JuggleReport, turn: Turn)
-    requires { all_turns report.old < 256 }
+    requires { all_turns report.old < cyclics }
     ensures { report.new ≡ counted turn report.old }
 {
     match turn {
@@ -108,34 +109,25 @@ fn count(report: &mut JuggleReport, turn: Turn)
     }
 }
 
-/// The turn of the cyclic at a place among the source's, which is counted. The answer is the place of the next: the same where
-/// the cyclic is gone.
+/// The turn of a cyclic of the source, which is counted.
 pub(crate) fn visit<R: Raise>(
     cpus: &mut Cpus<R>,
     records: &mut Records,
     source: u32,
-    place: usize,
+    id: CyclicId,
     report: &mut JuggleReport,
-) -> usize
+)
     requires agrees { (last : ℕ) × Agrees (system_of cpus.old records.old last) }
-    requires there { source < length cpus.old.cpus }
-    requires here { place < length (ids_on source cpus.old) }
+    requires here { has source id cpus.old ≡ true }
     requires still { removal_on source cpus.old ≡ None }
     requires other { (d : ℕ) × (destination (Some source) cpus.old ≡ Some d) }
-    requires few { all_turns report.old < 256 }
-    ensures did { VisitsAt R.Raise source
-        (record { place = place; report = report.old; cpus = cpus.old; records = records.old })
-        (record { place = result; report = report.new; cpus = cpus.new; records = records.new }) }
+    requires few { all_turns report.old < cyclics }
+    ensures did { VisitsOne R.Raise source id (record { report = report.old; cpus = cpus.old; records = records.old })
+        (record { report = report.new; cpus = cpus.new; records = records.new }) }
     ensures agrees { (last : ℕ) → Agrees (system_of cpus.old records.old last) → Agrees (system_of cpus.new records.new last) }
 {
-    cpus.law();
-    let id = cpus.cpu(source).id_at(place);
     let Some(turn) = turn_of(cpus, records, source, id) else {
-        return place + 1;
+        return;
     };
     count(report, turn);
-    match turn {
-        Turn::Moves => place,
-        _ => place + 1,
-    }
 }

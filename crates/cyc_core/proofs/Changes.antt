@@ -1,16 +1,13 @@
 -- What the fields show after an edit, and that each event leaves a reached level.
 use Rattle.std.proofs.Common.{◌≡◌, ◌≢◌, ℕ, zero, suc, ◌<◌, ◌≤◌, eqb, cond, Bool, true, false, not, List, [], ◌∷◌, ◌++◌, length}
-use Rattle.std.proofs.Common.{drop, get_or, set, Option, Some, None, IsSome, IsSomeAnd, refl, sym, ap, ◌∙◌, subst, arith}
+use Rattle.std.proofs.Common.{drop, Option, Some, None, IsSome, IsSomeAnd, refl, sym, ap, ◌∙◌, subst, arith}
 use Rattle.std.proofs.Common.{vec_capacity, option_to_list}
-use Rattle.std.specs.Prelude.{Result, Ok, Err, is_ok, OnErr, OnOk}
+use Rattle.std.specs.Prelude.{Result, Ok, Err, is_ok, OnOk}
 use Rattle.std.specs.Bool.{then_some}
 use Rattle.std.specs.Option.{option_map}
-use Rattle.std.specs.List.{insert, remove}
 use Rattle.std.specs.VecDeque.{deque_capacity}
 use Rattle.std.proofs.lemmas.Bool.Decides.{nat_tests}
 use Rattle.cyc_types.specs.Limits.{cyclics}
-use Rattle.std.specs.List.{slice_get}
-use Rattle.std.proofs.lemmas.Option.{get_or_from_slice_get, slice_get-get_or, slice_get_within}
 use Rattle.cyc_level.specs.declared.Event.{Event}
 use Rattle.cyc_level.specs.declared.Event.TheVariants.{Admit, Expire, Lose, Publish, Take, Finish, Clear, Switch}
 use Rattle.cyc_level.specs.Level.{AdmittedCyclic, SoftLevel, count, count_in, in_hand}
@@ -23,11 +20,10 @@ use Rattle.cyc_level.proofs.Maps.{hand_here}
 use Rattle.cyc_level.proofs.Keeps.{always_lawful, same_ceiling, ceiling_after}
 use Rattle.cyc_core.specs.declared.admitted.Admitted.{Admitted}
 use Rattle.cyc_core.specs.declared.level_core.LevelCore.TheInside.{Inside}
-use Rattle.cyc_finder.specs.Sorted.{IsAt, IsGap, Rises}
-use Rattle.cyc_core.specs.Tables.{id_in, Tables, lookup, cyclic_of, cyclics_of, level_of}
+use Rattle.cyc_core.specs.Tables.{Tables, lookup, cyclic_of, cyclics_of, level_of}
 use Rattle.cyc_core.specs.Reached.{IsReached}
-use Rattle.cyc_core.specs.Shown.{shown, IsSound}
-use Rattle.cyc_finder.proofs.RisingIds.{look_up_read, look_up_written, look_up_removed, look_up_inserted}
+use Rattle.cyc_core.specs.Shown.{shown, AreKept, IsSound}
+use Rattle.cyc_core.proofs.Keeping.{FindsElse}
 
 pub reached_lawful : (l : SoftLevel) → IsReached l → Lawful l
 reached_lawful l (events, all, is) = subst Lawful (sym is) (always_lawful l.ceiling events all)
@@ -45,37 +41,39 @@ reached_on l m event (events, all, is) may made =
 
 -- fields that show what an enabled event leaves, with the memory that was there
 pub sound_by : (a b : Inside) (event : Event) → IsSound a → Enabled event (level_of (shown a))
-    → level_of (shown b) ≡ after event (level_of (shown a)) → Rises id_in b.table.items →
-    vec_capacity a.table ≤ vec_capacity b.table → deque_capacity a.old_list ≤ deque_capacity b.old_list
+    → level_of (shown b) ≡ after event (level_of (shown a)) → AreKept b.kept.items b.ids.entries →
+    vec_capacity a.kept ≤ vec_capacity b.kept → a.ids.room ≤ b.ids.room → deque_capacity a.old_list ≤ deque_capacity b.old_list
     → deque_capacity a.new_list ≤ deque_capacity b.new_list → IsSound b
-sound_by a b event h may made ordered table old new = record {
+sound_by a b event h may made here kept ids old new = record {
   reached = reached_on (level_of (shown a)) (level_of (shown b)) event h.reached may made;
-  ordered = ordered;
+  cyclics_kept = here;
   some_ceiling = (let same : b.ceiling ≡ a.ceiling = ap (λ (x : SoftLevel). x.ceiling) made
       ∙ ceiling_after event (level_of (shown a)) in let some = h.some_ceiling in omega (arith, same, some));
-  table_room = (let r = h.table_room in omega (arith, r, table));
+  kept_room = (let r = h.kept_room in omega (arith, r, kept));
+  ids_room = (let r = h.ids_room in omega (arith, r, ids));
   old_room = (let r = h.old_room in omega (arith, r, old));
   new_room = (let r = h.new_room in omega (arith, r, new));
 }
 
 -- the same, where the lists' memory is not what it was
 pub sound_roomy : (a b : Inside) (event : Event) → IsSound a → Enabled event (level_of (shown a))
-    → level_of (shown b) ≡ after event (level_of (shown a)) → Rises id_in b.table.items →
-    cyclics ≤ vec_capacity b.table → cyclics ≤ deque_capacity b.old_list → cyclics ≤ deque_capacity b.new_list → IsSound b
-sound_roomy a b event h may made ordered table old new = record {
+    → level_of (shown b) ≡ after event (level_of (shown a)) → AreKept b.kept.items b.ids.entries →
+    cyclics ≤ vec_capacity b.kept → cyclics ≤ b.ids.room → cyclics ≤ deque_capacity b.old_list →
+    cyclics ≤ deque_capacity b.new_list → IsSound b
+sound_roomy a b event h may made here kept ids old new = record {
   reached = reached_on (level_of (shown a)) (level_of (shown b)) event h.reached may made;
-  ordered = ordered;
+  cyclics_kept = here;
   some_ceiling = (let same : b.ceiling ≡ a.ceiling = ap (λ (x : SoftLevel). x.ceiling) made
       ∙ ceiling_after event (level_of (shown a)) in let some = h.some_ceiling in omega (arith, same, some));
-  table_room = table;
+  kept_room = kept;
+  ids_room = ids;
   old_room = old;
   new_room = new;
 }
 
 -- a table that changed at one id shows a map that changed there
-pub cyclics_changed : (xs ys : List Admitted) (id : ℕ) (o : Option Admitted) (f : Option AdmittedCyclic → Option AdmittedCyclic)
-    → ((q : ℕ) → lookup q ys ≡ cond (eqb q id) o (lookup q xs)) → option_map cyclic_of o ≡ f (cyclics_of xs id) →
-    cyclics_of ys ≡ changed_at (cyclics_of xs) id f
+cyclics_changed : (xs ys : List Admitted) (id : ℕ) (o : Option Admitted) (f : Option AdmittedCyclic → Option AdmittedCyclic)
+    → FindsElse xs ys id o → option_map cyclic_of o ≡ f (cyclics_of xs id) → cyclics_of ys ≡ changed_at (cyclics_of xs) id f
 cyclics_changed xs ys id o f found same = λ z q. (ap (option_map cyclic_of) (found q) ∙ by q (eqb q id) refl) z
   where
     by : (q : ℕ) (b : Bool) → eqb q id ≡ b → option_map cyclic_of (cond b o (lookup q xs))
@@ -94,67 +92,56 @@ hand_finished (suc zero) id some = refl
 hand_finished (suc (suc n)) id some = let no : eqb (suc (suc n)) 1 ≡ false = grind (arith, nat_tests) in
     ap (λ b. then_some (not b) id) no
 
-module _ (t : Tables) (ordered : Rises id_in t.table) (id place : ℕ) (at : IsAt id_in t.table id place) (c : Admitted)
-    (read : c ≡ get_or t.table place c) where
-  -- the cyclic of the entry that was read
-  pub read_cyclic : (level_of t).cyclics id ≡ Some (cyclic_of c)
-  read_cyclic = ap (option_map cyclic_of) (look_up_read id_in t.table ordered id place at c read)
+-- what holds of the cyclic holds of the entry
+pub found_fact : (t : Tables) (id : ℕ) (c : Admitted) → lookup id t.table ≡ Some c → (P : AdmittedCyclic → Type 0)
+    → IsSomeAnd ((level_of t).cyclics id) P → P (cyclic_of c)
+found_fact t id c found P h = subst (λ (o : Option AdmittedCyclic). IsSomeAnd o P) (ap (option_map cyclic_of) found) h
 
-  pub read_id : c.id ≡ id
-  read_id = ap (λ (x : Admitted). x.id) read ∙ at.has_id c
-
-module _ (t : Tables) (ordered : Rises id_in t.table) (id place : ℕ) (at : IsAt id_in t.table id place) (c : Admitted)
-    (found : (level_of t).cyclics id ≡ Some (cyclic_of c)) (found_id : c.id ≡ id) where
+-- a table that has another entry for one id, which had one
+module _ (t : Tables) (ys : List Admitted) (id : ℕ) (c d : Admitted) (found : lookup id t.table ≡ Some c)
+    (else : FindsElse t.table ys id (Some d)) where
   found_count : count (level_of t) id ≡ c.count
-  found_count = ap count_in found
+  found_count = ap (λ (o : Option Admitted). count_in (option_map cyclic_of o)) found
 
-  -- what holds of the cyclic holds of the entry
-  pub found_fact : (P : AdmittedCyclic → Type 0) → IsSomeAnd ((level_of t).cyclics id) P → P (cyclic_of c)
-  found_fact P h = subst (λ (o : Option AdmittedCyclic). IsSomeAnd o P) found h
+  written : (f : AdmittedCyclic → AdmittedCyclic) → cyclic_of d ≡ f (cyclic_of c)
+      → cyclics_of ys ≡ changed_at (cyclics_of t.table) id (option_map f)
+  written f made = cyclics_changed t.table ys id (Some d) (option_map f) else
+      (ap Some made ∙ sym (ap (λ (o : Option Admitted). option_map f (option_map cyclic_of o)) found))
 
-  written : (f : AdmittedCyclic → AdmittedCyclic) (d : Admitted) → d.id ≡ c.id → cyclic_of d ≡ f (cyclic_of c)
-      → cyclics_of (set t.table place d) ≡ changed_at (cyclics_of t.table) id (option_map f)
-  written f d same made = cyclics_changed t.table (set t.table place d) id (Some d) (option_map f)
-      (look_up_written id_in t.table ordered id place at d (same ∙ found_id)) (ap Some made ∙ sym (ap (option_map f) found))
-
-  pub level_expire : (d : Admitted) (hand : Option ℕ) → d.id ≡ c.id → cyclic_of d ≡ cyclic_after_expire (cyclic_of c)
-      → hand ≡ then_some (eqb c.count 0) id → t.firer_hand ≡ None →
-      level_of (record t { table = set t.table place d; firer_hand = hand }) ≡ after (Expire id) (level_of t)
-  level_expire d hand same made is free =
+  pub level_expire : (hand : Option ℕ) → cyclic_of d ≡ cyclic_after_expire (cyclic_of c) → hand ≡ then_some (eqb c.count 0) id
+      → t.firer_hand ≡ None → level_of (record t { table = ys; firer_hand = hand }) ≡ after (Expire id) (level_of t)
+  level_expire hand made is free =
       let in_hand : hand ≡ hand_after_expire (count (level_of t) id) id t.firer_hand = is
       ∙ hand_expired c.count id t.firer_hand free ∙ ap (λ (n : ℕ). hand_after_expire n id t.firer_hand) (sym found_count) in
-      let map = written cyclic_after_expire d same made in
+      let map = written cyclic_after_expire made in
       λ z. record (level_of t) { cyclics = map z; firer_hand = in_hand z }
 
-  pub level_lose : (d : Admitted) → d.id ≡ c.id → cyclic_of d ≡ cyclic_after_lose (cyclic_of c)
-      → level_of (record t { table = set t.table place d }) ≡ after (Lose id) (level_of t)
-  level_lose d same made = let map = written cyclic_after_lose d same made in λ z. record (level_of t) { cyclics = map z }
+  pub level_lose : cyclic_of d ≡ cyclic_after_lose (cyclic_of c)
+      → level_of (record t { table = ys }) ≡ after (Lose id) (level_of t)
+  level_lose made = let map = written cyclic_after_lose made in λ z. record (level_of t) { cyclics = map z }
 
-  pub level_finish : (d : Admitted) (hand : Option ℕ) → d.id ≡ c.id → cyclic_of d ≡ cyclic_after_finish (cyclic_of c)
-      → t.drainer_hand ≡ Some id → 0 < c.count → hand ≡ then_some (not (eqb c.count 1)) id →
-      level_of (record t { table = set t.table place d; drainer_hand = hand }) ≡ after Finish (level_of t)
-  level_finish d hand same made holds some is =
+  pub level_finish : (hand : Option ℕ) → cyclic_of d ≡ cyclic_after_finish (cyclic_of c) → t.drainer_hand ≡ Some id
+      → 0 < c.count → hand ≡ then_some (not (eqb c.count 1)) id
+      → level_of (record t { table = ys; drainer_hand = hand }) ≡ after Finish (level_of t)
+  level_finish hand made holds some is =
       let in_hand : hand ≡ hand_after_finish (count (level_of t) id) t.drainer_hand = is ∙ hand_finished c.count id some
       ∙ ap (λ (n : ℕ). hand_after_finish n (Some id)) (sym found_count)
       ∙ ap (hand_after_finish (count (level_of t) id)) (sym holds) in
-      let map = written cyclic_after_finish d same made in
-      let one : level_of (record t { table = set t.table place d; drainer_hand = hand }) ≡ after_finish (Some id) (level_of t) =
+      let map = written cyclic_after_finish made in
+      let one : level_of (record t { table = ys; drainer_hand = hand }) ≡ after_finish (Some id) (level_of t) =
       λ z. record (level_of t) { cyclics = map z; drainer_hand = in_hand z } in
       one ∙ ap (λ (o : Option ℕ). after_finish o (level_of t)) (sym holds)
 
-pub level_clear : (t : Tables) → Rises id_in t.table → (id place : ℕ) → IsAt id_in t.table id place
-    → level_of (record t { table = remove t.table place; marked = None }) ≡ after (Clear id) (level_of t)
-level_clear t ordered id place at =
-    let map = cyclics_changed t.table (remove t.table place) id None (λ _. None)
-    (look_up_removed id_in t.table ordered id place at) refl in
+pub level_clear : (t : Tables) (ys : List Admitted) (id : ℕ) → FindsElse t.table ys id None
+    → level_of (record t { table = ys; marked = None }) ≡ after (Clear id) (level_of t)
+level_clear t ys id else =
+    let map = cyclics_changed t.table ys id None (λ _. None) else refl in
     λ z. record (level_of t) { cyclics = map z; marked = None }
 
-pub level_admit : (t : Tables) (id index place : ℕ) (e : Admitted) → IsGap id_in t.table id place → e.id ≡ id
-    → cyclic_of e ≡ admitted_cyclic index → level_of (record t { table = insert t.table place e })
-    ≡ after (Admit id index) (level_of t)
-level_admit t id index place e gap same made =
-    let map = cyclics_changed t.table (insert t.table place e) id (Some e) (λ _. Some (admitted_cyclic index))
-    (look_up_inserted id_in t.table id place gap e same) (ap Some made) in
+pub level_admit : (t : Tables) (ys : List Admitted) (id index : ℕ) (e : Admitted) → FindsElse t.table ys id (Some e)
+    → cyclic_of e ≡ admitted_cyclic index → level_of (record t { table = ys }) ≡ after (Admit id index) (level_of t)
+level_admit t ys id index e else made =
+    let map = cyclics_changed t.table ys id (Some e) (λ _. Some (admitted_cyclic index)) else (ap Some made) in
     λ z. record (level_of t) { cyclics = map z }
 
 pub level_publish : (t : Tables) (id : ℕ) → t.firer_hand ≡ Some id
@@ -226,10 +213,6 @@ pub level_switch : (t : Tables) (bank : ℕ) (old new : List ℕ) → old ≡ t.
     → level_of (record t { hard_bank = bank; old_list = old; new_list = new }) ≡ after (Switch bank) (level_of t)
 level_switch t bank old new is none = λ z. record (level_of t) { hard_bank = bank; old_list = is z; new_list = none z }
 
-pub err_fact : {T E : Type 0} (P : Type 0) (r : Result T E) → is_ok r ≡ false → OnErr r P → P
-err_fact P (Ok x) failed h = absurd (let none : ⊥ = cc in none)
-err_fact P (Err x) failed h = h
-
 pub ok_fact : {T E : Type 0} (P : Type 0) (r : Result T E) → is_ok r ≡ true → OnOk r P → P
 ok_fact P (Ok x) is h = h
 ok_fact P (Err x) is h = absurd (let none : ⊥ = cc in none)
@@ -237,9 +220,6 @@ ok_fact P (Err x) is h = absurd (let none : ⊥ = cc in none)
 pub none_some : {X : Type 0} (o : Option X) → o ≡ None → IsSome o → ⊥
 none_some None none some = let wrong : ⊥ = cc in wrong
 none_some (Some x) none some = let wrong : ⊥ = cc in wrong
-
-pub none_is_some : {X : Type 0} (o : Option X) (x : X) → o ≡ None → o ≡ Some x → ⊥
-none_is_some o x none some = let wrong : ⊥ = cc in wrong
 
 -- the cyclic in the drainer's hand has calls outstanding
 pub held_count : (l : SoftLevel) → Lawful l → (id : ℕ) (c : AdmittedCyclic) → l.cyclics id ≡ Some c → l.drainer_hand ≡ Some id
@@ -249,26 +229,3 @@ held_count l law id c is holds =
     let same : d ≡ c = same_some _ d c there is in
     let count = ap (λ (x : AdmittedCyclic). x.count) same in
     omega (arith, some, count)
-
--- the entry that stands at a place is that of its id
-pub entry_is_at : (xs : List Admitted) (place : ℕ) (e : Admitted) → slice_get xs place ≡ Some e → IsAt id_in xs e.id place
-entry_is_at xs place e is = record {
-  in_range = slice_get_within xs place e is;
-  has_id =
-      λ d. ap (λ (x : Admitted). x.id) (get_or_from_slice_get xs place e d is);
-}
-
-pub entry_cyclic : (t : Tables) → Rises id_in t.table → (place : ℕ) (e : Admitted) → slice_get t.table place ≡ Some e
-    → (level_of t).cyclics e.id ≡ Some (cyclic_of e)
-entry_cyclic t ordered place e is = read_cyclic t ordered e.id place (entry_is_at t.table place e is) e
-    (sym (get_or_from_slice_get t.table place e e is))
-
--- what was read at a place stands there
-pub read_entry : (xs : List Admitted) (place : ℕ) (e : Admitted) → place < length xs → e ≡ get_or xs place e
-    → slice_get xs place ≡ Some e
-read_entry xs place e in_range read = slice_get-get_or xs place e in_range ∙ ap Some (sym read)
-
--- what is read at a place for a change is the entry that stands there
-pub stood : (xs : List Admitted) (place : ℕ) (e kept : Admitted) → slice_get xs place ≡ Some e → place < length xs
-    → kept ≡ get_or xs place kept → kept ≡ e
-stood xs place e kept stands in_range read = same_some (slice_get xs place) kept e (read_entry xs place kept in_range read) stands

@@ -1,3 +1,4 @@
+pub mod Keeping
 pub mod Changes
 pub mod Room
 pub mod FiringLaws

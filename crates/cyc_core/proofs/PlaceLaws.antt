@@ -1,7 +1,6 @@
 -- An id with calls outstanding stands at exactly one place, and an index is that of one admitted cyclic.
-use Rattle.std.proofs.Common.{◌≡◌, ◌≢◌, ℕ, zero, suc, ◌<◌, ◌≤◌, eqb, cond, Bool, true, false, ◌||◌, List, [], ◌∷◌, length, get_or}
+use Rattle.std.proofs.Common.{◌≡◌, ◌≢◌, ℕ, zero, suc, ◌<◌, ◌≤◌, eqb, cond, Bool, true, false, ◌||◌, List, [], ◌∷◌}
 use Rattle.std.proofs.Common.{Option, Some, None, refl, sym, ap, ◌∙◌, subst, arith}
-use Rattle.std.specs.Prelude.{IsTrue, not}
 use Rattle.std.specs.Option.{option_map}
 use Rattle.std.specs.List.{list_any}
 use Rattle.std.proofs.lemmas.Bool.Decides.{nat_tests}
@@ -12,10 +11,12 @@ use Rattle.cyc_level.proofs.Maps.{hand_here, some_same}
 use Rattle.cyc_core.specs.declared.admitted.Admitted.{Admitted}
 use Rattle.cyc_core.specs.declared.books.Place.{Place}
 use Rattle.cyc_core.specs.declared.books.Place.TheVariants.{FirerHand, OldBank, NewBank, DrainerHand}
-use Rattle.cyc_finder.specs.Sorted.{Rises}
-use Rattle.cyc_core.specs.Tables.{id_in, lookup, cyclic_of, cyclics_of}
+use Rattle.cyc_core.specs.declared.admitted.Kept.{Kept}
+use Rattle.cyc_finder.specs.Indexes.{Entry, IsIndexed}
+use Rattle.cyc_core.specs.Tables.{lookup, cyclic_of, cyclics_of}
+use Rattle.cyc_core.specs.Shown.{kept_id, table_of, AreKept}
 use Rattle.cyc_core.specs.Showing.{StandsAt}
-use Rattle.cyc_finder.proofs.RisingIds.{look_up_at, is_at_place}
+use Rattle.cyc_core.proofs.Keeping.{there, found_entry, named_entry}
 
 -- how often the id stands at a place
 times_at : SoftLevel → ℕ → Place → ℕ
@@ -125,59 +126,31 @@ none_times id (x ∷ xs) e = by (eqb x id) refl e (none_times id xs)
     by false is e later = let no_one : eqb id x ≡ false = grind (arith, nat_tests) in let sum =
         ap (λ (b : Bool). cond {A = ℕ} b 1 0) no_one in let rest = later e in omega (arith, sum, rest)
 
--- an index that no entry has is that of no entry that a look-up finds
-none_index : (index id : ℕ) (xs : List Admitted) (e : Admitted) → list_any (λ (x : Admitted). eqb x.index index) xs ≡ false
-    → lookup id xs ≡ Some e → e.index ≢ index
-none_index index id [] e none found same = let wrong : ⊥ = cc in wrong
-none_index index id (x ∷ xs) e none found same =
-    by (eqb x.index index) (eqb x.id id) refl none found (λ n f. none_index index id xs e n f same)
-  where
-    by : (b f : Bool) → eqb x.index index ≡ b → (b || list_any (λ (x : Admitted). eqb x.index index) xs) ≡ false
-        → cond f (Some x) (lookup id xs) ≡ Some e
-        → (list_any (λ (x : Admitted). eqb x.index index) xs ≡ false → lookup id xs ≡ Some e → ⊥) → ⊥
-    by true f is none found later = let wrong : ⊥ = cc in wrong
-    by false true is none found later = let here : x ≡ e = some_same x e found in let at : x.index ≡ e.index =
-        ap (λ (y : Admitted). y.index) here in let wrong : ⊥ = grind (arith, nat_tests) in wrong
-    by false false is none found later = later none found
-
-any_index : (index : ℕ) (xs : List Admitted) → list_any (λ (x : Admitted). eqb x.index index) xs ≡ true → (place : ℕ)
-    × (place < length xs) × ((d : Admitted) → (get_or xs place d).index ≡ index)
-any_index index [] e = absurd (let none : ⊥ = cc in none)
-any_index index (x ∷ xs) e = by (eqb x.index index) refl e (any_index index xs)
-  where
-    by : (b : Bool) → eqb x.index index ≡ b → (b || list_any (λ (x : Admitted). eqb x.index index) xs) ≡ true
-        → (list_any (λ (x : Admitted). eqb x.index index) xs ≡ true → (place : ℕ) × (place < length xs)
-        × ((d : Admitted) → (get_or xs place d).index ≡ index)) → (place : ℕ) × (place < length (x ∷ xs))
-        × ((d : Admitted) → (get_or (x ∷ xs) place d).index ≡ index)
-    by true is e later = (0, omega arith, λ d. grind (arith, nat_tests))
-    by false is e later = let (place, in_range, at) = later e in (suc place, omega (arith, in_range), at)
-
 cyclic_behind : (o : Option Admitted) (c : AdmittedCyclic) → option_map cyclic_of o ≡ Some c → (e : Admitted) × (o ≡ Some e)
     × (cyclic_of e ≡ c)
 cyclic_behind None c is = absurd (let none : ⊥ = cc in none)
 cyclic_behind (Some e) c is = (e, refl, some_same (cyclic_of e) c is)
 
--- whether any entry has an index says whether it is used
-pub unused_is : (index : ℕ) (xs : List Admitted) → list_any (λ (x : Admitted). eqb x.index index) xs ≡ false
-    → (id : ℕ) (c : AdmittedCyclic) → cyclics_of xs id ≡ Some c → c.index ≢ index
-unused_is index xs none id c is same = let (e, found, made) = cyclic_behind (lookup id xs) c is in
-    none_index index id xs e none found (ap (λ (x : AdmittedCyclic). x.index) made ∙ same)
+-- where no cyclic is kept at an index, none is admitted at it, and the other way round
+module _ (kept : List Kept) (es : List Entry) (t : AreKept kept es) (index : ℕ) where
+  pub unused_is : kept_id (there kept index) ≡ None → (id : ℕ) (c : AdmittedCyclic) → cyclics_of (table_of kept es) id ≡ Some c
+      → c.index ≢ index
+  unused_is free id c is same =
+      let (e, found, made) = cyclic_behind (lookup id (table_of kept es)) c is in
+      let named = (found_entry kept es id e found).0 ∙ ap Some (ap (λ (x : AdmittedCyclic). x.index) made ∙ same) in
+      let no : None ≡ Some id = sym free ∙ (t.named id index).1 named in
+      let wrong : ⊥ = cc in wrong
 
-pub used_is : (index : ℕ) (xs : List Admitted) → Rises id_in xs → list_any (λ (x : Admitted). eqb x.index index) xs ≡ true
-    → ((id : ℕ) (c : AdmittedCyclic) → cyclics_of xs id ≡ Some c → c.index ≢ index) → ⊥
-used_is index xs ordered any unused =
-    let (place, in_range, at) = any_index index xs any in
-    let d : Admitted = record { id = 0; index = 0; sent = 0; done = 0; lost = 0; count = 0 } in
-    let e = get_or xs place d in
-    unused e.id (cyclic_of e) (ap (option_map cyclic_of)
-    (look_up_at id_in xs ordered e.id place (is_at_place id_in xs place d in_range) d)) (at d)
+  pub free_is : ((id : ℕ) (c : AdmittedCyclic) → cyclics_of (table_of kept es) id ≡ Some c → c.index ≢ index)
+      → kept_id (there kept index) ≡ None
+  free_is unused = by (kept_id (there kept index)) refl
+    where
+      by : (o : Option ℕ) → kept_id (there kept index) ≡ o → o ≡ None
+      by None e = refl
+      by (Some id) e = let named = (t.named id index).0 e in
+          absurd (unused id _ (ap (option_map cyclic_of) (named_entry kept es id index named)) refl)
 
-pub test_unused : (b : Bool) (index : ℕ) (xs : List Admitted) → Rises id_in xs
-    → b ≡ list_any (λ (x : Admitted). eqb x.index index) xs →
-    (IsTrue (not b) → (id : ℕ) (c : AdmittedCyclic) → cyclics_of xs id ≡ Some c → c.index ≢ index)
-    × (((id : ℕ) (c : AdmittedCyclic) → cyclics_of xs id ≡ Some c → c.index ≢ index) → IsTrue (not b))
-test_unused true index xs ordered e = (
-  λ h. absurd (let wrong : ⊥ = cc in wrong),
-  λ unused. absurd (used_is index xs ordered (sym e) unused),
-)
-test_unused false index xs ordered e = (λ h. unused_is index xs (sym e), λ unused. refl)
+-- an unused index has no id
+pub not_indexed : (kept : List Kept) (es : List Entry) (index : ℕ)
+    → ((id : ℕ) (c : AdmittedCyclic) → cyclics_of (table_of kept es) id ≡ Some c → c.index ≢ index) → ¬ IsIndexed index es
+not_indexed kept es index unused (id, e) = unused id _ (ap (option_map cyclic_of) (named_entry kept es id index e)) refl

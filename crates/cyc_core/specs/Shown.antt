@@ -1,18 +1,39 @@
 -- What the fields of a `LevelCore` show, and what holds of them at all times.
-use Rattle.std.specs.Prelude.{◌<◌, ◌≤◌, vec_capacity}
+use Rattle.std.specs.Prelude.{◌≡◌, ◌↔◌, ℕ, ◌<◌, ◌≤◌, false, Option, Some, List, map, slice_index_or, vec_capacity}
+use Rattle.std.specs.Bool.{then_some}
 use Rattle.std.specs.VecDeque.{deque_capacity}
-use Rattle.cyc_types.specs.Limits.{cyclics}
+use Rattle.cyc_types.specs.Limits.{cyclics, last_id}
 use Rattle.cyc_finder.specs.Sorted.{Rises}
-use Rattle.cyc_core.specs.Tables.{id_in, Tables, level_of}
+use Rattle.cyc_finder.specs.Indexes as finder
+use Rattle.cyc_finder.specs.Indexes.{Entry, index_of}
+use Rattle.cyc_core.specs.Tables.{Tables, level_of}
 use Rattle.cyc_core.specs.Reached.{IsReached}
+use Rattle.cyc_core.specs.declared.admitted.Admitted.{Admitted}
+use Rattle.cyc_core.specs.declared.admitted.Kept.{Kept}
 use Rattle.cyc_core.specs.declared.level_core.LevelCore.TheInside.{Inside}
+
+-- what is read at an index where no cyclic was admitted yet
+abbrev pub nothing_kept : Kept
+nothing_kept = record { id = last_id; sent = 0; done = 0; lost = 0; count = 0; here = false }
+
+-- the id of the cyclic that is admitted, where one is
+abbrev pub kept_id : Kept → Option ℕ
+kept_id k = then_some k.here k.id
+
+-- the cyclic of this id and index with the counts that are kept
+abbrev pub read_as : ℕ → ℕ → Kept → Admitted
+read_as id index k = record { id = id; index = index; sent = k.sent; done = k.done; lost = k.lost; count = k.count }
+
+-- each id that the finder names, with what is kept at its index
+abbrev pub table_of : List Kept → List Entry → List Admitted
+table_of kept entries = map (λ e. read_as e.id e.index (slice_index_or kept e.index nothing_kept)) entries
 
 abbrev pub shown : Inside → Tables
 shown a = record {
   ceiling = a.ceiling;
   hard_bank = a.hard_bank;
   soft_bank = a.soft_bank;
-  table = a.table.items;
+  table = table_of a.kept.items a.ids.entries;
   marked =
       a.marked;
   firer_hand = a.firer_hand;
@@ -21,11 +42,17 @@ shown a = record {
   drainer_hand = a.drainer_hand;
 }
 
--- the level is reached by enabled events, the table is ordered, and all memory is there
+-- the ids rise, and a cyclic is kept at an index exactly where the finder names this for its id
+pub record AreKept (kept : List Kept) (entries : List Entry) : Type 0 where
+  pub ordered : Rises finder.id_in entries
+  pub named : (id index : ℕ) → (kept_id (slice_index_or kept index nothing_kept) ≡ Some id) ↔ (index_of id entries ≡ Some index)
+
+-- the level is reached by enabled events, each cyclic is kept at its index, and all memory is there
 pub record IsSound (a : Inside) : Type 0 where
   pub reached : IsReached (level_of (shown a))
-  pub ordered : Rises id_in a.table.items
+  pub cyclics_kept : AreKept a.kept.items a.ids.entries
   pub some_ceiling : 0 < a.ceiling
-  pub table_room : cyclics ≤ vec_capacity a.table
+  pub kept_room : cyclics ≤ vec_capacity a.kept
+  pub ids_room : cyclics ≤ a.ids.room
   pub old_room : cyclics ≤ deque_capacity a.old_list
   pub new_room : cyclics ≤ deque_capacity a.new_list

@@ -1,8 +1,8 @@
 //! The events of a plain level, one function for each.
 
 ghost use Rattle.std.specs.Prelude.{◌≡◌, ◌≢◌, ℕ, ◌+◌, ◌<◌, ◌≤◌, ◌↔◌, ◌==◌, Some, None, IsTrue, IsOk, OnOk, OnErr, IfErr, IsSome};
-ghost use Rattle.std.specs.Prelude.{IsSomeAnd, slice_get, take, [], List};
-ghost use Rattle.std.specs.List.{FoldsTo, list_any};
+ghost use Rattle.std.specs.Prelude.{IsSomeAnd, slice_get, take, []};
+ghost use Rattle.std.specs.List.{FoldsTo};
 ghost use Rattle.cyc_level.specs.declared.Event.TheVariants.{Admit, Expire, Lose, Publish, Take, Finish, Mark, Clear, Switch};
 ghost use Rattle.cyc_level.specs.declared.Event.TheVariants.{Follow};
 ghost use Rattle.cyc_level.specs.Level.{count, soft_list};
@@ -10,11 +10,11 @@ ghost use Rattle.cyc_level.specs.Events.{Enabled, IsUnused, after};
 ghost use Rattle.cyc_core.specs.Tables.{level_of, lookup};
 ghost use Rattle.cyc_core.specs.Reached.{Happens};
 
-use crate::admitted::Admitted;
+use crate::admitted::{Admitted, Kept, is_free_at, reach};
 use crate::level_core::LevelCore;
 use cyc_finder::hint_of;
 use cyc_level::Event;
-use cyc_types::{CYCLICS, CyclicId, GREATEST_BANK, Index};
+use cyc_types::{CyclicId, GREATEST_BANK, Index};
 use thiserror::Error;
 
 /// The event is not enabled.
@@ -27,62 +27,44 @@ pub struct NotEnabled;
 #[error("event {0} is not enabled")]
 pub struct NotEnabledAt(pub usize);
 
-/// Whether an entry has this index.
-fn has_index(table: &[Admitted], index: Index) -> bool
-    ensures { result ≡ list_any (λ entry. entry.index == index) table.now }
-{
-    let number = index.number();
-    table.iter().any(|entry| entry.index.number() == number)
-}
-
-/// Hints where each entry from this place on stands. Each hint is checked when it is used, so a wrong one would cost time alone.
-fn hint_from(place: usize, table: &[Admitted], hints: &mut [u8; CYCLICS as usize]) {
-    for at in place..table.len() {
-        hints[hint_of(table[at].id)] = at.min(usize::from(u8::MAX)) as u8;
-    }
-}
-
 // What each event changes, where it is enabled.
 impl LevelCore {
     pub(crate) fn begin_stay(&mut self, id: CyclicId, index: Index)
         requires { Enabled (Admit id index) (level_of self.old) }
         ensures { level_of self.new ≡ after (Admit id index) (level_of self.old) }
     {
-        let Err(place) = self.search(id) else {
-            unreachable!()
-        };
-        let entry = Admitted {
+        let place = index.number() as usize;
+        reach(&mut self.kept, place);
+        self.ids.insert(id, index);
+        self.kept[place] = Kept {
             id,
-            index,
             sent: 0,
             done: 0,
             lost: 0,
             count: 0,
+            here: true,
         };
-        let inserted = self.table.insert(place, entry);
-        let fits = inserted.is_ok();
-        prove!(fits);
-        hint_from(place, &self.table, &mut self.hints);
+        self.hints[hint_of(id)] = index;
     }
 
-    pub(crate) fn expire(&mut self, place: usize, entry: Admitted)
-        requires place { slice_get self.old.table place ≡ Some entry }
+    pub(crate) fn expire(&mut self, entry: Admitted)
+        requires here { lookup entry.id self.old.table ≡ Some entry }
         requires enabled { Enabled (Expire entry.id) (level_of self.old) }
         ensures { level_of self.new ≡ after (Expire entry.id) (level_of self.old) }
     {
-        let kept = &mut self.table[place];
+        let kept = &mut self.kept[entry.index.number() as usize];
         kept.sent = entry.sent + 1;
         kept.count = entry.count + 1;
         self.firer_hand = (entry.count == 0).then_some(entry.id);
     }
 
-    pub(crate) fn lose(&mut self, place: usize, entry: Admitted)
-        requires place { slice_get self.old.table place ≡ Some entry }
+    pub(crate) fn lose(&mut self, entry: Admitted)
+        requires here { lookup entry.id self.old.table ≡ Some entry }
         requires enabled { Enabled (Lose entry.id) (level_of self.old) }
         ensures { level_of self.new ≡ after (Lose entry.id) (level_of self.old) }
     {
         prove!(entry.count == self.ceiling);
-        let kept = &mut self.table[place];
+        let kept = &mut self.kept[entry.index.number() as usize];
         kept.sent = entry.sent + 1;
         kept.lost = entry.lost + 1;
     }
@@ -108,14 +90,15 @@ impl LevelCore {
         self.drainer_hand = self.old_list.pop_front();
     }
 
+    #[inline(always)]
     pub(crate) fn finish_call(&mut self)
         requires { Enabled Finish (level_of self.old) }
         ensures { level_of self.new ≡ after Finish (level_of self.old) }
     {
         if let Some(id) = self.drainer_hand {
-            let (place, entry) = self.entry_of(id);
+            let entry = self.entry_of(id);
             self.drainer_hand = (entry.count != 1).then_some(id);
-            let kept = &mut self.table[place];
+            let kept = &mut self.kept[entry.index.number() as usize];
             kept.done = entry.done + 1;
             kept.count = entry.count - 1;
         }
@@ -132,11 +115,8 @@ impl LevelCore {
         requires { Enabled (Clear id) (level_of self.old) }
         ensures { level_of self.new ≡ after (Clear id) (level_of self.old) }
     {
-        let Ok(place) = self.search(id) else {
-            unreachable!()
-        };
-        self.table.remove(place);
-        hint_from(place, &self.table, &mut self.hints);
+        let index = self.ids.remove(id);
+        self.kept[index.number() as usize].here = false;
         self.marked = None;
     }
 
@@ -165,7 +145,7 @@ impl LevelCore {
             return false;
         }
         let places: u32 = 1 << self.hard_bank;
-        u32::from(index.number()) < places && !has_index(&self.table, index)
+        u32::from(index.number()) < places && is_free_at(&self.kept, index)
     }
 
     fn may_expire(&self, id: CyclicId) -> bool
@@ -255,12 +235,12 @@ impl LevelCore {
         match event {
             Event::Admit(id, index) => self.begin_stay(id, index),
             Event::Expire(id) => {
-                let (place, entry) = self.entry_of(id);
-                self.expire(place, entry);
+                let entry = self.entry_of(id);
+                self.expire(entry);
             }
             Event::Lose(id) => {
-                let (place, entry) = self.entry_of(id);
-                self.lose(place, entry);
+                let entry = self.entry_of(id);
+                self.lose(entry);
             }
             Event::Publish => self.publish(),
             Event::Take => self.take_first(),

@@ -1,22 +1,27 @@
 //! One soft level as a plain object, and the laws that hold of it at any time.
 
-ghost use Rattle.std.specs.Prelude.{◌≡◌, ℕ, ◌<◌, ◌≤◌, length, IfOk, IfErr, IfSome, IfNone, IsSome, Some, None, slice_get};
+ghost use Rattle.std.specs.Prelude.{◌≡◌, ℕ, ◌<◌, ◌≤◌, IfOk, IfErr, IsSome, Some, []};
 ghost use Rattle.std.specs.Option.{option_map};
-ghost use Rattle.cyc_finder.specs.Sorted.{IsAt, IsGap};
+ghost use Rattle.cyc_types.specs.Limits.{cyclics};
 ghost use Rattle.cyc_level.specs.Level.{empty_level};
 ghost use Rattle.cyc_level.specs.Lawful.{Lawful};
 ghost use Rattle.cyc_level.specs.Conservation.{IsConserved};
-ghost use Rattle.cyc_core.specs.Tables.{id_in, cyclic_of, level_of, lookup};
+ghost use Rattle.cyc_finder.specs.Indexes.{index_of};
+ghost use Rattle.cyc_core.specs.Tables.{cyclic_of, level_of, lookup};
 ghost use Rattle.cyc_core.specs.Reached.{IsReached};
 
-use crate::admitted::Admitted;
-use cyc_finder::{hint_of, search_near};
-use cyc_types::{CYCLICS, Ceiling, CyclicId, Refusal};
-use std::alloc::Global;
+use crate::admitted::{Admitted, Kept, is_kept_at};
+use cyc_finder::{Finder, HINTS, hint_of};
+use cyc_types::{CYCLICS, Ceiling, CyclicId, Index, Refusal};
+use std::alloc::{AllocError, Global};
 use std::collections::VecDeque;
 use std::marker::Model;
 
 /// One soft level, with all its memory taken when it is made.
+///
+/// Each admitted cyclic is kept at its index, and a finder says which index an id has. So one that is admitted or leaves moves no other's
+/// counts: both are `insert` and `remove` of `Finder`, O(log n) on average where ids rise. A raise and a finish find their cyclic by one
+/// look where its hint is right.
 ///
 /// Contracts see it as its tables, and `level_of` gives the level that they show.
 #[derive(Drop)]
@@ -24,14 +29,18 @@ pub struct LevelCore {
     pub(crate) ceiling: u32,
     pub(crate) hard_bank: u8,
     pub(crate) soft_bank: u8,
-    pub(crate) table: Vec<Admitted>,
+    // The cyclics by their indexes, as far as any index was used. A place whose cyclic left says so, and stays.
+    pub(crate) kept: Vec<Kept>,
+    // The index of each admitted id.
+    pub(crate) ids: Finder,
     pub(crate) marked: Option<CyclicId>,
     pub(crate) firer_hand: Option<CyclicId>,
     pub(crate) old_list: VecDeque<CyclicId>,
     pub(crate) new_list: VecDeque<CyclicId>,
     pub(crate) drainer_hand: Option<CyclicId>,
-    // Where an entry stands, by its id's low bits. Another may have these bits too, so each look is checked.
-    pub(crate) hints: [u8; CYCLICS as usize],
+    // The index at which an id of these low bits was admitted last. Another may have these bits too, and it may have left, so each
+    // look is checked. They stand in memory of their own, so that a level that is moved copies little.
+    pub(crate) hints: Box<[Index; HINTS]>,
 }
 
 impl Model for LevelCore {
@@ -46,11 +55,42 @@ impl Model for LevelCore {
     ghost invariant = { IsSound };
 }
 
+/// Hints that say nothing yet. By a call, so that what makes a level has no room for them on its stack.
+#[cold]
+#[inline(never)]
+fn no_hints(alloc: Global) -> Result<Box<[Index; HINTS]>, AllocError> {
+    let first = Index::new(0).unwrap();
+    let hints = Box::new(alloc, [first; HINTS])?;
+    Ok(hints)
+}
+
+/// A finder with room for `CYCLICS` ids. By a call, as `no_hints`.
+#[cold]
+#[inline(never)]
+fn no_ids(alloc: Global) -> Result<Finder, AllocError>
+    ensures { IfOk result (λ finder. (finder.entries ≡ []) × (cyclics ≤ finder.room)) }
+{
+    let mut ids = Finder::new(alloc)?;
+    ids.reserve(usize::from(CYCLICS))?;
+    Ok(ids)
+}
+
+/// As `find` of the finder, where a hint was wrong, which mostly is right. By a call that is lent the finder alone, so that what makes
+/// it keeps neither registers nor the level's other fields for it.
+#[cold]
+#[inline(never)]
+fn find_apart(ids: &Finder, id: CyclicId) -> Option<Index>
+    ensures { result ≡ index_of id ids.now.entries }
+{
+    ids.find(id)
+}
+
 impl LevelCore {
     /// An empty level with both banks 0 and this ceiling.
     ///
-    /// It takes room for `CYCLICS` admitted cyclics and two lists of as many ids; no other call takes memory. Refuses
-    /// Memory alone.
+    /// It takes room for `CYCLICS` admitted cyclics, 40 bytes each, for a finder of as many ids (`Finder::reserve`), for two lists of as
+    /// many, 8 bytes each, and for the hints; no other call takes memory. Of cyclics and lists it writes nothing yet. Refuses Memory
+    /// alone.
     pub fn new(alloc: Global, ceiling: Ceiling) -> Result<LevelCore, Refusal>
         ensures ok { IfOk result (λ core. level_of core ≡ empty_level ceiling) }
         ensures err { IfErr result (λ refusal. refusal ≡ Refusal.Memory) }
@@ -60,13 +100,14 @@ impl LevelCore {
             ceiling: ceiling.calls(),
             hard_bank: 0,
             soft_bank: 0,
-            table: Vec::with_capacity(alloc, room)?,
+            kept: Vec::with_capacity(alloc, room)?,
+            ids: no_ids(alloc)?,
             marked: None,
             firer_hand: None,
             old_list: VecDeque::with_capacity(alloc, room)?,
             new_list: VecDeque::with_capacity(alloc, room)?,
             drainer_hand: None,
-            hints: [0; CYCLICS as usize],
+            hints: no_hints(alloc)?,
         })
     }
 
@@ -81,12 +122,17 @@ impl LevelCore {
         let _ceiling = &self.ceiling;
     }
 
-    /// Where the entry of the id stands in the table, or where it would stand.
-    pub(crate) fn search(&self, id: CyclicId) -> Result<usize, usize>
-        ensures found { IfOk result (IsAt id_in self.now.table id) }
-        ensures absent { IfErr result (IsGap id_in self.now.table id) }
+    /// The index of the id, where it is admitted. O(1) where its hint is right, as it is until another id of its low bits is admitted,
+    /// else as `Finder::find`.
+    #[inline(always)]
+    pub(crate) fn search(&self, id: CyclicId) -> Option<Index>
+        ensures { result ≡ option_map (λ entry. entry.index) (lookup id self.now.table) }
     {
-        search_near(&self.table, id, usize::from(self.hints[hint_of(id)]))
+        let hint = self.hints[hint_of(id)];
+        if is_kept_at(&self.kept, hint, id) {
+            return Some(hint);
+        }
+        find_apart(&self.ids, id)
     }
 
     /// The entry of the id, where it is admitted.
@@ -95,23 +141,24 @@ impl LevelCore {
         ensures lawful { Lawful (level_of self.now) }
     {
         match self.search(id) {
-            Ok(place) => Some(self.table[place]),
-            Err(_) => None,
+            Some(index) => Some(self.kept[index.number() as usize].read(id, index)),
+            None => None,
         }
     }
 
-    /// The entry of an admitted id, and where it stands in the table.
-    pub(crate) fn entry_of(&self, id: CyclicId) -> (usize, Admitted)
+    /// The entry of an admitted id.
+    #[inline(always)]
+    pub(crate) fn entry_of(&self, id: CyclicId) -> Admitted
         requires { IsSome (lookup id self.now.table) }
-        ensures place { slice_get self.now.table result.0 ≡ Some result.1 }
-        ensures cyclic { (level_of self.now).cyclics id ≡ Some (cyclic_of result.1) }
-        ensures id { result.1.id ≡ id }
+        ensures here { lookup id self.now.table ≡ Some result }
+        ensures cyclic { (level_of self.now).cyclics id ≡ Some (cyclic_of result) }
+        ensures id { result.id ≡ id }
         ensures lawful { Lawful (level_of self.now) }
         ensures some_ceiling { 0 < self.now.ceiling }
     {
-        let Ok(place) = self.search(id) else {
+        let Some(index) = self.search(id) else {
             unreachable!()
         };
-        (place, self.table[place])
+        self.kept[index.number() as usize].read(id, index)
     }
 }

@@ -26,35 +26,36 @@ impl Raise for LevelCore {
     }
 
     fn load_pend(&mut self, id: CyclicId) -> u32 {
-        let (_, entry) = self.entry_of(id);
+        let entry = self.entry_of(id);
         entry.count
     }
 
-    #[inline(always)]
+    // A call: its registers are then not those of a fire's loop.
+    #[inline(never)]
     fn raise(&mut self, id: CyclicId) -> Raised {
-        let (place, entry) = self.entry_of(id);
+        let entry = self.entry_of(id);
         let count = entry.count;
         if count == self.ceiling {
-            self.lose(place, entry);
+            self.lose(entry);
             return Raised::Lost;
         }
         if count > 0 {
-            self.expire(place, entry);
+            self.expire(entry);
             return Raised::More;
         }
-        self.expire(place, entry);
+        self.expire(entry);
         self.publish();
         Raised::First
     }
 
     fn mark(&mut self, id: CyclicId) -> u32 {
-        let (_, entry) = self.entry_of(id);
+        let entry = self.entry_of(id);
         self.begin_removal(id);
         entry.count
     }
 
     fn poll_clear(&mut self, id: CyclicId) -> Option<Sent> {
-        let (_, entry) = self.entry_of(id);
+        let entry = self.entry_of(id);
         if entry.count > 0 {
             return None;
         }
@@ -76,7 +77,7 @@ impl Raise for LevelCore {
     }
 
     fn sent(&self, id: CyclicId) -> Sent {
-        let (_, entry) = self.entry_of(id);
+        let entry = self.entry_of(id);
         Sent {
             sent: entry.sent,
             lost: entry.lost,

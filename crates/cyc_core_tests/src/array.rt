@@ -42,7 +42,7 @@ fn put(entries: &mut [Kept], position: usize, entry: Kept) {
 /// Moves the hole up while the position above expires after the entry.
 fn rise(entries: &mut [Kept], hole: usize, entry: &Kept) -> usize {
     let mut hole = hole;
-    for _ in 0..8 {
+    for _ in 0..u16::BITS {
         if hole == 0 {
             break;
         }
@@ -71,7 +71,7 @@ fn least_child(entries: &[Kept], len: usize, position: usize) -> usize {
 /// Moves the hole up, and down while a child expires before the entry, and puts the entry there.
 fn sift(entries: &mut [Kept], len: usize, hole: usize, entry: Kept) {
     let mut hole = rise(entries, hole, &entry);
-    for _ in 0..8 {
+    for _ in 0..u16::BITS {
         let child = least_child(entries, len, hole);
         let moved = entry_at(entries, child);
         if child >= len || !moved.expires_before(&entry) {

@@ -2,7 +2,7 @@
 
 use crate::array::ArrayHeap;
 use cyc_heap::ExpiryHeap;
-use cyc_types::{CyclicId, Index, Moment};
+use cyc_types::{CYCLICS, CyclicId, Index, Moment};
 use std::process::Abort;
 
 /// Both heaps, and what chooses the calls.
@@ -68,9 +68,9 @@ impl Beside {
         let (wider, room) = match widening {
             Widening::Doubled => (2 * size, 2 * size),
             Widening::ByOne => (size + 1, size + 1),
-            Widening::Ahead => (size + 1, 256),
+            Widening::Ahead => (size + 1, usize::from(CYCLICS)),
         };
-        assert!(rt; wider <= room && room <= 256);
+        assert!(rt; wider <= room && room <= usize::from(CYCLICS));
         assert!(rt; self.heap.reserve(room).is_ok());
         self.heap.widen(wider);
         assert!(rt; self.was.widen(wider).is_ok());
@@ -120,7 +120,7 @@ impl Beside {
             None => None,
         };
         assert_eq!(rt; root, self.was.root());
-        let number = u16::try_from(self.below(256)).unwrap_or(0);
+        let number = u16::try_from(self.below(usize::from(CYCLICS))).unwrap_or(0);
         let index = Index::new(number).expect(rt, "an index");
         let found = match self.heap.at(index) {
             Some((moment, id)) => Some((moment.nanoseconds(), id.number())),
@@ -138,7 +138,7 @@ impl Beside {
             0 if len > 0 => self.replace(rt),
             1 if len > 0 => self.lower_root(rt),
             2 if len > 0 => self.remove(rt),
-            3 if len < 256 => self.insert(rt, widening),
+            3 if len < usize::from(CYCLICS) => self.insert(rt, widening),
             _ if len < many => self.insert(rt, widening),
             _ if len > many => self.remove(rt),
             _ => {}
@@ -147,7 +147,7 @@ impl Beside {
     }
 
     fn go(&mut self, rt: &impl Abort, many: usize, widening: Widening) {
-        for _ in 0..1000 {
+        for _ in 0..20_000 {
             if self.was.len() == many {
                 break;
             }
@@ -158,10 +158,10 @@ impl Beside {
 }
 
 /// How many expirations there are by turns: to and fro across each number at which few become many or many few, of 64, 128 and
-/// 256 indexes, and across 12, 13, 16 and 17.
-const TURNS: [usize; 27] = [
+/// 256 indexes and then of 512 and 4,096, and across 12, 13, 16 and 17.
+const TURNS: [usize; 33] = [
     17, 11, 18, 12, 34, 13, 50, 23, 49, 24, 51, 20, 82, 39, 81, 38, 130, 60, 256, 71, 146, 70, 145,
-    16, 256, 0, 40,
+    16, 256, 0, 40, 512, 130, 4096, 1030, 2070, 40,
 ];
 
 fn compared<R: AllocGlobal + Abort>(rt: &R, widening: Widening) {

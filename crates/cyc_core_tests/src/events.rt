@@ -117,7 +117,7 @@ fn a_switch_goes_to_a_greater_bank_once_the_soft_side_has_followed(rt: HostRunti
         Event::Switch(1),
     ];
     refuses(&rt, &[], Event::Switch(0));
-    refuses(&rt, &[], Event::Switch(9));
+    refuses(&rt, &[], Event::Switch(13));
     refuses(&rt, &raised, Event::Switch(1));
     refuses(&rt, &[Event::Switch(1)], Event::Switch(2));
     refuses(&rt, &[], Event::Follow);

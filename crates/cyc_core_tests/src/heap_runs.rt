@@ -1,7 +1,7 @@
 //! Worked runs of a heap.
 
 use cyc_heap::ExpiryHeap;
-use cyc_types::{CyclicId, Index, Moment};
+use cyc_types::{CYCLICS, CyclicId, Index, Moment};
 use std::process::Abort;
 
 fn moment(rt: &impl Abort, nanoseconds: i64) -> Moment {
@@ -23,7 +23,7 @@ fn new_heap<R: AllocGlobal + Abort>(rt: &R) -> ExpiryHeap {
 
 /// Makes the heap as large as this.
 fn grow(rt: &impl Abort, heap: &mut ExpiryHeap, size: usize) {
-    assert!(rt; size <= 256);
+    assert!(rt; size <= usize::from(CYCLICS));
     assert!(rt; heap.reserve(size).is_ok());
     heap.widen(size);
 }
@@ -136,15 +136,16 @@ fn four_series_come_in_order(rt: HostRuntime) {
 
 #[test]
 fn a_full_heap_empties_by_moment(rt: HostRuntime) {
-    let mut heap = heap(&rt, 256);
-    // 37 has no factor in common with 256, so that each moment from 0 to 255 comes once.
-    for k in 0..256u64 {
-        let moment = (37 * k % 256) as i64;
+    let many = u64::from(CYCLICS);
+    let mut heap = heap(&rt, many as usize);
+    // 37 has no factor in common with a power of two, so that each moment below it comes once.
+    for k in 0..many {
+        let moment = (37 * k % many) as i64;
         let index = insert(&rt, &mut heap, moment, k + 1);
         assert_eq!(rt; u64::from(index), k);
     }
-    assert_eq!(rt; sizes(&heap), (256, 256));
-    for moment in 0..256u64 {
+    assert_eq!(rt; sizes(&heap), (many as usize, many as usize));
+    for moment in 0..many {
         let (index, at, id) = root(&heap).expect(&rt, "a root");
         assert_eq!(rt; at, moment);
         assert_eq!(rt; u64::from(index) + 1, id);

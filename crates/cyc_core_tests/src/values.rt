@@ -23,7 +23,7 @@ fn ceiling_of(calls: u32) -> Option<u32> {
     Some(ceiling.calls())
 }
 
-const LAST: u64 = 72_057_594_037_927_935;
+const LAST: u64 = 4_503_599_627_370_495;
 
 /// Numbers, each with the id that it gives and the one after it.
 static IDS: [(u64, Option<u64>, Option<u64>); 4] = [
@@ -44,7 +44,7 @@ fn ids_go_from_one_to_the_last(rt: HostRuntime) {
 
 #[test]
 fn indexes_and_ceilings_have_their_ranges(rt: HostRuntime) {
-    assert_eq!(rt; (index_of(255), index_of(256)), (Some(255), None));
+    assert_eq!(rt; (index_of(4095), index_of(4096)), (Some(4095), None));
     assert_eq!(rt;
         (ceiling_of(u32::MAX), ceiling_of(0)),
         (Some(4_294_967_295), None)

@@ -12,6 +12,7 @@ use Rattle.cyc_types.specs.Firing.{FiringView}
 use Rattle.cyc_types.specs.declared.level.Level.{Level}
 use Rattle.cyc_types.specs.declared.level.Level.TheVariants.{Low, Lock, High}
 use Rattle.cyc_cpu.specs.Calls.{CpuCall, Changes}
+use Rattle.cyc_cpu.specs.Cpu.{IsPassed, ComesAfter, IsNextAfter}
 use Rattle.cyc_cpu.specs.Cpu.{CpuView, IsCyclic, HasNoCyclic, Asks, Looked, AreAdmitted, HasCounts, IsRemoved, HasRisingIds}
 
 pub is_cyclic : (rows : List Row) (k : ℕ) (r : Row) → IsRow rows k r → IsCyclic (cyclics_of rows) k (cyclic_of r)
@@ -120,3 +121,28 @@ not_removed view size most removal lock low rows id h none is = elim (h.is_open 
   | inl m ↦ (let (k, r, row, named, at) = h.ready.lock_end.marked_here id m in absurd (no_row id rows k r none row named))
   | inr m ↦ (let (k, r, row, named, at) = h.ready.low_end.marked_here id m in absurd (no_row id rows k r none row named))
 ]
+
+-- to which cyclic a walk comes next
+pub passed_cyclics : (rows : List Row) (passed : Option ℕ) → All (λ r. IsPassed passed r.timer.id) rows
+    → All (λ c. IsPassed passed c.timer.id) (cyclics_of rows)
+passed_cyclics rows passed all k d low =
+    let e : Row = record { timer = d.timer; lost = d.lost; carried = d.carried; index = 0 } in
+    let l = length-map rows cyclic_of in
+    let low' : k < length rows = omega (arith, l, low) in
+    subst (IsPassed passed) (ap (λ (c : Cyclic). c.timer.id) (sym (get_or-map cyclic_of rows k e d low'))) (all k e low')
+
+pub next_cyclic : (rows : List Row) (passed : Option ℕ) (k : ℕ) → IsNextAfter (λ (x : Row). x.timer.id) rows passed k
+    → IsNextAfter (λ (x : Cyclic). x.timer.id) (cyclics_of rows) passed k
+next_cyclic rows passed k next = let l = length-map rows cyclic_of in record {
+  in_range = (let r = next.in_range in omega (arith, r, l));
+  passed_before = λ j d less.
+      (let e : Row = record { timer = d.timer; lost = d.lost; carried = d.carried; index = 0 } in
+      let low : j < length rows = (let r = next.in_range in omega (arith, r, less)) in
+      subst (IsPassed passed) (ap (λ (c : Cyclic). c.timer.id) (sym (get_or-map cyclic_of rows j e d low)))
+      (next.passed_before j e less));
+  after_from = λ j d past low.
+      (let e : Row = record { timer = d.timer; lost = d.lost; carried = d.carried; index = 0 } in
+      let low' : j < length rows = omega (arith, low, l) in
+      subst (ComesAfter passed) (ap (λ (c : Cyclic). c.timer.id) (sym (get_or-map cyclic_of rows j e d low')))
+      (next.after_from j e past low'));
+}

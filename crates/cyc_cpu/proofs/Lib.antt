@@ -12,4 +12,7 @@ pub mod Off
 pub mod Lawful
 pub mod Calling
 pub mod Sizes
+pub mod Banks
+pub mod Reprogramming
 pub use Rattle.cyc_timers.proofs.Sharing
+pub use Rattle.cyc_timers.proofs.Walks

@@ -14,6 +14,7 @@ use Rattle.cyc_timers.specs.Rows.{Cyclic}
 use Rattle.cyc_timers.specs.Quiet.{asks_at, admits_at, OnlyLooks}
 use Rattle.cyc_timers.specs.Acts.{Sides}
 pub use Rattle.cyc_timers.specs.Made.{Makes, WhyStopped, HasCounts}
+pub use Rattle.cyc_timers.specs.Rows.{Rises, IsAt, IsPassed, ComesAfter, IsNextAfter}
 
 -- the firing side of one CPU
 pub record CpuView (R : Type 0) : Type 0 where

@@ -72,17 +72,7 @@ pub(crate) fn least_bank(places: usize) -> u8
     ensures greatest { result ≤ greatest_bank }
     ensures few { 2 ^ result ≤ cyclics }
 {
-    match places {
-        0..=1 => 0,
-        2 => 1,
-        3..=4 => 2,
-        5..=8 => 3,
-        9..=16 => 4,
-        17..=32 => 5,
-        33..=64 => 6,
-        65..=128 => 7,
-        _ => 8,
-    }
+    (usize::BITS - places.saturating_sub(1).leading_zeros()) as u8
 }
 
 /// The slots of a bank.

@@ -202,8 +202,8 @@ impl<R: Raise> Hard<R> {
         if self.is_removed(id) {
             return Err(Refusal::NoCyclic);
         }
-        if let Some(place) = self.table.soon(id) {
-            self.reprogram_found(id, place, moment);
+        if let Some(index) = self.table.soon(id) {
+            self.table.reprogram(index, moment);
             return Ok(());
         }
         self.reprogram_anew(id, moment)
@@ -217,22 +217,12 @@ impl<R: Raise> Hard<R> {
         ensures { Changes R.Raise self.old (Reprogram id moment result) self.new }
     {
         match self.table.seek(id) {
-            Some(place) => {
-                self.reprogram_found(id, place, moment);
+            Some(index) => {
+                self.table.reprogram(index, moment);
                 Ok(())
             }
             None => Err(Refusal::NoCyclic),
         }
-    }
-
-    /// As `reprogram`, of the cyclic at this place, whose removal is not open.
-    #[inline(always)]
-    fn reprogram_found(&mut self, id: CyclicId, place: usize, moment: Moment)
-        requires here { (c : Cyclic) × IsCyclic self.old.cyclics place c × (c.timer.id ≡ id) }
-        requires still { self.old.removal ≢ Some id }
-        ensures { Changes R.Raise self.old (Reprogram id moment (Ok tt)) self.new }
-    {
-        self.table.reprogram(place, moment);
     }
 
     /// The calls of the cyclic that are outstanding, 0 at high level. None where the id is not here. Takes no memory.
@@ -265,8 +255,8 @@ impl<R: Raise> Hard<R> {
         ensures seen { IfSome result (λ a. seen_at R.view id self.new ≡ a.1) }
     {
         self.table.law();
-        let place = self.table.find(id)?;
-        let kept = self.table.record_at(place);
+        let index = self.table.find(id)?;
+        let kept = self.table.record(index);
         let pend = load_pend(id, kept.level, &mut self.lock, &mut self.low);
         Some((kept, pend))
     }

@@ -34,18 +34,18 @@ impl<R: Raise> Hard<R> {
         ensures counts { IfOk result (λ taken. (taken.sent.lost ≤ taken.sent.sent) × (taken.sent.sent ≤ self.old.most)) }
     {
         self.table.law();
-        let Some(place) = self.table.find(id) else {
+        let Some(index) = self.table.find(id) else {
             return Err(Refusal::NoCyclic);
         };
         if let Some(removed) = self.removal {
             return Err(Refusal::Busy(removed));
         }
-        let kept = self.table.record_at(place);
+        let kept = self.table.record(index);
         if !take_at(id, kept.level, &mut self.lock, &mut self.low) {
             return Err(Refusal::Pending);
         }
-        let moment = self.table.moment_at(place);
-        self.table.remove(place);
+        let moment = self.table.moment(index);
+        self.table.remove(id);
         Ok(Taken {
             level: kept.level,
             interval: kept.interval,

@@ -45,20 +45,20 @@ impl<R: Raise> Hard<R> {
         ensures { Changes R.Raise self.old (BeginRemove id result) self.new }
     {
         self.table.law();
-        let Some(place) = self.table.find(id) else {
+        let Some(index) = self.table.find(id) else {
             return Err(Refusal::NoCyclic);
         };
         if let Some(removed) = self.removal {
             return Err(Refusal::Busy(removed));
         }
-        let kept = self.table.record_at(place);
+        let kept = self.table.record(index);
         let left = remove_at(id, kept.level, &mut self.lock, &mut self.low);
         if left > 0 {
-            self.table.reprogram(place, Moment::NEVER);
+            self.table.reprogram(index, Moment::NEVER);
             self.removal = Some(id);
             return Ok(Removal::Kept(left));
         }
-        self.table.remove(place);
+        self.table.remove(id);
         Ok(Removal::Done(receipt_of(id, kept)))
     }
 
@@ -69,14 +69,14 @@ impl<R: Raise> Hard<R> {
     {
         self.table.law();
         let id = self.removal?;
-        let Some(place) = self.table.find(id) else {
+        let Some(index) = self.table.find(id) else {
             unreachable!()
         };
-        let kept = self.table.record_at(place);
+        let kept = self.table.record(index);
         if !poll_at(id, kept.level, &mut self.lock, &mut self.low) {
             return None;
         }
-        self.table.remove(place);
+        self.table.remove(id);
         self.removal = None;
         Some(receipt_of(id, kept))
     }

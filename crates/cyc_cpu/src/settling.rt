@@ -27,13 +27,19 @@ fn all_quiet<R: Raise>(table: &Table, lock: &mut R, low: &mut R) -> bool
     ensures sound_lock { Sound (R.view lock.old) → Sound (R.view lock.new) }
     ensures sound_low { Sound (R.view low.old) → Sound (R.view low.new) }
 {
-    for place in 0..table.len() {
-        let id = table.id_at(place);
-        let kept = table.record_at(place);
+    table.law();
+    let mut passed = None;
+    for _place in 0..table.len() {
+        let Some(found) = table.next_after(passed) else {
+            unreachable!()
+        };
+        let id = found.0;
+        let kept = table.record(found.1);
         let pend = load_pend(id, kept.level, lock, low);
         if pend > 0 {
             return false;
         }
+        passed = Some(id);
     }
     true
 }

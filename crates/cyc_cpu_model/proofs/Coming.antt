@@ -4,6 +4,7 @@ use Rattle.std.proofs.Common.{subst, arith}
 use Rattle.std.specs.Prelude.{nat_le, nat_lt}
 use Rattle.std.proofs.lemmas.Bool.Decides.{nat_tests}
 use Rattle.std.proofs.lemmas.List.{length-map}
+use Rattle.cyc_types.specs.Limits.{greatest_bank}
 use Rattle.cyc_types.specs.declared.level.Level.{Level}
 use Rattle.cyc_types.specs.declared.level.Level.TheVariants.{Low, Lock}
 use Rattle.cyc_types.specs.declared.moment.When.{When}
@@ -69,7 +70,7 @@ same_least zero k n = refl
 same_least (suc more) k n = ap (cond (nat_le n (2 ^ k)) k) (same_least more (k + 1) n)
 
 same_bank : (n : ℕ) → model_bank n ≡ bank_for n
-same_bank n = same_least 8 0 n
+same_bank n = same_least greatest_bank 0 n
 
 -- whether it grows, by either test
 grow_test : (size n : ℕ) (b : Bool) → nat_lt size n ≡ b → size_for size n ≡ cond b (2 ^ bank_for n) size

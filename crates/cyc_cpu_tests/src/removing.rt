@@ -79,7 +79,7 @@ fn a_cyclic_of_the_old_bank_is_removed_while_a_resize_is_open(rt: HostRuntime) -
         (Step::Fire(1), Answer::Fired(1, 0, 11)),
         (Step::Add(2, Level::Low, 2, 10, 1), Answer::Done),
         (Step::BeginRemove(1), Answer::Kept(1)),
-        (Step::Room(255), Answer::Refused(Refusal::Full)),
+        (Step::Room(4095), Answer::Refused(Refusal::Full)),
         (Step::Room(1), Answer::Refused(busy)),
         (Step::Reserve(1), Answer::Refused(busy)),
         (Step::Fire(2), Answer::Fired(1, 0, 12)),

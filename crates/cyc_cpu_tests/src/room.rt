@@ -42,25 +42,25 @@ fn a_refusal_of_more_than_fit_comes_before_one_of_an_expansion(
     rt: HostRuntime,
 ) -> Result<(), Fail> {
     let steps = [
-        (Step::Room(256), Answer::Done),
-        (Step::Room(257), FULL),
-        (Step::Reserve(257), FULL),
+        (Step::Room(4096), Answer::Done),
+        (Step::Room(4097), FULL),
+        (Step::Reserve(4097), FULL),
         (Step::Widen(100), Answer::Done),
         (Step::Room(128), Answer::Done),
         (Step::Room(129), EXPANDING),
-        (Step::Reserve(256), EXPANDING),
-        (Step::Room(257), FULL),
+        (Step::Reserve(4096), EXPANDING),
+        (Step::Room(4097), FULL),
         (Step::Softint(Soft::Low, 1), Answer::Ran(0, true)),
         (Step::Softint(Soft::Lock, 1), Answer::Ran(0, true)),
-        (Step::Widen(256), Answer::Done),
-        (Step::Room(256), Answer::Done),
+        (Step::Widen(4096), Answer::Done),
+        (Step::Room(4096), Answer::Done),
     ];
     alone(&rt, rt.alloc(), FREE, &steps)
 }
 
-/// Adds 256 cyclics, and lets both soft levels follow after each.
+/// Adds 4,096 cyclics, and lets both soft levels follow after each.
 fn fill(rt: &impl Abort, cpu: &mut Hard<LevelCore>, calls: &mut Handlers) -> Result<(), Fail> {
-    for number in 1..257u64 {
+    for number in 1..4097u64 {
         let level = match number % 3 {
             0 => Level::Low,
             1 => Level::Lock,
@@ -76,21 +76,21 @@ fn fill(rt: &impl Abort, cpu: &mut Hard<LevelCore>, calls: &mut Handlers) -> Res
     Ok(())
 }
 
-/// Adds 256 cyclics, and tries one more.
+/// Adds 4,096 cyclics, and tries one more.
 fn overfill(rt: &impl Abort, cpu: &mut Hard<LevelCore>, calls: &mut Handlers) -> Result<(), Fail> {
     fill(rt, cpu, calls)?;
     let steps = [
-        (Step::Len, Answer::Len(256)),
-        (Step::Add(257, Level::Low, 1, 10, 0), FULL),
+        (Step::Len, Answer::Len(4096)),
+        (Step::Add(4097, Level::Low, 1, 10, 0), FULL),
         (Step::Room(1), FULL),
         (Step::Room(0), Answer::Done),
-        (Step::Fire(1), Answer::Fired(256, 0, 11)),
+        (Step::Fire(1), Answer::Fired(4096, 0, 11)),
     ];
     play(rt, cpu, calls, &steps)
 }
 
 #[test]
-fn a_cpu_holds_256_cyclics(rt: HostRuntime) -> Result<(), Fail> {
+fn a_cpu_holds_4096_cyclics(rt: HostRuntime) -> Result<(), Fail> {
     let mut cpu = cpu(rt.alloc(), u64::MAX, u32::MAX)?;
     let mut calls = Handlers::new(rt.alloc(), 0)?;
     overfill(&rt, &mut cpu, &mut calls)

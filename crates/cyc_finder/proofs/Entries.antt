@@ -1,16 +1,14 @@
 -- What a finder says of each id, after an entry came or went.
-use Rattle.std.proofs.Common.{◌≡◌, ℕ, suc, ◌<◌, ◌≢◌, eqb, Bool, true, false, cond, List, [], ◌∷◌, ◌++◌, length, get_or, set}
-use Rattle.std.proofs.Common.{map, take, drop, sym, refl, ap, ◌∙◌, arith, eq-eqb, ne_eqb, get_or-set_same}
-use Rattle.std.proofs.Common.{get_or-set_other}
+use Rattle.std.proofs.Common.{◌≡◌, ◌≢◌, ℕ, suc, ◌<◌, eqb, Bool, true, false, cond, List, [], ◌∷◌, ◌++◌, length, get_or}
+use Rattle.std.proofs.Common.{map, take, drop, sym, refl, ap, ◌∙◌, arith, eq-eqb, ne_eqb}
 use Rattle.std.specs.Prelude.{Option, Some, None}
 use Rattle.std.specs.Option.{option_map}
 use Rattle.std.specs.List.{insert, remove}
 use Rattle.std.proofs.lemmas.List.{get_or-map, length-map, take-map, drop-map, map-append}
 use mathlib.Core.Logic.{dite}
 use native.Mathlib.Decide.{ℕ_discrete}
-use Rattle.cyc_finder.specs.declared.finder.Entry.{Entry}
 use Rattle.cyc_finder.specs.Sorted.{look_up, Rises, IsAt, IsGap}
-use Rattle.cyc_finder.specs.Indexes.{id_in, index_in, index_of, IsIndexed, times, AreDistinct, Hinted, IsForgotten, hint_at}
+use Rattle.cyc_finder.specs.Indexes.{Entry, id_in, index_in, index_of, IsIndexed, times}
 use Rattle.cyc_finder.proofs.RisingIds.{look_up_read, look_up_at, look_up_gap, look_up_inserted, look_up_removed, is_at_place}
 use Rattle.cyc_finder.proofs.Few.{times_at}
 
@@ -45,22 +43,6 @@ pub index_removed : (xs : List Entry) → Rises id_in xs → (id position : ℕ)
 index_removed xs rises id position at j =
     ap (option_map index_in) (look_up_removed id_in xs rises id position at j) ∙ index_cond (eqb j id) None (look_up id_in j xs)
 
--- an id that has an index has one that stands in the list
-some_index : (xs : List Entry) (id i : ℕ) → index_of id xs ≡ Some i → 0 < times i (map index_in xs)
-some_index [] id i e = absurd (let no : None ≡ Some i = e in cc)
-some_index (x ∷ xs) id i e = by (eqb x.id id) e (some_index xs id i)
-  where
-    by : (b : Bool) → option_map index_in (cond b (Some x) (look_up id_in id xs)) ≡ Some i
-        → (index_of id xs ≡ Some i → 0 < times i (map index_in xs)) → 0 < times i (map index_in (x ∷ xs))
-    by true is later = let same : i ≡ x.index = cc in
-        let one : cond {A = ℕ} (eqb i x.index) 1 0 ≡ 1 = ap (λ b. cond {A = ℕ} b 1 0) (eq-eqb i x.index same) in
-        omega (arith, one)
-    by false is later = let some = later is in omega (arith, some)
-
-pub index_low : (limit : ℕ) (xs : List Entry) → AreDistinct limit (map index_in xs) → (id i : ℕ) → index_of id xs ≡ Some i
-    → i < limit
-index_low limit xs distinct id i is = (distinct i).1 (some_index xs id i is)
-
 -- an index that no id has stands nowhere
 pub free_is : (xs : List Entry) (index : ℕ) → Rises id_in xs → ¬ IsIndexed index xs → times index (map index_in xs) ≡ 0
 free_is xs index rises none = dite (ℕ_discrete (times index (map index_in xs)) 0)
@@ -84,50 +66,23 @@ indexes_remove xs position =
     map-append index_in (take position xs) (drop (suc position) xs)
     ∙ (λ y. sym (take-map index_in position xs) y ++ sym (drop-map index_in (suc position) xs) y)
 
-cond_true : {A : Type 0} (b : Bool) (x y : A) → b ≡ true → cond b x y ≡ x
-cond_true true x y e = refl
-cond_true false x y e = absurd (cc)
-
-cond_false : {A : Type 0} (b : Bool) (x y : A) → b ≡ false → cond b x y ≡ y
-cond_false true x y e = absurd (cc)
-cond_false false x y e = refl
-
--- the hints after an id came
-pub hinted_inserted : (xs ys : List Entry) (hs is : List ℕ) → Hinted xs hs is → (id index : ℕ)
-    → ((j : ℕ) → index_of j ys ≡ cond (eqb j id) (Some index) (index_of j xs))
-    → (at : ℕ) → at ≡ hint_at id → at < length hs → at < length is → index_of id xs ≡ None
-    → Hinted ys (set hs at id) (set is at index)
-hinted_inserted xs ys hs is h id index told at position l1 l2 absent k used = dite (ℕ_discrete k at)
-    (λ e.
-    let a : get_or (set hs at id) k 0 ≡ id = ap (λ (x : ℕ). get_or (set hs at id) x 0) e ∙ get_or-set_same hs at id 0 l1 in
-    let b : get_or (set is at index) k 0 ≡ index =
-    ap (λ (x : ℕ). get_or (set is at index) x 0) e ∙ get_or-set_same is at index 0 l2 in (
-      ap hint_at a ∙ (sym position ∙ sym e),
-      ap (λ (x : ℕ). index_of x ys) a
-          ∙ (told id ∙ (cond_true (eqb id id) (Some index) (index_of id xs) (eq-eqb id id refl) ∙ ap Some (sym b))),
-    ))
+-- an id that has an index stands somewhere
+pub index_found : (xs : List Entry) (id i : ℕ) → index_of id xs ≡ Some i → (k : ℕ) × (k < length xs)
+    × ((d : Entry) → get_or xs k d ≡ record { id = id; index = i })
+index_found [] id i e = absurd (cc)
+index_found (x ∷ xs) id i e = dite (ℕ_discrete x.id id)
+    (λ same.
+    let now : Some x.index ≡ Some i = ap (λ b. option_map index_in (cond b (Some x) (look_up id_in id xs)))
+    (sym (eq-eqb x.id id same)) ∙ e in
+    let is : x.index ≡ i = cc in (0, omega arith, λ d y. record { id = same y; index = is y }))
     (λ ne.
-    let a = get_or-set_other hs at k id 0 ne in
-    let b = get_or-set_other is at k index 0 ne in
-    let o = h k (λ z. used (a ∙ z)) in
-    let other : get_or hs k 0 ≢ id = λ e. let x : None ≡ Some (get_or is k 0) =
-    sym absent ∙ (ap (λ (x : ℕ). index_of x xs) (sym e) ∙ o.1) in absurd (cc) in (
-      ap hint_at a ∙ o.0,
-      ap (λ (x : ℕ). index_of x ys) a
-          ∙ (told (get_or hs k 0)
-          ∙ (cond_false (eqb (get_or hs k 0) id) (Some index) (index_of (get_or hs k 0) xs) (ne_eqb (get_or hs k 0) id other)
-          ∙ (o.1 ∙ ap Some (sym b)))),
-    ))
+    let now : index_of id xs ≡ Some i = ap (λ b. option_map index_in (cond b (Some x) (look_up id_in id xs)))
+    (sym (ne_eqb x.id id ne)) ∙ e in
+    let (k, low, at) = index_found xs id i now in (suc k, omega (arith, low), at))
 
--- and after it went
-pub hinted_removed : (xs ys : List Entry) (hs hs' is : List ℕ) → Hinted xs hs is → (id : ℕ)
-    → ((j : ℕ) → index_of j ys ≡ cond (eqb j id) None (index_of j xs)) → IsForgotten id hs hs' → Hinted ys hs' is
-hinted_removed xs ys hs hs' is h id told gone k used =
-    let g = gone k used in
-    let o = h k (λ z. used (g.0 ∙ z)) in
-    let other : get_or hs k 0 ≢ id = g.1 o.0 in (
-      ap hint_at g.0 ∙ o.0,
-      ap (λ (x : ℕ). index_of x ys) g.0
-          ∙ (told (get_or hs k 0)
-          ∙ (cond_false (eqb (get_or hs k 0) id) None (index_of (get_or hs k 0) xs) (ne_eqb (get_or hs k 0) id other) ∙ o.1)),
-    )
+-- an id that has none stands nowhere
+pub index_missing : (xs : List Entry) → Rises id_in xs → (id : ℕ) → index_of id xs ≡ None → (k : ℕ) (d : Entry) → k < length xs
+    → (get_or xs k d).id ≢ id
+index_missing xs rises id none k d low same =
+    let (i, some) = index_at xs rises (get_or xs k d).id k (is_at_place id_in xs k d low) in
+    let no : None ≡ Some i = sym none ∙ ap (λ n. index_of n xs) (sym same) ∙ some in absurd (cc)

@@ -1,9 +1,21 @@
 -- The map from ids to indexes, as its entries by rising id.
-use Rattle.std.specs.Prelude.{◌≡◌, ℕ, ◌+◌, ◌/◌, ◌%◌, ◌<◌, ◌≤◌, eqb, cond, Option, Some, List, [], ◌∷◌, slice_index}
+use Rattle.std.specs.Prelude.{◌≡◌, ℕ, ◌+◌, ◌/◌, ◌%◌, ◌<◌, ◌≤◌, eqb, cond, Option, Some, List, [], ◌∷◌}
 use Rattle.std.specs.Option.{option_map}
-use Rattle.cyc_types.specs.Limits.{cyclics}
-use Rattle.cyc_finder.specs.declared.finder.Entry.{Entry}
 use Rattle.cyc_finder.specs.Sorted.{look_up}
+
+-- an id with its index: on its CPU (`cyp_heap` of sys/cyclic_impl.h holds indexes), or at its level
+pub record Entry : Type 0 where
+  pub id : ℕ
+  pub index : ℕ
+
+-- what callers see of a finder: its entries by rising id, and the number of cyclics for which memory was taken
+pub record FinderView : Type 0 where
+  pub entries : List Entry
+  pub room : ℕ
+
+-- the finder at first: no id has an index
+abbrev pub new_finder : FinderView
+new_finder = record { entries = []; room = 1 }
 
 -- the id of an entry
 abbrev pub id_in : Entry → ℕ
@@ -29,17 +41,11 @@ times n (x ∷ xs) = cond (eqb n x) 1 0 + times n xs
 abbrev pub AreDistinct : ℕ → List ℕ → Type 0
 AreDistinct limit xs = (n : ℕ) → (times n xs ≤ 1) × (0 < times n xs → n < limit)
 
--- where the hint of an id stands: 256 ids in a row mostly have each their own, and so have 256 that are 16 apart, as those of
--- one of 16 CPUs are that get new cyclics in turn (our own rule)
+-- how many hints there are (our own rule)
+abbrev pub hints : ℕ
+hints = 256
+
+-- where the hint of an id stands: so many ids in a row mostly have each their own, and so have as many that are 16 apart, as
+-- those of one of 16 CPUs are that get new cyclics in turn (our own rule)
 unfoldable pub hint_at : ℕ → ℕ
-hint_at id = (id + id / cyclics) % cyclics
-
--- a hint that is not 0 is an id that belongs there, with its index
-abbrev pub Hinted : List Entry → List ℕ → List ℕ → Type 0
-Hinted entries hint_ids hint_indexes = (k : ℕ) → ¬ (slice_index hint_ids k ≡ 0)
-    → (hint_at (slice_index hint_ids k) ≡ k) × (index_of (slice_index hint_ids k) entries ≡ Some (slice_index hint_indexes k))
-
--- no hint that belongs there gives the id, and the others stay
-abbrev pub IsForgotten : ℕ → List ℕ → List ℕ → Type 0
-IsForgotten id before after = (k : ℕ) → ¬ (slice_index after k ≡ 0)
-    → (slice_index after k ≡ slice_index before k) × ((hint_at (slice_index before k) ≡ k) → ¬ (slice_index before k ≡ id))
+hint_at id = (id + id / hints) % hints

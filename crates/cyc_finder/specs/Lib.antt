@@ -1,4 +1,5 @@
 pub mod Sorted
 pub mod Halving
 pub mod Indexes
+pub mod Slots
 pub mod Shown

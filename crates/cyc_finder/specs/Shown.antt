@@ -1,15 +1,13 @@
 -- What holds of the fields of a `Finder` at all times.
-use Rattle.std.specs.Prelude.{◌≡◌, ◌≤◌, map, length, vec_capacity}
-use Rattle.cyc_types.specs.Limits.{cyclics}
+use Rattle.std.specs.Prelude.{◌*◌, ◌≤◌, map, vec_capacity}
 use Rattle.cyc_finder.specs.Sorted.{Rises}
-use Rattle.cyc_finder.specs.Indexes.{id_in, index_in, AreDistinct, Hinted}
+use Rattle.cyc_finder.specs.Indexes.{index_in, AreDistinct}
+use Rattle.cyc_finder.specs.Slots.{slot_id, entries_of, IsFirst}
 use Rattle.cyc_finder.specs.declared.finder.Finder.TheInside.{Inside}
 
--- the ids rise, no index stands twice, all memory is there, and each hint is right
+-- the ids rise, no index stands twice, as many can be gone as can be here, and the first that is here is known
 pub record IsFinder (f : Inside) : Type 0 where
-  pub rises : Rises id_in f.entries.items
-  pub distinct : AreDistinct cyclics (map index_in f.entries.items)
-  pub room : cyclics ≤ vec_capacity f.entries
-  pub id_hints : length f.hint_ids.items ≡ cyclics
-  pub index_hints : length f.hint_indexes.items ≡ cyclics
-  pub hinted : Hinted f.entries.items f.hint_ids.items f.hint_indexes.items
+  pub rises : Rises slot_id f.slots.items
+  pub distinct : AreDistinct f.room (map index_in (entries_of f.slots.items))
+  pub room : 2 * f.room ≤ vec_capacity f.slots
+  pub first : IsFirst f.slots.items f.first

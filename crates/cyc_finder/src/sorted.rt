@@ -71,6 +71,18 @@ pub fn search<T: HasId>(things: &[T], id: CyclicId) -> Result<usize, usize>
     search_unguessed(things, id)
 }
 
+/// Whether the id is above those of all things, as that of a new one mostly is. O(1).
+#[inline(always)]
+pub(crate) fn is_above_all<T: HasId>(things: &[T], id: CyclicId) -> bool
+    requires { Rises T.id_of things.now }
+    ensures { OnTrue result (IsGap T.id_of things.now id (length things.now)) }
+{
+    match things.last() {
+        Some(last) => last.id().number() < id.number(),
+        None => true,
+    }
+}
+
 /// As `search`, with a look at the last thing first: O(1) where the id is above all others, as that of a new thing mostly is.
 #[inline(always)]
 pub fn search_new<T: HasId>(things: &[T], id: CyclicId) -> Result<usize, usize>
@@ -78,10 +90,10 @@ pub fn search_new<T: HasId>(things: &[T], id: CyclicId) -> Result<usize, usize>
     ensures found { IfOk result (IsAt T.id_of things.now id) }
     ensures absent { IfErr result (IsGap T.id_of things.now id) }
 {
-    match things.last() {
-        Some(last) if last.id().number() < id.number() => Err(things.len()),
-        _ => search(things, id),
+    if !is_above_all(things, id) {
+        return search(things, id);
     }
+    Err(things.len())
 }
 
 /// As `search`, where the thing is known not to stand where it is guessed: it isn't looked for there first.

@@ -1,6 +1,6 @@
 //! An expiration with the index of its cyclic, among few and among many, and which of two expires first.
 
-ghost use Rattle.std.specs.Prelude.{◌≡◌, ◌+◌, ◌*◌, ◌/◌, ◌%◌, ◌<◌, ◌≤◌, ◌^◌, ◌↔◌, true, IfSome, IfNone};
+ghost use Rattle.std.specs.Prelude.{◌≡◌, ◌≢◌, ◌+◌, ◌*◌, ◌/◌, ◌%◌, ◌<◌, ◌≤◌, ◌^◌, ◌↔◌, true, IfSome, IfNone};
 ghost use Rattle.std.specs.Bool.{OnTrue, OnFalse};
 ghost use Rattle.cyc_types.specs.Limits.{cyclics, last_id};
 ghost use Rattle.cyc_types.specs.Series.{never};
@@ -66,6 +66,14 @@ impl Word {
     {
         Index::new((self.bits % BASE) as u16).unwrap()
     }
+
+    /// Whether it has this index.
+    fn is_of(self, index: Index) -> bool
+        ensures there { OnTrue result (self % cyclics ≡ index) }
+        ensures elsewhere { OnFalse result (self % cyclics ≢ index) }
+    {
+        self.bits % BASE == u64::from(index.number())
+    }
 }
 
 /// The moment at which a free index has its turn: it comes after every moment.
@@ -123,6 +131,14 @@ impl Entry {
         ensures { result ≡ index_of self.now }
     {
         self.word.index()
+    }
+
+    /// Whether it is the entry of the cyclic with this index.
+    pub(crate) fn is_of(&self, index: Index) -> bool
+        ensures there { OnTrue result (index_of self.now ≡ index) }
+        ensures elsewhere { OnFalse result (index_of self.now ≢ index) }
+    {
+        self.word.is_of(index)
     }
 
     /// The expiration and the index as one number, so that a comparison needs no branch.

@@ -9,16 +9,16 @@ use crate::entry::Entry;
 use cyc_types::Index;
 
 /// The place of the entry of this index, None where there is none (the walk of `cyclic_remove_here` and `cyclic_reprogram_here`).
+///
+/// It looks at the last one first: one that is armed again and again mostly expires after all others, and then stands behind them.
 pub(crate) fn find(few: &[Entry], index: Index) -> Option<usize>
     ensures none { IfNone result (HasNo index few.now) }
     ensures some { IfSome result (λ p. (p < length few.now) × (index_of (entry_at few.now p) ≡ index)) }
 {
-    for place in 0..few.len() {
-        if few[place].index().number() == index.number() {
-            return Some(place);
-        }
+    if few.last().is_some_and(|last| last.is_of(index)) {
+        return Some(few.len() - 1);
     }
-    None
+    few.iter().position(|entry| entry.is_of(index))
 }
 
 /// The place below this one whose entry expires first, of a place that has one below it.

@@ -36,38 +36,39 @@ fn play(entries: &mut [Entry], leaves: usize, position: usize) -> usize
     won
 }
 
-/// Plays the last games from this position on, at most four.
+/// Plays the next games from this position on, at most four. The answer is where the last of their winners stands.
 #[inline(always)]
-fn finish(entries: &mut [Entry], leaves: usize, position: usize)
+fn play_four(entries: &mut [Entry], leaves: usize, position: usize) -> usize
     requires few { leaves ≤ cyclics }
     requires long { length entries.old + 1 ≡ 2 * leaves }
     requires position { position + 1 < 2 * leaves }
-    requires near { 2 * leaves ≤ position + 32 }
     requires played { IsPlayedBut (position / 2) leaves entries.old }
+    ensures position { result + 1 < 2 * leaves }
+    ensures nearer { (most : ℕ) → 2 * leaves ≤ position + 32 * most → 2 * leaves ≤ result + 2 * most }
     ensures long { length entries.new ≡ length entries.old }
     ensures kept { (i : ℕ) → i < leaves → entry_at entries.new i ≡ entry_at entries.old i }
-    ensures played { IsPlayed leaves entries.new }
+    ensures played { IsPlayedBut (result / 2) leaves entries.new }
 {
     let last = 2 * leaves - 2;
     if position == last {
-        return;
+        return position;
     }
     let position = play(entries, leaves, position);
     if position == last {
-        return;
+        return position;
     }
     let position = play(entries, leaves, position);
     if position == last {
-        return;
+        return position;
     }
     let position = play(entries, leaves, position);
     if position == last {
-        return;
+        return position;
     }
-    play(entries, leaves, position);
+    play(entries, leaves, position)
 }
 
-/// Puts an entry into the leaf of an index, and plays the games above it again: at most eight. There is no loop, so that each winner
+/// Puts an entry into the leaf of an index, and plays the games above it again: at most twelve. There is no loop, so that each winner
 /// is chosen with no branch.
 #[inline(never)]
 fn replay(entries: &mut [Entry], leaves: usize, index: usize, entry: Entry)
@@ -80,25 +81,10 @@ fn replay(entries: &mut [Entry], leaves: usize, index: usize, entry: Entry)
     ensures others { (i : ℕ) → i < leaves → i ≢ index → entry_at entries.new i ≡ entry_at entries.old i }
     ensures played { IsPlayed leaves entries.new }
 {
-    let last = 2 * leaves - 2;
     entries[index] = entry;
-    if index == last {
-        return;
-    }
-    let position = play(entries, leaves, index);
-    if position == last {
-        return;
-    }
-    let position = play(entries, leaves, position);
-    if position == last {
-        return;
-    }
-    let position = play(entries, leaves, position);
-    if position == last {
-        return;
-    }
-    let position = play(entries, leaves, position);
-    finish(entries, leaves, position);
+    let position = play_four(entries, leaves, index);
+    let position = play_four(entries, leaves, position);
+    play_four(entries, leaves, position);
 }
 
 /// Puts an entry into the leaf of an index, and plays the games above it again.

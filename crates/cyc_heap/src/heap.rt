@@ -24,7 +24,7 @@ use std::marker::Model;
 /// The size is the number of indexes; of equal moments the smaller id expires first (our own rule).
 ///
 /// Few expirations are a heap in an array, as the kernel's, and many are a tournament (our own): a change of any expiration sifts
-/// it among the few, or plays the games above its index again, at most eight. An insertion that leads from few to many plays all
+/// it among the few, or plays the games above its index again, at most twelve. An insertion that leads from few to many plays all
 /// games, and a removal that leads back sifts all that are left; of the same leaves at least 16 others lie between two such calls.
 #[derive(Drop)]
 pub struct ExpiryHeap {
@@ -112,7 +112,7 @@ impl ExpiryHeap {
     }
 
     /// Adds free indexes up to this size (`cyclic_expand`). Takes no memory. O(1), but for a call that lays out more leaves, twice as
-    /// many where the memory is there: it writes at most 511 entries, and where many play it plays all games.
+    /// many where the memory is there: it writes fewer than twice `CYCLICS` entries, and where many play it plays all games.
     pub fn widen(&mut self, size: usize)
         requires few { size ≤ cyclics }
         requires reserved { size ≤ self.old.room }

@@ -15,6 +15,8 @@ mod reports;
 #[cfg(test)]
 mod several;
 #[cfg(test)]
+mod sixteen;
+#[cfg(test)]
 mod stopping;
 #[cfg(test)]
 mod tests;

@@ -6,7 +6,7 @@ use cyc_machine::{
     Command, Fault, Out, PutFailed, RunFault, Sink, command_of, read_script, replay, status_of,
 };
 use cyc_script::Script;
-use cyc_types::Refusal;
+use cyc_types::{CYCLICS, Refusal};
 use std::alloc::{AllocError, Global};
 use std::fmt::Write;
 use std::process::Abort;
@@ -142,7 +142,7 @@ fn text_of(alloc: Global, script: &Script) -> Option<Vec<u8>> {
 }
 
 /// What the replay of a script of this text writes.
-fn written<R: AllocGlobal + Abort>(rt: &R, script: &str) -> Vec<u8> {
+pub(crate) fn written<R: AllocGlobal + Abort>(rt: &R, script: &str) -> Vec<u8> {
     let script = script_of(rt, script);
     text_of(rt.alloc(), &script).expect(rt, "a text")
 }
@@ -160,75 +160,117 @@ fn each_script_gives_its_text(rt: HostRuntime) {
     gives_texts(&rt, &RUNS);
 }
 
-/// Adds the cyclic of this number and drains both old banks.
-fn push_add(script: &mut String, k: u32) -> Result<(), AllocError> {
-    write!(
-        script,
-        "[\"add\",\"c{k}\",\"low\",1,1],[\"softint\",0,\"low\",1],[\"softint\",0,\"lock\",1],"
-    )
+/// The cyclics that a CPU can hold.
+pub(crate) const MOST: u32 = CYCLICS as u32;
+
+/// Whether both soft interrupts follow the add of this number, counted from 1: after each power of two up to 2,048, so that the levels
+/// have followed to the bank that it filled.
+fn is_drained(number: u32) -> bool {
+    1 < number && number < MOST && number & (number - 1) == 0
 }
 
-/// The three lines of such steps.
-fn push_add_text(text: &mut String, k: u32) -> Result<(), AllocError>
-    requires { k < 256 }
-{
-    let (add, low, lock) = (3 * k + 1, 3 * k + 2, 3 * k + 3);
-    write!(text, "{add} ok\n{low} ran 0 idle\n{lock} ran 0 idle\n")
+/// Adds the cyclic of this number, counted from 0, and drains both old banks before the next growth.
+fn push_add(script: &mut String, k: u32, kind: &str) -> Result<(), AllocError> {
+    write!(script, "[\"add\",\"c{k}\",{kind}],")?;
+    if is_drained(k.wrapping_add(1)) {
+        script.push_str("[\"softint\",0,\"low\",1],[\"softint\",0,\"lock\",1],")?;
+    }
+    Ok(())
 }
 
-/// The report of a cyclic that never expired.
-fn push_report(text: &mut String, k: u32) -> Result<(), AllocError> {
-    write!(text, "c{k} expired 0 called 0 lost 0 pending 0\n")
+/// The lines of such steps, of which the first has this number. The answer is the number of the next.
+fn push_add_text(text: &mut String, k: u32, step: u32) -> Result<u32, AllocError> {
+    write!(text, "{step} ok\n")?;
+    let (low, lock) = (step.wrapping_add(1), step.wrapping_add(2));
+    if !is_drained(k.wrapping_add(1)) {
+        return Ok(low);
+    }
+    write!(text, "{low} ran 0 idle\n{lock} ran 0 idle\n")?;
+    Ok(step.wrapping_add(3))
 }
 
-/// A script that fills a CPU, each add followed by the soft interrupts that drain its old banks, and then takes these steps.
-fn filled(alloc: Global, last: &str) -> Result<String, AllocError> {
+/// A script that fills a CPU with cyclics of this kind, and then takes these steps.
+fn filled(alloc: Global, kind: &str, last: &str) -> Result<String, AllocError> {
     let mut script = String::new(alloc);
     script.push_str("{\"cpus\":1,\"steps\":[")?;
-    for k in 0..256u32 {
-        push_add(&mut script, k)?;
+    for k in 0..MOST {
+        push_add(&mut script, k, kind)?;
     }
     script.push_str(last)?;
     script.push_str("]}")?;
     Ok(script)
 }
 
-/// The text of that script, with these lines of its last steps, and this report of the first cyclic.
-fn filled_text(alloc: Global, last: &str, first: &str) -> Result<String, AllocError> {
+/// The report of a cyclic that was called for each of its expirations.
+pub(crate) fn push_report(text: &mut String, k: u32, calls: u32) -> Result<(), AllocError> {
+    write!(
+        text,
+        "c{k} expired {calls} called {calls} lost 0 pending 0\n"
+    )
+}
+
+/// The text of that script, with these lines of its last steps, and the calls of the first cyclic and of each other that filled the CPU.
+/// The last never expired.
+fn filled_text(alloc: Global, lines: &str, first: u32, others: u32) -> Result<String, AllocError> {
     let mut text = String::new(alloc);
-    for k in 0..256u32 {
-        push_add_text(&mut text, k)?;
+    let mut step = 1;
+    for k in 0..MOST {
+        step = push_add_text(&mut text, k, step)?;
     }
-    text.push_str(last)?;
-    text.push_str(first)?;
-    for k in 1..257u32 {
-        push_report(&mut text, k)?;
+    text.push_str(lines)?;
+    push_report(&mut text, 0, first)?;
+    for k in 1..MOST {
+        push_report(&mut text, k, others)?;
     }
+    push_report(&mut text, MOST, 0)?;
     Ok(text)
 }
 
+/// Ends the test where a CPU that is filled with cyclics of this kind writes another text.
+fn fills<R: AllocGlobal + Abort>(
+    rt: &R,
+    kind: &str,
+    last: &str,
+    lines: &str,
+    first: u32,
+    others: u32,
+) {
+    let script = filled(rt.alloc(), kind, last).expect(rt, "a script");
+    let text = filled_text(rt.alloc(), lines, first, others).expect(rt, "a text");
+    let written = written(rt, script.as_str());
+    assert_eq!(rt; written.as_slice(), text.as_bytes(), "{last}");
+}
+
 #[test]
-fn a_cpu_holds_256_cyclics_and_another_after_a_removal(rt: HostRuntime) {
-    let never = "c0 expired 0 called 0 lost 0 pending 0\n";
+fn a_cpu_holds_4096_cyclics_and_another_after_a_removal(rt: HostRuntime) {
     for (last, lines, first) in [
-        ("[\"add\",\"c256\",\"low\",1,1]", "769 refused 5\n", never),
+        ("[\"add\",\"c4096\",\"low\",1,1]", "4119 refused 5\n", 0),
         (
-            "[\"remove\",\"c0\"],[\"add\",\"c256\",\"low\",1,1]",
-            "769 removed c0 0\n770 ok\n",
-            never,
+            "[\"remove\",\"c0\"],[\"add\",\"c4096\",\"low\",1,1]",
+            "4119 removed c0 0\n4120 ok\n",
+            0,
         ),
         // while a removal is open it is full too, and that is named first
         (
-            "[\"reprogram\",\"c0\",0],[\"advance\",0],[\"remove\",\"c0\"],[\"add\",\"c256\",\"low\",1,1],[\"softint\",0,\"low\",8]",
-            "769 ok\n770 fired 1 lost 0\n771 kept 1\n772 refused 5\n773 ran 1 idle\n773 removed c0 1\n",
-            "c0 expired 1 called 1 lost 0 pending 0\n",
+            "[\"reprogram\",\"c0\",0],[\"advance\",0],[\"remove\",\"c0\"],[\"add\",\"c4096\",\"low\",1,1],[\"softint\",0,\"low\",8]",
+            "4119 ok\n4120 fired 1 lost 0\n4121 kept 1\n4122 refused 5\n4123 ran 1 idle\n4123 removed c0 1\n",
+            1,
         ),
     ] {
-        let script = filled(rt.alloc(), last).expect(&rt, "a script");
-        let text = filled_text(rt.alloc(), lines, first).expect(&rt, "a text");
-        let written = written(&rt, script.as_str());
-        assert_eq!(rt; written.as_slice(), text.as_bytes(), "{last}");
+        fills(&rt, "\"low\",1,1", last, lines, first, 0);
     }
+}
+
+#[test]
+fn all_that_a_cpu_holds_expire_in_one_advance(rt: HostRuntime) {
+    fills(
+        &rt,
+        "\"high\",10,10",
+        "[\"add\",\"c4096\",\"high\",10,10],[\"advance\",10]",
+        "4119 refused 5\n4120 fired 4096 lost 0\n",
+        1,
+        1,
+    );
 }
 
 /// A sink that fails at a put, after a part of it.

@@ -224,7 +224,7 @@ fit_in low high (p ∷ ps) cs rise h =
     (each_both (λ q. IsSome (found q.id cs)) (λ q. p.id < q.id) ps h.1 (each_above p.id high ps rise.1))) in
     omega (arith, less, rest)
 
--- a CPU has at most 256 cyclics
+-- a CPU has no more cyclics than it can hold
 pub few_cyclics : (c : Cpu) → Whole c → length c.cyclics ≤ most_cyclics
 few_cyclics c w =
     let room = w.room in let size = w.agrees.size in let bound = (w.fit Lock).bank_bound in

@@ -70,7 +70,7 @@ pub fn firing_side_is_ready()
 /// expirations are its finished calls, its outstanding ones and those lost, a cyclic with calls outstanding stands in one place,
 /// and no list outgrows its bank. This is so where each Admit is enabled, no cyclic expires while its removal is open, nor 2^64
 /// times in a stay, each Mark finds no removal open, each Clear its own open and no call outstanding, and each Switch goes to a
-/// greater bank, up to 8, while both sides are at one bank.
+/// greater bank, up to the greatest, while both sides are at one bank.
 pub fn levels_stay_lawful()
     ensures start { (cpus ceiling names n : ℕ) (soft : Soft) → Lawful (level_on n soft (start cpus ceiling names)) }
     ensures run { LevelsStayLawful }

@@ -11,8 +11,8 @@ ghost use Rattle.cyc_places.specs.Places.{RecordsView, IsRecord, HasNoRecord, ne
 ghost use Rattle.cyc_places.specs.Places.{summed, HasRisingIds, HaveCounts, HaveAllCounts, IsReceiptOf};
 
 use crate::record::{CPUS, Placement, Record};
-use cyc_finder::{HasId, hint_of, search};
-use cyc_types::{CYCLICS, CyclicId, Level, Receipt, Refusal, Sent};
+use cyc_finder::{HINTS, HasId, hint_of, search};
+use cyc_types::{CyclicId, Level, Receipt, Refusal, Sent};
 use std::alloc::Global;
 use std::collections::VecDeque;
 use std::marker::Model;
@@ -46,7 +46,7 @@ pub struct Records {
     spare: Option<Box<Record>>,
     alloc: Global,
     // For the low bits of an id where `seek` found the last such one: right or not, it says where to look.
-    hints: [u16; CYCLICS as usize],
+    hints: [u16; HINTS],
 }
 
 impl Model for Records {
@@ -94,7 +94,7 @@ impl Records {
             ids: VecDeque::new(alloc),
             spare: None,
             alloc,
-            hints: [0; CYCLICS as usize],
+            hints: [0; HINTS],
         }
     }
 

@@ -1,5 +1,5 @@
 -- An advance of the machine, from the setting of its clock to the fire of the last CPU.
-use Rattle.std.proofs.Common.{◌≡◌, ℕ, ◌<◌, ◌≤◌, refl, ap, sym, ◌∙◌, List, [], None, Some, subst, true, false, arith}
+use Rattle.std.proofs.Common.{◌≡◌, ℕ, ◌<◌, ◌≤◌, refl, ap, sym, ◌∙◌, List, [], length, None, Some, subst, true, false, arith}
 use Rattle.std.specs.Prelude.{nat_le}
 use Rattle.std.proofs.lemmas.Bool.Decides.{nat_tests}
 use Rattle.cyc_types.specs.Series.{never}
@@ -21,6 +21,7 @@ use Rattle.cyc_model.proofs.Still.{still_fires}
 use Rattle.cyc_replay.proofs.Named.{reached_good}
 use Rattle.cyc_replay.proofs.Remembering.{remembers_on, remembers_does}
 use Rattle.cyc_replay.specs.Advancing.{IsAdvancing}
+use Rattle.cyc_replay.specs.Room.{HaveRoomFor}
 
 below_never : (now : ℕ) → now < never → nat_le never now ≡ false
 below_never now low = grind (arith, nat_tests)
@@ -104,7 +105,7 @@ advanced step k n expired lost now s first t a clock before d =
             (record { names = refl; counted = refl; named = refl }) (let last = still.last in omega (arith, last));
         tally = a.tally;
         most = a.most;
-        room = a.room;
+        room = subst (λ j. HaveRoomFor j t.system.cpus) (sym (ap length still.names)) a.room;
       };
       admissions = o.admissions;
       free = o.free;

@@ -1,5 +1,5 @@
 -- A step that was done, and one that was refused.
-use Rattle.std.proofs.Common.{◌≡◌, ℕ, ◌+◌, ◌≤◌, List, [], ◌∷◌, map, Some, None, ap, sym, ◌∙◌, subst, arith, refl}
+use Rattle.std.proofs.Common.{◌≡◌, ℕ, ◌+◌, ◌≤◌, List, [], ◌∷◌, length, map, Some, None, ap, sym, ◌∙◌, subst, arith, refl}
 use Rattle.std.specs.Prelude.{Result, Ok, Err}
 use Rattle.cyc_types.specs.Tally.{tally_count}
 use Rattle.cyc_types.specs.declared.refusal.Refusal.{Refusal}
@@ -21,7 +21,8 @@ use Rattle.cyc_system.specs.System.{SystemView}
 use Rattle.cyc_system.specs.Agreement.{most_on}
 use Rattle.cyc_agreement.specs.Suspending.{is_suspended}
 use Rattle.cyc_model.proofs.Known.{IsLasting}
-use Rattle.cyc_replay.specs.Room.{HaveAllRoom}
+use Rattle.cyc_replay.specs.Room.{HaveRoomFor}
+use Rattle.cyc_replay.proofs.Introduced.{introduces_does}
 use Rattle.cyc_replay.proofs.Mosts.{most_kept}
 use Rattle.cyc_replay.proofs.Named.{reached_good}
 use Rattle.cyc_replay.proofs.Remembering.{SameNames, remembers_on, remembers_does}
@@ -65,12 +66,12 @@ pub record Leaves (x : Step) (s : State) (n : Machine) : Type 0 where
 pub record Keeps (s : State) (v : SystemView Tables) : Type 0 where
   pub system : IsSystem v
   pub most : AllMost v.cpus
-  pub room : HaveAllRoom v.cpus
+  pub room : HaveRoomFor (length s.names) v.cpus
   pub suspended : s.suspended ≡ is_suspended v
 
 pub keeps : (s : State) (m : Machine) (w : SystemView Tables) → Holds s m → IsSystem w
     → ((n : ℕ) → most_on n w.cpus ≡ most_on n m.system.cpus)
-    → HaveAllRoom w.cpus → is_suspended w ≡ is_suspended m.system → Keeps s w
+    → HaveRoomFor (length s.names) w.cpus → is_suspended w ≡ is_suspended m.system → Keeps s w
 keeps s m w h system most room mark = record {
   system = system;
   most = most_kept m.system.cpus w.cpus most h.most;
@@ -103,7 +104,7 @@ done_comes x s m n h kept done clock tally leaves remembers texts indexes step g
         remembers = remembers texts indexes step;
         tally = subst (λ t. IsWide t) (sym tally) h.tally;
         most = kept.most;
-        room = kept.room;
+        room = subst (λ k. HaveRoomFor k n.system.cpus) (sym (introduces_does texts indexes step s x).names) kept.room;
       };
       admissions = o.admissions;
       free = o.free;

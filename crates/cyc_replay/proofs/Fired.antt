@@ -50,7 +50,7 @@ use Rattle.cyc_replay.proofs.Named.{reached_good}
 use Rattle.cyc_replay.proofs.Unrefused.{IsFew, EachTimer, same_range, still_wide, never_stopped}
 use Rattle.cyc_model.proofs.Growing.{few_times, grows_fires}
 use Rattle.cyc_replay.proofs.Remembering.{SameNames, remembers_on}
-use Rattle.cyc_replay.specs.Room.{HaveAllRoom}
+use Rattle.cyc_replay.specs.Room.{HaveRoomFor}
 use Rattle.cyc_replay.proofs.Grown.{few_timers, few_reached, many_reached}
 
 -- ---- what a fire keeps
@@ -286,7 +286,7 @@ passed_on step n expired lost s first m t a same clock names next =
       system = subst (λ v. IsSystem v) (sym system) a.system;
       names = a.names ∙ sym (ap (map number_of) names.names);
       remembers = remembers_on s s m t a.remembers names (omega arith) (λ id low gone. gone) (λ id low gone. refl);
-      room = subst (λ (v : SystemView Tables). HaveAllRoom v.cpus) (sym system) a.room;
+      room = subst (λ (v : SystemView Tables). HaveRoomFor (length s.names) v.cpus) (sym system) a.room;
       tally = subst (λ x. IsWide x) (sym tally) a.tally;
       most = subst (λ (v : SystemView Tables). AllMost v.cpus) (sym system) a.most;
     }

@@ -1,6 +1,6 @@
 -- A juggle of a system is what the definition says.
-use Rattle.std.proofs.Common.{◌≡◌, ℕ, zero, suc, ◌+◌, inl, inr, Bool, not, List, [], ◌∷◌, ◌++◌, length, map, filter, get_or, Some}
-use Rattle.std.proofs.Common.{None, refl, ap, sym, ◌∙◌, subst, arith}
+use Rattle.std.proofs.Common.{◌≡◌, ℕ, zero, suc, ◌+◌, ◌≤◌, inl, inr, Bool, not, List, [], ◌∷◌, ◌++◌, length, map}
+use Rattle.std.proofs.Common.{filter, get_or, Some, None, refl, ap, sym, ◌∙◌, subst, arith}
 use Rattle.std.specs.Prelude.{nat_le, Result, Ok, Err}
 use Rattle.std.specs.List.{slice_get}
 use Rattle.std.specs.Option.{option_map_or}
@@ -13,6 +13,7 @@ use Rattle.cyc_script.specs.declared.step.Step.TheVariants as steps
 use Rattle.cyc_text.specs.Lines.{moved}
 use Rattle.cyc_cpu.specs.Cpu.{CpuView}
 use Rattle.cyc_cpu.specs.Soft.{raise_tables}
+use Rattle.cyc_system.specs.Agreement.{Agrees}
 use Rattle.cyc_system.specs.System.{SystemView, ids_of, ids_on}
 use Rattle.cyc_system.specs.Turn.{Turn as TurnThere}
 use Rattle.cyc_system.specs.Turn.TheVariants as there
@@ -28,13 +29,14 @@ use Rattle.cyc_model.specs.Juggle.{Juggled, counted, take_turn, one_turn, juggle
 use Rattle.cyc_cpu_model.specs.Shown.{shown}
 use Rattle.cyc_replay.specs.Shown.{shown_list, ShowsSystem, IsSystem}
 use Rattle.cyc_replay.specs.SystemWords.{Gives, IsDoneWith, IsRefusedFor}
-use Rattle.cyc_replay.specs.Room.{HaveAllRoom}
+use Rattle.cyc_replay.specs.Room.{HaveRoomFor}
 use Rattle.cyc_replay.proofs.Asking.{NoMemory, omnipresent_shown, same_no_cpu, same_offline, no_memory_when}
 use Rattle.cyc_replay.proofs.Asking.{no_memory_else}
 use Rattle.cyc_replay.proofs.Asking.{is_refused, same_error}
 use Rattle.cyc_replay.proofs.Removals.{same_removal, no_memory_busy}
 use Rattle.cyc_replay.proofs.Destinations.{same_numbers}
 use Rattle.cyc_replay.proofs.Half.{Half, half}
+use Rattle.cyc_replay.proofs.Agreeing.{turn_agrees, turn_records}
 use Rattle.cyc_replay.proofs.Keeping.{kept_turn}
 use Rattle.cyc_replay.proofs.Going.{Goes, goes_alike, goes_then}
 use Rattle.cyc_replay.proofs.Turning.{as_turn, turned}
@@ -74,10 +76,11 @@ counted_as there.StaysPending d a b same = ap (λ (r : JuggleReport). record r {
 counted_as there.StaysRefused d a b same = ap (λ (r : JuggleReport). record r { refused = r.refused + 1 }) same
 counted_as there.Moves d a b same = ap (λ (r : JuggleReport). record r { moved = r.moved + 1 }) same
 
-all_turns : (source : ℕ) (ids : List ℕ) (report : JuggleReport) (v w : SystemView Tables) → Half v → HaveAllRoom v.cpus
+all_turns : (source : ℕ) (ids : List ℕ) (report : JuggleReport) (v w : SystemView Tables) → Half v → Agrees v
+    → (wanted : ℕ) → length v.records ≤ wanted → HaveRoomFor wanted v.cpus
     → Turns raise_tables source ids report v w → (given : List ℕ) × ((s : State) (indexes : ℕ → ℕ) → ShowsSystem s v
     → Gives indexes s.admissions given → JugglesTo report given s (juggle_each plain indexes source ids s) w)
-all_turns source [] report v w hv all (is, same) = (
+all_turns source [] report v w hv agrees wanted few all (is, same) = (
   [],
   λ s indexes h gives. record {
     told = sym is;
@@ -86,10 +89,12 @@ all_turns source [] report v w hv all (is, same) = (
     admissions = omega arith;
   },
 )
-all_turns source (id ∷ ids) report v w hv all (t, u, rest, takes, is, more) =
-    let one = turned source id t v u hv all takes in
+all_turns source (id ∷ ids) report v w hv agrees wanted few all (t, u, rest, takes, is, more) =
+    let one = turned source id t v u hv agrees wanted few all takes in
+    let long = turn_records source id t v u takes in
     let kept = kept_turn source id t v u hv takes in
-    let later = all_turns source ids rest u w kept.half (kept.room all) more in (
+    let later = all_turns source ids rest u w kept.half (turn_agrees source id t v u hv agrees takes) wanted
+    (omega (arith, long, few)) (kept.room wanted all) more in (
       one.0 ++ later.0,
       λ s indexes h gives.
           let first = one.1 s indexes h (gives_first indexes s.admissions one.0 later.0 gives) in
@@ -147,11 +152,12 @@ module _ (n : ℕ) (s : State) (v : SystemView Tables) (h : ShowsSystem s v) (hv
   same_single = λ z. filter (λ id. not (omnipresent_shown id s v h z)) (same_ids z)
 
   -- all that may leave have their turns
-  pub juggles : (report : JuggleReport) (w : SystemView Tables) → HaveAllRoom v.cpus → MovesAway raise_tables n report v w
+  pub juggles : (report : JuggleReport) (w : SystemView Tables) → Agrees v → HaveRoomFor (length v.records) v.cpus
+      → MovesAway raise_tables n report v w
       → (given : List ℕ) × ((indexes : ℕ → ℕ) → Gives indexes s.admissions given
       → JugglesTo report given s (juggled plain indexes n s) w)
-  juggles report w all turns =
-      let f = all_turns n (single_there n v) report v w hv all turns in (
+  juggles report w agrees all turns =
+      let f = all_turns n (single_there n v) report v w hv agrees (length v.records) (omega arith) all turns in (
         f.0,
         λ indexes gives. subst (λ ids. JugglesTo report f.0 s (juggle_each plain indexes n ids s) w) (sym same_single)
             (f.1 s indexes h gives),
@@ -164,12 +170,13 @@ report_of d (Ok report) = report
 report_of d (Err e) = d
 
 module _ (n : ℕ) (s : State) (v w : SystemView Tables) (sys : IsSystem v) (h : ShowsSystem s v) where
-  pub juggle_accepted : HaveAllRoom v.cpus → (report : JuggleReport) → Changes raise_tables v (Juggle n (Ok report)) w
+  pub juggle_accepted : HaveRoomFor (length v.records) v.cpus → (report : JuggleReport)
+      → Changes raise_tables v (Juggle n (Ok report)) w
       → IsDoneWith (λ step. moved step report) (steps.Juggle n) s w
   juggle_accepted all report (inl (e, some, answer, same)) = absurd (let isnt : Ok report ≡ Err e = answer in cc)
   juggle_accepted all report (inr (none, (own, answer, turns))) =
       let same : report ≡ own = ap (report_of report) answer in
-      let (given, j) = juggles n s v h (half v sys) own w all turns in
+      let (given, j) = juggles n s v h (half v sys) own w sys.agrees all turns in
       record {
         done = record {
           accepted = same_whys n s v h (half v sys) ∙ none;

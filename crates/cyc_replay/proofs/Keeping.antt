@@ -53,7 +53,7 @@ use Rattle.cyc_system.specs.Calls.{Juggle, Offline, Online, FireOne, SoftInterru
 use Rattle.cyc_agreement.specs.Suspending.{on_each}
 use Rattle.cyc_cpu_model.proofs.Stopping.{tied_always}
 use Rattle.cyc_replay.specs.Shown.{IsSystem}
-use Rattle.cyc_replay.specs.Room.{HaveAllRoom}
+use Rattle.cyc_replay.specs.Room.{HaveRoomFor}
 use Rattle.cyc_replay.proofs.Rooms.{room_same, room_set, room_did}
 use Rattle.cyc_replay.proofs.Cpus.{at_same, done_at}
 use Rattle.cyc_replay.proofs.Half.{Half, IsFull, half, whole, half_same, half_parts, half_cpus, half_done, half_put}
@@ -65,23 +65,27 @@ SameMost v w = (n : ℕ) → most_on n w ≡ most_on n v
 pub record Kept (v w : SystemView Tables) : Type 0 where
   pub half : Half w
   most : SameMost v.cpus w.cpus
-  pub room : HaveAllRoom v.cpus → HaveAllRoom w.cpus
+  pub room : (wanted : ℕ) → HaveRoomFor wanted v.cpus → HaveRoomFor wanted w.cpus
 
 kept_same : (v w : SystemView Tables) → Half v → w ≡ v → Kept v w
 kept_same v w h same = record {
   half = half_same v w h same;
   most = λ n. ap (λ (x : SystemView Tables). most_on n x.cpus) same;
-  room = λ all. subst (λ (x : SystemView Tables). HaveAllRoom x.cpus) (sym same) all;
+  room = λ wanted all. subst (λ (x : SystemView Tables). HaveRoomFor wanted x.cpus) (sym same) all;
 }
 
 kept_then : (v u w : SystemView Tables) → Kept v u → Kept u w → Kept v w
-kept_then v u w a b = record { half = b.half; most = λ n. b.most n ∙ a.most n; room = λ all. b.room (a.room all) }
+kept_then v u w a b = record {
+  half = b.half;
+  most = λ n. b.most n ∙ a.most n;
+  room = λ wanted all. b.room wanted (a.room wanted all);
+}
 
 kept_parts : (v u w : SystemView Tables) → Kept v u → w.cpus ≡ u.cpus → w.records ≡ u.records → w.last ≡ u.last → Kept v w
 kept_parts v u w k cpus records last = record {
   half = half_parts u w k.half cpus records last;
   most = λ n. ap (most_on n) cpus ∙ k.most n;
-  room = λ all. subst HaveAllRoom (sym cpus) (k.room all);
+  room = λ wanted all. subst (HaveRoomFor wanted) (sym cpus) (k.room wanted all);
 }
 
 -- ---- calls on its CPUs
@@ -106,7 +110,7 @@ kept_did c v u h did = record {
   half = half_done c.cpu c.call v u h (done_at c.cpu c.call v.cpus u h.long h.tied did);
   most = λ m. most_set c.cpu m did.before did.after v.cpus u did.here did.rest
       (changes_most raise_tables did.before did.after c.call did.change);
-  room = room_did c v.cpus u did;
+  room = λ wanted. room_did wanted c v.cpus u did;
 }
 
 kept_works : (way : List CallOn) (v : SystemView Tables) (u : CpusView Tables) → Half v → Works raise_tables way v.cpus u
@@ -125,7 +129,7 @@ kept_only way v w h (works, records, last) =
 kept_put : (v : SystemView Tables) (k : ℕ) (r x : Record) → Half v → IsRecord v.records k r → x.id ≡ r.id
     → IsFull (length v.cpus.cpus) x
     → Kept v (record v { records = slice_set v.records k x })
-kept_put v k r x h is same new = record { half = half_put v k r x h is same new; most = λ n. refl; room = λ all. all }
+kept_put v k r x h is same new = record { half = half_put v k r x h is same new; most = λ n. refl; room = λ wanted all. all }
 
 kept_placed : (id : ℕ) (p : RecordPlacement) (v u w : SystemView Tables) → Kept v u → w.cpus ≡ u.cpus → Records id p u w
     → Kept v w
@@ -172,7 +176,7 @@ kept_more v u w id level p k same kept_last named cpus records last = record {
   half = half_parts _ w (half_more u id level p k.half (named ∙ ap (λ n. n + 1) (sym kept_last))) cpus
       (records ∙ ap (λ rs. rs ++ new_record id level p ∷ []) (sym same)) last;
   most = λ n. ap (most_on n) cpus ∙ k.most n;
-  room = λ all. subst HaveAllRoom (sym cpus) (k.room all);
+  room = λ wanted all. subst (HaveRoomFor wanted) (sym cpus) (k.room wanted all);
 }
 
 -- ---- moves
@@ -224,7 +228,7 @@ kept_switched n b v h = record {
     given = h.given;
   };
   most = λ m. refl;
-  room = λ all. all;
+  room = λ wanted all. all;
 }
 
 kept_leaves : (n : ℕ) (report : JuggleReport) (answer : Result (Unit {0}) Refusal) (v w : SystemView Tables) → Half v
@@ -272,7 +276,7 @@ kept_answers : (id : ℕ) (receipt : Receipt) (v u w : SystemView Tables) → Ke
 kept_answers id receipt v u w k a = record {
   half = half_parts (record u { records = remove u.records a.place }) w (half_gone u a.place k.half) a.cpus a.records a.last;
   most = λ n. ap (most_on n) a.cpus ∙ k.most n;
-  room = λ all. subst HaveAllRoom (sym a.cpus) (k.room all);
+  room = λ wanted all. subst (HaveRoomFor wanted) (sym a.cpus) (k.room wanted all);
 }
 
 -- ---- a CPU that takes part again
@@ -346,7 +350,7 @@ kept_online n now (Ok done) v w h ((u, works, cpus), records, last) =
           (half_mapped (after_return n v.cpus) (returned_id n v.cpus) (record v { cpus = switched_on n u }) both.half
           (λ r full. returned_full n (length u.cpus) v.cpus r full)) cpus records last;
       most = λ m. ap (most_on m) cpus ∙ both.most m;
-      room = λ all. subst HaveAllRoom (sym cpus) (both.room all);
+      room = λ wanted all. subst (HaveRoomFor wanted) (sym cpus) (both.room wanted all);
     }
 
 -- ---- each call
@@ -436,7 +440,8 @@ module _ {C : Type 0} (handler : Calls C) where
             (λ ne. h.tied m cpu (cpu_beside n m cpu y v ne (subst (λ u. slice_get u.cpus m ≡ Some cpu) did.rest is))))
             (ap (λ (u : CpusView Tables). length u.online) did.rest ∙ h.long ∙ sym many) many) refl records last;
         most = λ m. most_set n m x y v w did.here did.rest (keeps (running s.calls x) (running t.calls y) did.change).most;
-        room = room_set n x y v w did.here did.rest (room_same x y (keeps (running s.calls x) (running t.calls y) did.change));
+        room = λ wanted. room_set wanted n x y v w did.here did.rest
+            (room_same wanted x y (keeps (running s.calls x) (running t.calls y) did.change));
       }
 
   does_keep : (call : SystemCall) (s t : RunningSystem C Tables) → Half s.system
@@ -478,5 +483,5 @@ module _ {C : Type 0} (handler : Calls C) where
 
   pub room_kept : (call : SystemCall) (s t : RunningSystem C Tables)
       → Does handler raise_tables (Interrupts handler) s call t → IsSystem s.system
-      → HaveAllRoom s.system.cpus → HaveAllRoom t.system.cpus
+      → (wanted : ℕ) → HaveRoomFor wanted s.system.cpus → HaveRoomFor wanted t.system.cpus
   room_kept call s t did sys = (does_keep call s t (half s.system sys) did).room

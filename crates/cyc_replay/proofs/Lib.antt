@@ -21,6 +21,8 @@ mod Going
 mod Spreading
 mod Returning
 mod Rooms
+mod Records
+mod Agreeing
 mod Keeping
 mod Suspensions
 pub mod SystemSuspending
@@ -32,6 +34,8 @@ pub mod SystemAdvancing
 pub mod Mosts
 pub mod Named
 pub mod Remembering
+pub mod Introduced
+pub mod Wanted
 pub mod Doing
 pub mod Suspended
 pub mod Taking

@@ -1,6 +1,6 @@
 -- The polls of the open removals after a soft interrupt, one after the other.
-use Rattle.std.proofs.Common.{◌≡◌, ℕ, ◌-◌, ◌<◌, ◌≤◌, append-nil, append_assoc, List, [], ◌∷◌, ◌++◌, map, Option, Some, None, refl}
-use Rattle.std.proofs.Common.{ap, sym, ◌∙◌, subst, arith, ◌≢◌, ◌⊎◌, ⊎_elim, inl, inr, true}
+use Rattle.std.proofs.Common.{◌≡◌, ℕ, ◌-◌, ◌<◌, ◌≤◌, append-nil, append_assoc, List, [], ◌∷◌, ◌++◌, length, map}
+use Rattle.std.proofs.Common.{Option, Some, None, refl, ap, sym, ◌∙◌, subst, arith, ◌≢◌, ◌⊎◌, ⊎_elim, inl, inr, true}
 use Rattle.cyc_types.specs.Tally.{TallyView, tally_count}
 use Rattle.cyc_types.specs.declared.receipt.Receipt.{Receipt}
 use Rattle.cyc_core.specs.Tables.{Tables}
@@ -27,6 +27,7 @@ use mathlib.Core.Logic.{dite}
 use native.Mathlib.Decide.{ℕ_discrete}
 use Rattle.std.specs.Prelude.{slice_set, Ok, Err}
 use Rattle.cyc_replay.specs.Shown.{ShowsSystem}
+use Rattle.cyc_replay.specs.Room.{HaveRoomFor}
 use Rattle.cyc_replay.specs.Removal.{HavePolled, IsInterrupted, answer_line, told_by}
 use Rattle.cyc_replay.specs.declared.machine.Machine.{Machine}
 use Rattle.cyc_replay.specs.Machine.{Holds, Remembers, IsWide, id_at, name_at, told_of, number_of}
@@ -103,7 +104,8 @@ module _ (texts : List (List ℕ)) (step : ℕ) (i : SoftintStep) (s : State) wh
         remembers = remembers;
         tally = subst (λ t. IsWide t) (sym tally) p.holds.tally;
         most = kept.most;
-        room = kept.room;
+        room = subst (λ k. HaveRoomFor k n.system.cpus) (sym (ap (λ (t : State). length t.names) (left_next ids id)
+            ∙ ap length (still_polls texts step (id ∷ []) (left ids)).names)) kept.room;
       };
     }
 

@@ -14,10 +14,11 @@ use Rattle.cyc_model.proofs.Telling.{tells_steps}
 use Rattle.cyc_model.proofs.Reaching.{length_new}
 use Rattle.cyc_replay.specs.SystemWords.{Gives}
 use Rattle.cyc_replay.specs.declared.machine.Machine.{Machine}
-use Rattle.cyc_replay.specs.Machine.{Holds, IsReached}
+use Rattle.cyc_replay.specs.Machine.{Holds, IsNamed, IsReached}
 use Rattle.cyc_replay.specs.Words.{TakesWord}
-use Rattle.cyc_replay.specs.Runs.{Runs, listed}
+use Rattle.cyc_replay.specs.Runs.{HaveNames, Runs, listed}
 use Rattle.cyc_replay.proofs.Indexes.{same_run, same_line}
+use Rattle.cyc_replay.proofs.Introduced.{run_named}
 use Rattle.cyc_cpu_model.proofs.Free.{can_append}
 
 -- ---- lists of indexes
@@ -170,13 +171,14 @@ line_of cpus ceiling texts done m r x line n t f =
 
 -- the same where the step has this number
 pub takes_at : (cpus ceiling : ℕ) (texts : List (List ℕ)) (done : List Step) (step : ℕ) (x : Step) (line : List ℕ) (m n : Machine)
-    → 0 < cpus → cpus ≤ 16 → step ≡ 1 + length done → (r : Runs cpus ceiling texts done m)
-    → ((s : State) → IsReached step s → Holds s m → TakesWord texts step x line s n)
+    → 0 < cpus → cpus ≤ 16 → step ≡ 1 + length done → HaveNames texts done → (r : Runs cpus ceiling texts done m)
+    → ((s : State) → IsReached step s → IsNamed s → Holds s m → TakesWord texts step x line s n)
     → ((f : ℕ → ℕ) → line ≡ (word plain texts f step x (run_on f cpus ceiling texts done).state).line)
     × Runs cpus ceiling texts (done ++ x ∷ []) n
-takes_at cpus ceiling texts done step x line m n some few is r takes =
+takes_at cpus ceiling texts done step x line m n some few is names r takes =
     let s = (run_on (listed r.given) cpus ceiling texts done).state in
-    let t = takes s (reached_so cpus ceiling texts done m r some few step (omega (arith, is))) r.holds in
+    let t = takes s (reached_so cpus ceiling texts done m r some few step (omega (arith, is)))
+    (run_named (listed r.given) cpus ceiling texts done names) r.holds in
     let u = subst (λ k. TakesWord texts k x line s n) is t in (
       λ f. line_of cpus ceiling texts done m r x line n u f
           ∙ ap (λ k. (word plain texts f k x (run_on f cpus ceiling texts done).state).line) (sym is),

@@ -1,11 +1,12 @@
 -- The machine before the first step.
 use Rattle.std.proofs.Common.{◌≡◌, ℕ, zero, suc, ◌+◌, ◌-◌, ◌^◌, ◌<◌, ◌≤◌, inl, inr, List, [], ◌∷◌, ◌++◌, length, map, Bool, true}
-use Rattle.std.proofs.Common.{false, cond, nat_lt, get_or, All, Some, None, refl, ap, sym, ◌∙◌, subst, arith}
-use Rattle.std.specs.Prelude.{replicate}
+use Rattle.std.proofs.Common.{false, cond, nat_lt, get_or, pow_pos, All, Some, None, refl, ap, sym, ◌∙◌, subst, arith}
+use Rattle.std.specs.Prelude.{replicate, max, min}
 use Rattle.std.proofs.lemmas.List.{get_or-replicate, length-replicate}
 use Rattle.std.proofs.lemmas.List.Elements.{All-append}
 use Rattle.std.proofs.Math.ListN.{get_or-eq_default}
 use Rattle.std.proofs.lemmas.Bool.{cases_lt}
+use Rattle.cyc_types.specs.Limits.{greatest_bank, cyclics as most_cyclics}
 use Rattle.cyc_types.specs.Tally.{TallyView, tally_made, tally_count}
 use Rattle.cyc_level.specs.Level.{SoftLevel, empty_level}
 use Rattle.cyc_core.specs.FiringSide.{firing_view}
@@ -30,7 +31,7 @@ use native.Mathlib.Decide.{ℕ_discrete}
 use Rattle.cyc_types.specs.declared.refusal.Refusal.{Refusal}
 use Rattle.cyc_types.specs.declared.refusal.Refusal.TheVariants.{Memory}
 use Rattle.cyc_types.specs.Pairs.{EachTwo}
-use Rattle.cyc_cpu.specs.Cpu.{CpuView, size_for, HasRisingIds}
+use Rattle.cyc_cpu.specs.Cpu.{CpuView, size_for, bank_for, HasRisingIds}
 use Rattle.cyc_cpu.specs.Calls.{Reserve, Changes}
 use Rattle.cyc_cpu.specs.Soft.{raise_tables}
 use Rattle.cyc_system.specs.Cpus.{new_cpus}
@@ -45,7 +46,8 @@ use Rattle.cyc_system.specs.Agreement.{Agrees}
 use Rattle.cyc_system.proofs.Spots.{same_some, none_some}
 use Rattle.cyc_model.specs.State.{State}
 use Rattle.cyc_system.specs.Splitting.{GoesOn, IsSameEnd, index_of, AllComeBack}
-use Rattle.cyc_replay.specs.Room.{HaveAllRoom}
+use Rattle.cyc_replay.specs.Room.{HaveRoomFor}
+use Rattle.cyc_replay.proofs.Rooms.{near, far, first_enough, bank_rises}
 use Rattle.cyc_replay.specs.Shown.{shown_list, shown_record, AllFull}
 
 pub fresh_levels : (ceiling : ℕ) (ends : List (Tables × Tables)) → AreNew ceiling ends
@@ -95,7 +97,7 @@ no_ids (suc n) = ap (λ ns. 0 ∷ ns) (no_ids n)
 
 pub held_new : (cpus ceiling names : ℕ) (m : Machine) → m.clock ≡ 0 → m.tally ≡ tally_made 1 65536 (2 ^ 64 - 1)
     → m.names.items ≡ replicate names None → length m.counted.items ≡ names → length m.named.items ≡ 65536 → AllMost m.system.cpus
-    → HaveAllRoom m.system.cpus → is_suspended m.system ≡ false
+    → HaveRoomFor names m.system.cpus → is_suspended m.system ≡ false
     → IsSystem m.system × ShowsSystem (start cpus ceiling names) m.system
     → Holds (start cpus ceiling names) m
 held_new cpus ceiling names m clock tally ids counted named most room awake shown = record {
@@ -114,7 +116,7 @@ held_new cpus ceiling names m clock tally ids counted named most room awake show
   };
   tally = wide m.tally tally;
   most = most;
-  room = room;
+  room = subst (λ k. HaveRoomFor k m.system.cpus) (sym (length-replicate names 0)) room;
 }
   where
     none_in : (k n id : ℕ) → id_at (replicate n None) k ≡ Some id → ⊥
@@ -125,7 +127,7 @@ held_new cpus ceiling names m clock tally ids counted named most room awake show
     nobody : (name id : ℕ) → id_at m.names.items name ≡ Some id → ⊥
     nobody name id is = none_in name names id (sym (ap (λ xs. id_at xs name) ids) ∙ is)
 
--- ---- memory for all cyclics
+-- ---- memory for cyclics
 
 -- a new CPU has no cyclic
 pub new_empty : (most ceiling : ℕ) (ends : List (Tables × Tables)) → AreNew ceiling ends → All IsEmpty (new_cpus most ends).cpus
@@ -144,10 +146,17 @@ new_empty most ceiling (e ∷ ends) new zero d low =
 new_empty most ceiling (e ∷ ends) new (suc k) d low =
     new_empty most ceiling ends (λ i x less. new (suc i) x (omega (arith, less))) k d (omega (arith, low))
 
-reserved_so : (v w : CpuView Tables) → IsEmpty v → Changes raise_tables v (Reserve 256 (Ok tt)) w → HasReserved v w
-reserved_so v w e d = record {
-  room = subst (λ k. k ≤ w.room) (ap (λ k. size_for k (length w.cyclics + 256)) (d.0.size ∙ e.size)
-      ∙ ap (λ cs. size_for 1 (length cs + 256)) (d.0.cyclics ∙ e.cyclics)) d.1.reserved;
+-- a CPU of size 1 needs the least bank for them all
+size_one : (k : ℕ) → size_for 1 k ≡ 2 ^ bank_for k
+size_one k = elim (cases_lt 1 k) [
+  | inl past ↦ far k 1 1 (2 ^ bank_for k) past
+  | inr low ↦ near k 1 1 (2 ^ bank_for k) low ∙ sym (ap (λ bank. 2 ^ bank) (first_enough greatest_bank 0 k low))
+]
+
+reserved_so : (wanted : ℕ) (v w : CpuView Tables) → IsEmpty v → Changes raise_tables v (Reserve wanted (Ok tt)) w
+    → HasReserved wanted v w
+reserved_so wanted v w e d = record {
+  room = d.0.room ∙ ap (λ k. max v.room k) ((λ z. size_for (e.size z) (all z)) ∙ size_one wanted);
   cyclics = d.0.cyclics;
   removal = d.0.removal;
   size = d.0.size;
@@ -156,45 +165,51 @@ reserved_so v w e d = record {
   lock = only_looked v.lock w.lock d.0.lock;
   low = only_looked v.low w.low d.0.low;
 }
+  where
+    all : length v.cyclics + wanted ≡ wanted
+    all = let none = ap length e.cyclics in omega (arith, none)
 
-only_want : (v w : CpuView Tables) (e : Refusal) → IsEmpty v → Changes raise_tables v (Reserve 256 (Err e)) w → e ≡ Memory
-only_want v w e empty d = only_memory raise_tables 256 v w e
+only_want : (wanted : ℕ) (v w : CpuView Tables) (e : Refusal) → wanted ≤ most_cyclics → IsEmpty v
+    → Changes raise_tables v (Reserve wanted (Err e)) w
+    → e ≡ Memory
+only_want wanted v w e few empty d = only_memory raise_tables wanted v w e
     (record {
-      fits = let none = ap length empty.cyclics in omega (arith, none);
+      fits = let none = ap length empty.cyclics in omega (arith, none, few);
       still = λ more. (empty.removal, empty.followed);
     }) d.0 d.1
 
-pub reserved_or_not : (v w : CpuView Tables) (r : Result (Unit {0}) Refusal) → IsEmpty v
-    → Changes raise_tables v (Reserve 256 r) w
-    → OnOk r (HasReserved v w)
-reserved_or_not v w (Ok done) e d = reserved_so v w e d
-reserved_or_not v w (Err why) e d = tt
+pub reserved_or_not : (wanted : ℕ) (v w : CpuView Tables) (r : Result (Unit {0}) Refusal) → IsEmpty v
+    → Changes raise_tables v (Reserve wanted r) w
+    → OnOk r (HasReserved wanted v w)
+reserved_or_not wanted v w (Ok done) e d = reserved_so wanted v w e d
+reserved_or_not wanted v w (Err why) e d = tt
 
-pub only_if_refused : (v w : CpuView Tables) (r : Result (Unit {0}) Refusal) → IsEmpty v
-    → Changes raise_tables v (Reserve 256 r) w
+pub only_if_refused : (wanted : ℕ) (v w : CpuView Tables) (r : Result (Unit {0}) Refusal) → wanted ≤ most_cyclics → IsEmpty v
+    → Changes raise_tables v (Reserve wanted r) w
     → IfErr r (λ refusal. refusal ≡ Memory)
-only_if_refused v w (Ok done) e d = tt
-only_if_refused v w (Err why) e d = only_want v w why e d
+only_if_refused wanted v w (Ok done) few e d = tt
+only_if_refused wanted v w (Err why) few e d = only_want wanted v w why few e d
 
 -- one CPU after the other
-pub record Reserving (n : ℕ) (vs ws : List (CpuView Tables)) : Type 0 where
+pub record Reserving (wanted n : ℕ) (vs ws : List (CpuView Tables)) : Type 0 where
   pub long : length ws ≡ length vs
-  pub done : (k : ℕ) (d : CpuView Tables) → k < n → k < length vs → HasReserved (get_or vs k d) (get_or ws k d)
+  pub done : (k : ℕ) (d : CpuView Tables) → k < n → k < length vs → HasReserved wanted (get_or vs k d) (get_or ws k d)
   pub left : (k : ℕ) (d : CpuView Tables) → n ≤ k → get_or ws k d ≡ get_or vs k d
 
-pub reserving_none : (vs : List (CpuView Tables)) → Reserving 0 vs vs
-reserving_none vs = record { long = refl; done = λ k d low within. absurd (omega (arith, low)); left = λ k d low. refl }
+pub reserving_none : (wanted : ℕ) (vs : List (CpuView Tables)) → Reserving wanted 0 vs vs
+reserving_none wanted vs = record { long = refl; done = λ k d low within. absurd (omega (arith, low)); left = λ k d low. refl }
 
-pub reserving_one : (n : ℕ) (vs ws : List (CpuView Tables)) (x y : CpuView Tables) → Reserving n vs ws → n < length ws
+pub reserving_one : (wanted n : ℕ) (vs ws : List (CpuView Tables)) (x y : CpuView Tables) → Reserving wanted n vs ws
+    → n < length ws
     → get_or ws n x ≡ x
-    → HasReserved x y → Reserving (n + 1) vs (slice_set ws n y)
-reserving_one n vs ws x y r within is h = record {
+    → HasReserved wanted x y → Reserving wanted (n + 1) vs (slice_set ws n y)
+reserving_one wanted n vs ws x y r within is h = record {
   long = length-set ws n y ∙ r.long;
   done = λ k d low inside. dite (ℕ_discrete k n)
-      (λ e. subst (λ i. HasReserved (get_or vs i d) (get_or (slice_set ws n y) i d)) (sym e)
-      (subst (λ b. HasReserved (get_or vs n d) b) (sym (get_or-set_same ws n y d within))
-      (subst (λ a. HasReserved a y) (sym is ∙ there d ∙ r.left n d (omega arith)) h)))
-      (λ ne. subst (λ b. HasReserved (get_or vs k d) b) (sym (get_or-set_other ws n k y d ne))
+      (λ e. subst (λ i. HasReserved wanted (get_or vs i d) (get_or (slice_set ws n y) i d)) (sym e)
+      (subst (λ b. HasReserved wanted (get_or vs n d) b) (sym (get_or-set_same ws n y d within))
+      (subst (λ a. HasReserved wanted a y) (sym is ∙ there d ∙ r.left n d (omega arith)) h)))
+      (λ ne. subst (λ b. HasReserved wanted (get_or vs k d) b) (sym (get_or-set_other ws n k y d ne))
       (r.done k d (omega (arith, low, ne)) inside));
   left = λ k d low. get_or-set_other ws n k y d (λ (e : k ≡ n). omega (arith, low, e)) ∙ r.left k d (omega (arith, low));
 }
@@ -207,16 +222,18 @@ reserving_one n vs ws x y r within is h = record {
         same_within (z ∷ xs) zero a b low = refl
         same_within (z ∷ xs) (suc k) a b low = same_within xs k a b (omega (arith, low))
 
-pub empty_left : (n : ℕ) (vs ws : List (CpuView Tables)) (x : CpuView Tables) → Reserving n vs ws → n < length vs
+pub empty_left : (wanted n : ℕ) (vs ws : List (CpuView Tables)) (x : CpuView Tables) → Reserving wanted n vs ws → n < length vs
     → x ≡ get_or ws n x
     → All IsEmpty vs → IsEmpty x
-empty_left n vs ws x r low is empty = subst IsEmpty (sym (is ∙ r.left n x (omega arith))) (empty n x low)
+empty_left wanted n vs ws x r low is empty = subst IsEmpty (sym (is ∙ r.left n x (omega arith))) (empty n x low)
 
-pub reserving_all : (n : ℕ) (vs ws : List (CpuView Tables)) → Reserving n vs ws → length vs ≤ n → EachTwo HasReserved vs ws
-reserving_all n vs ws r all = each vs ws r.long (λ k d low. r.done k d (omega (arith, low, all)) low)
+pub reserving_all : (wanted n : ℕ) (vs ws : List (CpuView Tables)) → Reserving wanted n vs ws → length vs ≤ n
+    → EachTwo (HasReserved wanted) vs ws
+reserving_all wanted n vs ws r all = each vs ws r.long (λ k d low. r.done k d (omega (arith, low, all)) low)
   where
     each : (xs ys : List (CpuView Tables)) → length ys ≡ length xs
-        → ((k : ℕ) (d : CpuView Tables) → k < length xs → HasReserved (get_or xs k d) (get_or ys k d)) → EachTwo HasReserved xs ys
+        → ((k : ℕ) (d : CpuView Tables) → k < length xs → HasReserved wanted (get_or xs k d) (get_or ys k d))
+        → EachTwo (HasReserved wanted) xs ys
     each [] [] long one = tt
     each [] (y ∷ ys) long one = absurd (omega (arith, long))
     each (x ∷ xs) [] long one = absurd (omega (arith, long))
@@ -224,11 +241,12 @@ reserving_all n vs ws r all = each vs ws r.long (λ k d low. r.done k d (omega (
         (one 0 x (omega arith), each xs ys (omega (arith, long)) (λ k d low. one (suc k) d (omega (arith, low))))
 
 -- they may come back to their system
-pub come_back : (vs ws : List (CpuView Tables)) → All IsEmpty vs → EachTwo HasReserved vs ws → AllComeBack firing_at vs ws
-come_back [] [] empty two = tt
-come_back [] (w ∷ ws) empty two = two
-come_back (v ∷ vs) [] empty two = two
-come_back (v ∷ vs) (w ∷ ws) empty two =
+pub come_back : (wanted : ℕ) (vs ws : List (CpuView Tables)) → All IsEmpty vs → EachTwo (HasReserved wanted) vs ws
+    → AllComeBack firing_at vs ws
+come_back wanted [] [] empty two = tt
+come_back wanted [] (w ∷ ws) empty two = two
+come_back wanted (v ∷ vs) [] empty two = two
+come_back wanted (v ∷ vs) (w ∷ ws) empty two =
     let none = (empty 0 v (omega arith)).cyclics in let h = two.0 in (
       record {
         cyclics = subst (λ cs. EachTwo (GoesOn (firing_at v.lock).ceiling (firing_at v.low).ceiling) v.cyclics cs) (sym h.cyclics)
@@ -240,7 +258,7 @@ come_back (v ∷ vs) (w ∷ ws) empty two =
         lock = same_end (level_of v.lock) (level_of w.lock) h.lock;
         low = same_end (level_of v.low) (level_of w.low) h.low;
       },
-      come_back vs ws (λ k d low. empty (suc k) d (omega (arith, low))) two.1,
+      come_back wanted vs ws (λ k d low. empty (suc k) d (omega (arith, low))) two.1,
     )
   where
     same_end : (a b : SoftLevel) → b ≡ a → IsSameEnd (firing_view a) (firing_view b)
@@ -252,8 +270,9 @@ come_back (v ∷ vs) (w ∷ ws) empty two =
 
 -- ---- the definition has them as before
 
-same_shown : (online : Bool) (v w : CpuView Tables) → HasReserved v w → shown_cpu online w ≡ shown_cpu online v
-same_shown online v w h = λ z. record {
+same_shown : (wanted : ℕ) (online : Bool) (v w : CpuView Tables) → HasReserved wanted v w
+    → shown_cpu online w ≡ shown_cpu online v
+same_shown wanted online v w h = λ z. record {
   online = online;
   cyclics = map shown (h.cyclics z);
   size = h.size z;
@@ -262,61 +281,66 @@ same_shown online v w h = λ z. record {
   low = h.low z;
 }
 
-shown_two : (os : List Bool) (vs ws : List (CpuView Tables)) → EachTwo HasReserved vs ws → shown_list os ws ≡ shown_list os vs
-shown_two [] vs ws two = refl
-shown_two (o ∷ os) [] [] two = refl
-shown_two (o ∷ os) [] (w ∷ ws) two = absurd two
-shown_two (o ∷ os) (v ∷ vs) [] two = absurd two
-shown_two (o ∷ os) (v ∷ vs) (w ∷ ws) two =
-    (λ z. same_shown o v w two.0 z ∷ shown_list os ws) ∙ ap (λ cs. shown_cpu o v ∷ cs) (shown_two os vs ws two.1)
+shown_two : (wanted : ℕ) (os : List Bool) (vs ws : List (CpuView Tables)) → EachTwo (HasReserved wanted) vs ws
+    → shown_list os ws ≡ shown_list os vs
+shown_two wanted [] vs ws two = refl
+shown_two wanted (o ∷ os) [] [] two = refl
+shown_two wanted (o ∷ os) [] (w ∷ ws) two = absurd two
+shown_two wanted (o ∷ os) (v ∷ vs) [] two = absurd two
+shown_two wanted (o ∷ os) (v ∷ vs) (w ∷ ws) two =
+    (λ z. same_shown wanted o v w two.0 z ∷ shown_list os ws) ∙ ap (λ cs. shown_cpu o v ∷ cs) (shown_two wanted os vs ws two.1)
 
-reserved_tied : (v w : CpuView Tables) → HasReserved v w → IsTied v → IsTied w
-reserved_tied v w h t = record {
+reserved_tied : (wanted : ℕ) (v w : CpuView Tables) → HasReserved wanted v w → IsTied v → IsTied w
+reserved_tied wanted v w h t = record {
   rising = subst (λ cs. HasRisingIds cs) (sym h.cyclics) t.rising;
-  own = λ online. subst (λ c. HasOwn c) (sym (same_shown online v w h)) (t.own online);
+  own = λ online. subst (λ c. HasOwn c) (sym (same_shown wanted online v w h)) (t.own online);
 }
 
-two_at : (vs ws : List (CpuView Tables)) (n : ℕ) (w : CpuView Tables) → EachTwo HasReserved vs ws → slice_get ws n ≡ Some w
-    → (v : CpuView Tables) × (slice_get vs n ≡ Some v) × HasReserved v w
-two_at [] [] n w two is = absurd (none_some is)
-two_at [] (y ∷ ys) n w two is = absurd two
-two_at (x ∷ xs) [] n w two is = absurd two
-two_at (x ∷ xs) (y ∷ ys) zero w two is = (x, refl, subst (HasReserved x) (same_some is) two.0)
-two_at (x ∷ xs) (y ∷ ys) (suc n) w two is = two_at xs ys n w two.1 is
+two_at : (wanted : ℕ) (vs ws : List (CpuView Tables)) (n : ℕ) (w : CpuView Tables) → EachTwo (HasReserved wanted) vs ws
+    → slice_get ws n ≡ Some w
+    → (v : CpuView Tables) × (slice_get vs n ≡ Some v) × HasReserved wanted v w
+two_at wanted [] [] n w two is = absurd (none_some is)
+two_at wanted [] (y ∷ ys) n w two is = absurd two
+two_at wanted (x ∷ xs) [] n w two is = absurd two
+two_at wanted (x ∷ xs) (y ∷ ys) zero w two is = (x, refl, subst (HasReserved wanted x) (same_some is) two.0)
+two_at wanted (x ∷ xs) (y ∷ ys) (suc n) w two is = two_at wanted xs ys n w two.1 is
 
-two_long : (vs ws : List (CpuView Tables)) → EachTwo HasReserved vs ws → length ws ≡ length vs
-two_long [] [] two = refl
-two_long [] (y ∷ ys) two = absurd two
-two_long (x ∷ xs) [] two = absurd two
-two_long (x ∷ xs) (y ∷ ys) two = ap suc (two_long xs ys two.1)
+two_long : (wanted : ℕ) (vs ws : List (CpuView Tables)) → EachTwo (HasReserved wanted) vs ws → length ws ≡ length vs
+two_long wanted [] [] two = refl
+two_long wanted [] (y ∷ ys) two = absurd two
+two_long wanted (x ∷ xs) [] two = absurd two
+two_long wanted (x ∷ xs) (y ∷ ys) two = ap suc (two_long wanted xs ys two.1)
 
 -- no CPU of a new system is suspended
 pub awake_new : (most : ℕ) (ends : List (Tables × Tables)) → is_suspended (new_system most ends) ≡ false
 awake_new most [] = refl
 awake_new most (e ∷ ends) = refl
 
-same_marks : (vs ws : List (CpuView Tables)) → EachTwo HasReserved vs ws
+same_marks : (wanted : ℕ) (vs ws : List (CpuView Tables)) → EachTwo (HasReserved wanted) vs ws
     → option_map (λ (cpu : CpuView Tables). cpu.suspended) (slice_get ws 0)
     ≡ option_map (λ (cpu : CpuView Tables). cpu.suspended) (slice_get vs 0)
-same_marks [] [] two = refl
-same_marks [] (y ∷ ys) two = absurd two
-same_marks (x ∷ xs) [] two = absurd two
-same_marks (x ∷ xs) (y ∷ ys) two = ap Some two.0.suspended
+same_marks wanted [] [] two = refl
+same_marks wanted [] (y ∷ ys) two = absurd two
+same_marks wanted (x ∷ xs) [] two = absurd two
+same_marks wanted (x ∷ xs) (y ∷ ys) two = ap Some two.0.suspended
 
-module _ (v w : SystemView Tables) (two : EachTwo HasReserved v.cpus.cpus w.cpus.cpus) (online : w.cpus.online ≡ v.cpus.online)
+module _ (wanted : ℕ) (v w : SystemView Tables) (two : EachTwo (HasReserved wanted) v.cpus.cpus w.cpus.cpus)
+    (online : w.cpus.online ≡ v.cpus.online)
     (records : w.records ≡ v.records) (last : w.last ≡ v.last) where
   pub still_system : IsSystem v → Agrees w → IsSystem w
   still_system h agrees = record {
     agrees = agrees;
     rising = subst (λ rs. RecordsRise rs) (sym records) h.rising;
     full = subst (λ rs. AllFull (length w.cpus.cpus) rs) (sym records)
-        (subst (λ k. AllFull k v.records) (sym (two_long v.cpus.cpus w.cpus.cpus two)) h.full);
-    tied = λ n cpu is. let x = two_at v.cpus.cpus w.cpus.cpus n cpu two is in reserved_tied x.0 cpu x.2 (h.tied n x.0 x.1);
+        (subst (λ k. AllFull k v.records) (sym (two_long wanted v.cpus.cpus w.cpus.cpus two)) h.full);
+    tied = λ n cpu is. let x = two_at wanted v.cpus.cpus w.cpus.cpus n cpu two is in
+        reserved_tied wanted x.0 cpu x.2 (h.tied n x.0 x.1);
   }
 
   pub still_shows : (s : State) → ShowsSystem s v → ShowsSystem s w
   still_shows s h = record {
-    cpus = h.cpus ∙ sym (shown_two v.cpus.online v.cpus.cpus w.cpus.cpus two) ∙ ap (λ os. shown_list os w.cpus.cpus) (sym online);
+    cpus = h.cpus ∙ sym (shown_two wanted v.cpus.online v.cpus.cpus w.cpus.cpus two)
+        ∙ ap (λ os. shown_list os w.cpus.cpus) (sym online);
     placed = h.placed ∙ sym (ap (map shown_record) records);
     ended = λ k r is n. h.ended k r (subst (λ rs. IsRecord rs k r) records is) n;
     fresh = h.fresh;
@@ -324,16 +348,23 @@ module _ (v w : SystemView Tables) (two : EachTwo HasReserved v.cpus.cpus w.cpus
   }
 
   pub still_most : AllMost v.cpus → AllMost w.cpus
-  still_most all n cpu is = let x = two_at v.cpus.cpus w.cpus.cpus n cpu two is in x.2.most ∙ all n x.0 x.1
+  still_most all n cpu is = let x = two_at wanted v.cpus.cpus w.cpus.cpus n cpu two is in x.2.most ∙ all n x.0 x.1
 
   pub still_awake : is_suspended v ≡ false → is_suspended w ≡ false
-  still_awake awake = ap (λ o. option_map_or (λ suspended. suspended) o false) (same_marks v.cpus.cpus w.cpus.cpus two) ∙ awake
+  still_awake awake = ap (λ o. option_map_or (λ suspended. suspended) o false) (same_marks wanted v.cpus.cpus w.cpus.cpus two)
+      ∙ awake
 
-  pub now_room : All IsEmpty v.cpus.cpus → HaveAllRoom w.cpus
-  now_room empty n cpu is =
-      let x = two_at v.cpus.cpus w.cpus.cpus n cpu two is in
+  -- memory for so many names, as far as a CPU can have them
+  pub now_room : (names : ℕ) → wanted ≡ min names most_cyclics → All IsEmpty v.cpus.cpus → HaveRoomFor names w.cpus
+  now_room names is_wanted empty n cpu is =
+      let x = two_at wanted v.cpus.cpus w.cpus.cpus n cpu two is in
       let room = x.2.room in let size = x.2.size in
-      let one = (empty_at v.cpus.cpus n x.0 empty x.1).size in (room, omega (arith, room, size, one))
+      let one = (empty_at v.cpus.cpus n x.0 empty x.1).size in
+      let some : 0 < 2 ^ bank_for wanted = pow_pos (bank_for wanted) in
+      record {
+        room = λ k want can. let up = bank_rises k wanted (omega (arith, want, can, is_wanted)) in omega (arith, up, room);
+        size = omega (arith, room, size, one, some);
+      }
     where
       empty_at : (xs : List (CpuView Tables)) (k : ℕ) (x : CpuView Tables) → All IsEmpty xs → slice_get xs k ≡ Some x → IsEmpty x
       empty_at [] k x all is = absurd (none_some is)

@@ -1,5 +1,5 @@
 -- A suspend and a resume of the machine.
-use Rattle.std.proofs.Common.{◌≡◌, ℕ, ◌≤◌, Bool, List, refl, sym, subst, arith}
+use Rattle.std.proofs.Common.{◌≡◌, ℕ, ◌≤◌, Bool, List, length, refl, sym, subst, arith}
 use Rattle.std.specs.Prelude.{Result, Ok, Err}
 use Rattle.cyc_types.specs.declared.refusal.Refusal.{Refusal}
 use Rattle.cyc_core.specs.Tables.{Tables}
@@ -9,7 +9,7 @@ use Rattle.cyc_agreement.specs.Suspending.{is_suspended}
 use Rattle.cyc_model.specs.Questions.{plain}
 use Rattle.cyc_model.specs.State.{State}
 use Rattle.cyc_model.specs.Script.{does}
-use Rattle.cyc_replay.specs.Room.{HaveAllRoom}
+use Rattle.cyc_replay.specs.Room.{HaveRoomFor}
 use Rattle.cyc_replay.specs.Shown.{IsSystem, ShowsSystem}
 use Rattle.cyc_replay.specs.SystemWords.{IsDone, IsRefusedFor}
 use Rattle.cyc_replay.specs.declared.machine.Machine.{Machine}
@@ -20,7 +20,7 @@ use Rattle.cyc_replay.proofs.Remembering.{remembers_on}
 module _ (x : Step) (mark : Bool) (s : State) (m : Machine) (t : SystemView Tables) (h : Holds s m)
     (does_it : (texts : List (List ℕ)) (indexes : ℕ → ℕ) (k : ℕ)
     → (does plain texts indexes k x s).state ≡ record s { suspended = mark })
-    (system : IsSystem t) (most : AllMost t.cpus) (room : HaveAllRoom t.cpus) where
+    (system : IsSystem t) (most : AllMost t.cpus) (room : HaveRoomFor (length s.names) t.cpus) where
   holds_marked : ShowsSystem (record s { suspended = mark }) t → is_suspended t ≡ mark
       → Holds (record s { suspended = mark }) (record m { system = t })
   holds_marked shows is = record {

@@ -37,7 +37,7 @@ use Rattle.cyc_cpu_model.proofs.Free.{none_admitted, take_none}
 use Rattle.cyc_cpu_model.specs.Shown.{shown_cpu}
 use Rattle.cyc_replay.specs.Shown.{shown_list, shown_cpus, ShowsSystem, AreTied, IsSystem}
 use Rattle.cyc_replay.specs.SystemWords.{Gives, IsDoneWith, IsRefusedFor, IsAtOnce, ComesTo}
-use Rattle.cyc_replay.specs.Room.{HaveAllRoom}
+use Rattle.cyc_replay.specs.Room.{HaveRoomFor}
 use Rattle.cyc_replay.proofs.Cpus.{cpu_at, done_at, long_shown}
 use Rattle.cyc_replay.proofs.Asking.{both_none, is_refused, same_error}
 use Rattle.cyc_replay.proofs.Entering.{unchanged, same_shown}
@@ -266,7 +266,8 @@ abbrev report_in : JuggleReport → Refusal → JuggleReport
 report_in d (Left report) = report
 report_in d e = d
 
-module _ (n : ℕ) (s : State) (v w : SystemView Tables) (sys : IsSystem v) (h : ShowsSystem s v) (all : HaveAllRoom v.cpus) where
+module _ (n : ℕ) (s : State) (v w : SystemView Tables) (sys : IsSystem v) (h : ShowsSystem s v)
+    (all : HaveRoomFor (length v.records) v.cpus) where
   -- cyclics are left that are not omnipresent
   pub offline_left : (report : JuggleReport) → Changes raise_tables v (GoOffline n (Err (Left report))) w
       → IsDoneWith (λ step. cyclics_left step report) (steps.Offline n) s w
@@ -277,7 +278,7 @@ module _ (n : ℕ) (s : State) (v w : SystemView Tables) (sys : IsSystem v) (h :
       let hm = (kept_turns n (single_there n v) own v m hv turns).half in
       let is : report ≡ own = ap (report_in report)
       (same_error (Unit {0}) (Left report) (Left own) (Err (Left report)) (Err (Left own)) refl refl answer) in
-      let (given, j) = juggles n s v h hv own m all turns in
+      let (given, j) = juggles n s v h hv own m sys.agrees all turns in
       with_line n s v w sys h given (λ step. cyclics_left step report) (λ indexes. (juggled plain indexes n s).outcome) none
       (λ indexes gives. stays_so n s v w sys h given own m (juggled plain indexes n s) (j indexes gives)
       (λ shows. subst (ShowsSystem _) (sym same) shows))
@@ -314,7 +315,7 @@ module _ (n : ℕ) (s : State) (v w : SystemView Tables) (sys : IsSystem v) (h :
       let out = some_out n before id found m.cpus w.cpus hm.long hm.tied some works in
       let any : list_any (has_out n m.cpus) (ids_there n m.cpus) ≡ true =
       ap (list_any (has_out n m.cpus)) is ∙ any_after (has_out n m.cpus) before rest id out.1 in
-      let (given, j) = juggles n s v h hv own m all turns in
+      let (given, j) = juggles n s v h hv own m sys.agrees all turns in
       with_line n s v w sys h given (λ step. refused step (number_of Pending))
       (λ indexes. (juggled plain indexes n s).outcome) none
       (λ indexes gives. stays_so n s v w sys h given own m (juggled plain indexes n s) (j indexes gives)
@@ -341,7 +342,7 @@ module _ (n : ℕ) (s : State) (v w : SystemView Tables) (sys : IsSystem v) (h :
       let asked = none_out n (ids_there n m.cpus) m.cpus a.cpus hm.long hm.tied works in
       let ha = (kept_only (quiet n (ids_there n m.cpus)) m a hm (works, records, last)).half in
       let hg = (kept_retires n (ids_there n m.cpus) a gone ha retires).half in
-      let (given, j) = juggles n s v h hv own m all turns in
+      let (given, j) = juggles n s v h hv own m sys.agrees all turns in
       let low : n < length s.cpus = is_cpu n s (both_none (no_cpu n s) _ (same_whys n s v h hv ∙ none)).0 in
       with_line n s v w sys h given accepted (λ indexes. followed_by (juggled plain indexes n s).outcome (retire_all n)) none
       (λ indexes gives.

@@ -1,16 +1,22 @@
 -- The turn of one cyclic of a juggle.
-use Rattle.std.proofs.Common.{◌≡◌, ◌≢◌, ℕ, ◌+◌, ◌<◌, true, false, cond, List, [], ◌∷◌, length, map, get_or, Option, Some, refl}
-use Rattle.std.proofs.Common.{ap, sym, ◌∙◌, subst, arith}
+use Rattle.std.proofs.Common.{◌≡◌, ◌≢◌, ℕ, ◌+◌, ◌<◌, ◌≤◌, true, false, cond, List, [], ◌∷◌, length, map, get_or}
+use Rattle.std.proofs.Common.{Option, Some, refl, ap, sym, ◌∙◌, subst, arith}
 use Rattle.std.specs.Prelude.{slice_set, nat_lt, is_some, Err}
 use Rattle.std.specs.Option.{option_map_or}
 use Rattle.cyc_types.specs.declared.level.Soft.{Soft}
 use Rattle.cyc_types.specs.declared.refusal.Refusal.{Refusal}
 use Rattle.cyc_types.specs.declared.refusal.Refusal.TheVariants.{Memory}
 use Rattle.cyc_core.specs.Tables.{Tables}
+use Rattle.cyc_cpu.specs.Cpu.{CpuView}
 use Rattle.cyc_cpu.specs.Soft.{raise_tables}
 use Rattle.cyc_cpu.specs.Calls.{AskPending, Reserve}
 use Rattle.cyc_places.specs.declared.record.Placement.TheVariants as place
-use Rattle.cyc_system.specs.Cpus.{on as on_cpu}
+use Rattle.cyc_agreement.proofs.Given.{agrees_same}
+use Rattle.cyc_agreement.proofs.MayGo
+use Rattle.cyc_agreement.proofs.Replaced.{not_elsewhere}
+use Rattle.cyc_agreement.proofs.Who.{same_changed, same_asked, has_same}
+use Rattle.cyc_system.specs.Agreement.{Agrees}
+use Rattle.cyc_system.specs.Cpus.{CpusView, IsCpu, DoesAt, on as on_cpu}
 use Rattle.cyc_system.specs.Destination.{destination as destination_in}
 use Rattle.cyc_system.specs.System.{SystemView}
 use Rattle.cyc_system.specs.Binding.{HasPlace, Records}
@@ -33,7 +39,7 @@ use Rattle.cyc_cpu_model.specs.Answers.{IsRefused, why_no_room}
 use Rattle.cyc_cpu_model.proofs.Free.{none_admitted, take_none}
 use Rattle.cyc_replay.specs.Shown.{shown_cpus, ShowsSystem}
 use Rattle.cyc_replay.specs.SystemWords.{Gives}
-use Rattle.cyc_replay.specs.Room.{HaveAllRoom}
+use Rattle.cyc_replay.specs.Room.{HaveRoomFor}
 use Rattle.cyc_replay.proofs.Lists.{length_set}
 use Rattle.cyc_replay.proofs.Cpus.{cpu_at, done_at}
 use Rattle.cyc_replay.proofs.Asking.{bound_shown}
@@ -41,6 +47,7 @@ use Rattle.cyc_replay.proofs.Destinations.{destination_shown}
 use Rattle.cyc_replay.proofs.Entering.{unchanged, same_shown}
 use Rattle.cyc_replay.proofs.Replacing.{replaced_shows}
 use Rattle.cyc_replay.proofs.Half.{Half}
+use Rattle.cyc_replay.proofs.Records.{fewer_here}
 use Rattle.cyc_replay.proofs.Rooms.{room_did, no_want}
 use Rattle.cyc_replay.proofs.Going.{Goes, goes_alike, goes_from, goes_to, goes_then, goes_on}
 use Rattle.cyc_replay.proofs.Binding.{Went, went, is_less}
@@ -162,9 +169,21 @@ abbrev pub TurnsSo : ℕ → ℕ → TurnThere → SystemView Tables → SystemV
 TurnsSo source id t v w = (given : List ℕ) × ((s : State) (indexes : ℕ → ℕ) → ShowsSystem s v → Gives indexes s.admissions given
     → TurnsTo source id t given indexes s w)
 
-pub turned : (source id : ℕ) (t : TurnThere) (v w : SystemView Tables) → Half v → HaveAllRoom v.cpus
+-- after an ask for a cyclic that may go, its destination has fewer cyclics than there are records
+fewer_there : (source id d : ℕ) (v : SystemView Tables) (u : CpusView Tables) → Half v → Agrees v → HasPlace id source false v
+    → destination_in (Some source) v.cpus ≡ Some d → DoesAt raise_tables v.cpus (on_cpu source (AskPending id (Some 0))) u
+    → (cpu : CpuView Tables) → IsCpu d cpu u → length cpu.cyclics + 1 ≤ length v.records
+fewer_there source id d v u hv a (k, r, is, named, stands) dest ask cpu at =
+    let asked = same_changed source _ v.cpus u ask (same_asked raise_tables ask.before ask.after id 0 ask.change.0) in
+    let tied = (done_at source (AskPending id (Some 0)) v.cpus u hv.long hv.tied ask).tied in
+    fewer_here (record v { cpus = u }) d k cpu r (agrees_same v u a asked) hv.rising tied at is
+    (has_same v.cpus u asked d r.id ∙ not_elsewhere v k source d false r a hv.rising is stands
+    (MayGo.apart v a hv.rising source d k r is stands dest))
+
+pub turned : (source id : ℕ) (t : TurnThere) (v w : SystemView Tables) → Half v → Agrees v
+    → (wanted : ℕ) → length v.records ≤ wanted → HaveRoomFor wanted v.cpus
     → TakesTurn raise_tables source id t v w → TurnsSo source id t v w
-turned source id there.StaysBound v w hv all (at, same) = (
+turned source id there.StaysBound v w hv agrees wanted few all (at, same) = (
   [],
   λ s indexes h gives. record {
     target = 0;
@@ -174,7 +193,7 @@ turned source id there.StaysBound v w hv all (at, same) = (
     admissions = omega arith;
   },
 )
-turned source id there.StaysPending v w hv all (at, k, some, ((u, ask, same), records, last)) =
+turned source id there.StaysPending v w hv agrees wanted few all (at, k, some, ((u, ask, same), records, last)) =
     let a = done_at source (AskPending id (Some k)) v.cpus u hv.long hv.tied ask in (
       [],
       λ s indexes h gives. record {
@@ -185,11 +204,14 @@ turned source id there.StaysPending v w hv all (at, k, some, ((u, ask, same), re
         admissions = omega arith;
       },
     )
-turned source id there.StaysRefused v w hv all (at, d, dest, e, ((u1, ask, (u2, reserve, same)), records, last)) =
+turned source id there.StaysRefused v w hv agrees wanted few all
+    (at, d, dest, e, ((u1, ask, (u2, reserve, same)), records, last)) =
     let a = done_at source (AskPending id (Some 0)) v.cpus u1 hv.long hv.tied ask in
     let r = done_at d (Reserve 1 (Err e)) u1 u2 a.long a.tied reserve in
     let asked = unchanged v.cpus u1 source a.cpus in
-    let other : e ≢ Memory = no_want d 1 e u1 u2 (room_did (on_cpu source (AskPending id (Some 0))) v.cpus u1 ask all) reserve in
+    let other : e ≢ Memory = no_want wanted d 1 e u1 u2
+    (room_did wanted (on_cpu source (AskPending id (Some 0))) v.cpus u1 ask all)
+    (λ cpu here. let one = fewer_there source id d v u1 hv agrees at dest ask cpu here in omega (arith, one, few)) reserve in
     let full : is_some (why_no_room 1 (cpu_at v.cpus d)) ≡ true =
     ap (λ cs. is_some (why_no_room 1 (get_or cs d absent))) (sym asked)
     ∙ refused_some e (why_no_room 1 (cpu_at u1 d)) (r.answered tt) other in (
@@ -202,7 +224,7 @@ turned source id there.StaysRefused v w hv all (at, d, dest, e, ((u1, ask, (u2, 
         admissions = omega arith;
       },
     )
-turned source id there.Moves v w hv all (at, d, dest, (taken, works), records) =
+turned source id there.Moves v w hv agrees wanted few all (at, d, dest, (taken, works), records) =
     let g = went id source d taken v.cpus w.cpus hv.long hv.tied works in
     let x = cyclic_with id taken.level taken.interval taken.moment taken.sent.sent taken.sent.lost in (
       g.index ∷ [],

@@ -1,5 +1,5 @@
 -- How far the machine has come in an advance.
-use Rattle.std.specs.Prelude.{◌≡◌, ℕ, ◌<◌, ◌≤◌, false, map}
+use Rattle.std.specs.Prelude.{◌≡◌, ℕ, ◌<◌, ◌≤◌, false, length, map}
 use Rattle.cyc_types.specs.Series.{never}
 use Rattle.cyc_types.specs.Tally.{TallyView, tally_count}
 use Rattle.cyc_core.specs.Tables.{Tables}
@@ -7,7 +7,7 @@ use Rattle.cyc_script.specs.Limits.{most_steps}
 use Rattle.cyc_model.specs.State.{State}
 use Rattle.cyc_system.specs.System.{RunningSystem, running_system}
 use Rattle.cyc_agreement.specs.Suspending.{is_suspended}
-use Rattle.cyc_replay.specs.Room.{HaveAllRoom}
+use Rattle.cyc_replay.specs.Room.{HaveRoomFor}
 use Rattle.cyc_replay.specs.Shown.{IsSystem}
 use Rattle.cyc_replay.specs.SystemAdvancing.{at_clock, fired_and_lost, HasFired}
 use Rattle.cyc_replay.specs.declared.machine.Machine.{Machine}
@@ -28,4 +28,4 @@ pub record IsAdvancing (step n expired lost : ℕ) (s : State) (first : RunningS
   pub tally : IsWide m.tally
   pub remembers : Remembers s m
   pub most : AllMost m.system.cpus
-  pub room : HaveAllRoom m.system.cpus
+  pub room : HaveRoomFor (length s.names) m.system.cpus

@@ -1,8 +1,7 @@
 -- The CPUs of a machine before its first step.
-use Rattle.std.specs.Prelude.{◌≡◌, ◌≤◌, [], None}
-use Rattle.cyc_types.specs.Limits.{cyclics as most_cyclics}
+use Rattle.std.specs.Prelude.{◌≡◌, ℕ, ◌^◌, max, [], None}
 use Rattle.cyc_core.specs.Tables.{Tables, level_of}
-use Rattle.cyc_cpu.specs.Cpu.{CpuView, HasFollowed}
+use Rattle.cyc_cpu.specs.Cpu.{CpuView, HasFollowed, bank_for}
 use Rattle.cyc_cpu.specs.Soft.{firing_at}
 
 -- a CPU with no cyclic
@@ -12,9 +11,9 @@ pub record IsEmpty (v : CpuView Tables) : Type 0 where
   pub size : v.size ≡ 1
   pub followed : HasFollowed firing_at v
 
--- memory for all cyclics that it can have was taken, and nothing else of it changed
-pub record HasReserved (v w : CpuView Tables) : Type 0 where
-  pub room : most_cyclics ≤ w.room
+-- memory for so many cyclics was taken, that of the least bank which has a place for each, and nothing else of it changed
+pub record HasReserved (wanted : ℕ) (v w : CpuView Tables) : Type 0 where
+  pub room : w.room ≡ max v.room (2 ^ bank_for wanted)
   pub cyclics : w.cyclics ≡ v.cyclics
   pub removal : w.removal ≡ v.removal
   pub size : w.size ≡ v.size

@@ -12,7 +12,7 @@ use Rattle.cyc_core.specs.Tables.{Tables}
 use Rattle.cyc_cpu.specs.Cpu.{CpuView}
 use Rattle.cyc_system.specs.Cpus.{CpusView, IsCpu}
 use Rattle.cyc_agreement.specs.Suspending.{is_suspended}
-use Rattle.cyc_replay.specs.Room.{HaveAllRoom}
+use Rattle.cyc_replay.specs.Room.{HaveRoomFor}
 use Rattle.cyc_replay.specs.Shown.{ShowsSystem, IsSystem}
 use Rattle.cyc_replay.specs.declared.machine.Counted.{Counted}
 use Rattle.cyc_replay.specs.declared.machine.Machine.{Machine}
@@ -75,7 +75,12 @@ pub record Holds (s : State) (m : Machine) : Type 0 where
   pub remembers : Remembers s m
   pub tally : IsWide m.tally
   pub most : AllMost m.system.cpus
-  pub room : HaveAllRoom m.system.cpus
+  -- each CPU has memory for a cyclic of each name
+  pub room : HaveRoomFor (length s.names) m.system.cpus
+
+-- each id was given to a name of its own: no more were given than there are names
+abbrev pub IsNamed : State → Type 0
+IsNamed s = s.last_id ≤ length s.names
 
 -- the definition's machine is one that fewer steps than this number led to, on 1 to 16 CPUs
 pub record IsReached (step : ℕ) (s : State) : Type 0 where

@@ -1,6 +1,7 @@
 //! The machine before the first step.
 
-ghost use Rattle.std.specs.Prelude.{◌≡◌, ◌≤◌, All, None, length, replicate, IfOk, IfErr, OnOk};
+ghost use Rattle.std.specs.Prelude.{◌≡◌, ◌≤◌, min, All, None, length, replicate, IfOk, IfErr, OnOk};
+ghost use Rattle.cyc_types.specs.Limits.{cyclics as most_cyclics};
 ghost use Rattle.cyc_types.specs.declared.refusal.Refusal.TheVariants.{Memory};
 ghost use Rattle.cyc_types.specs.Tally.{tally_made};
 ghost use Rattle.cyc_types.specs.Pairs.{EachTwo};
@@ -47,37 +48,48 @@ fn new_levels(
     Ok(ends)
 }
 
-/// Takes the memory for all cyclics that the CPU can have.
-fn reserve_all(hard: &mut Hard<LevelCore>) -> Result<(), Refusal>
+/// Takes the memory for so many cyclics of the CPU.
+fn reserve_wanted(hard: &mut Hard<LevelCore>, wanted: usize) -> Result<(), Refusal>
     requires empty { IsEmpty hard.old }
-    ensures did { OnOk result (HasReserved hard.old hard.new) }
+    requires few { wanted ≤ most_cyclics }
+    ensures did { OnOk result (HasReserved wanted hard.old hard.new) }
     ensures err { IfErr result (λ refusal. refusal ≡ Memory) }
 {
-    hard.reserve(usize::from(CYCLICS))
+    hard.reserve(wanted)
 }
 
 /// The same on each of these CPUs.
-fn reserve_each(hards: &mut Vec<Hard<LevelCore>>) -> Result<(), Refusal>
+fn reserve_each(hards: &mut Vec<Hard<LevelCore>>, wanted: usize) -> Result<(), Refusal>
     requires empty { All IsEmpty hards.old.items }
-    ensures did { OnOk result (EachTwo HasReserved hards.old.items hards.new.items) }
+    requires few { wanted ≤ most_cyclics }
+    ensures did { OnOk result (EachTwo (HasReserved wanted) hards.old.items hards.new.items) }
     ensures err { IfErr result (λ refusal. refusal ≡ Memory) }
 {
     for number in 0..hards.len() {
-        reserve_all(&mut hards[number])?;
+        reserve_wanted(&mut hards[number], wanted)?;
     }
     Ok(())
 }
 
-/// The system with that memory: from here on no cyclic that comes to a CPU is refused for want of memory there.
-fn with_room(system: System<LevelCore>) -> Result<System<LevelCore>, Refusal>
+/// For how many cyclics a CPU takes memory: one of each name, or as many as it can have.
+fn wanted_of(names: usize) -> usize
+    ensures { result ≡ min names most_cyclics }
+{
+    names.min(usize::from(CYCLICS))
+}
+
+/// The system with memory on each CPU for a cyclic of each name, or for as many as a CPU can have: from here on no cyclic of a
+/// name that comes to a CPU is refused for want of memory there.
+fn with_room(system: System<LevelCore>, names: usize) -> Result<System<LevelCore>, Refusal>
     requires empty { All IsEmpty system.cpus.cpus }
-    ensures cpus { IfOk result (λ wide. EachTwo HasReserved system.cpus.cpus wide.cpus.cpus
+    ensures cpus { IfOk result (λ wide. EachTwo (HasReserved (min names most_cyclics)) system.cpus.cpus wide.cpus.cpus
         × (wide.cpus.online ≡ system.cpus.online)) }
     ensures rest { IfOk result (λ wide. (wide.records ≡ system.records) × (wide.last ≡ system.last)) }
     ensures err { IfErr result (λ refusal. refusal ≡ Memory) }
 {
+    let wanted = wanted_of(names);
     let (desk, mut hards) = system.split();
-    reserve_each(&mut hards)?;
+    reserve_each(&mut hards, wanted)?;
     Ok(desk.unite(hards))
 }
 
@@ -130,7 +142,8 @@ fn beside(
     Ok((tally, ids, counted, named))
 }
 
-/// So many CPUs, all online, with no cyclic, and so many names with no id.
+/// So many CPUs, all online, with no cyclic, and so many names with no id. Each CPU takes the memory for a cyclic of each name,
+/// or for as many as it can have, that of the least power of two.
 pub fn begin(alloc: Global, cpus: u32, ceiling: Ceiling, names: usize) -> Result<Machine, Refusal>
     requires some { 1 ≤ cpus }
     requires few { cpus ≤ most_cpus }
@@ -141,7 +154,7 @@ pub fn begin(alloc: Global, cpus: u32, ceiling: Ceiling, names: usize) -> Result
     let levels = new_levels(alloc, cpus, ceiling)?;
     let fresh = System::new(alloc, levels, u64::MAX, first_id())?;
     fresh.law();
-    let system = with_room(fresh)?;
+    let system = with_room(fresh, names)?;
     system.law();
     let (tally, ids, counted, named) = beside(alloc, names)?;
     Ok(Machine {

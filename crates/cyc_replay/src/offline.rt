@@ -5,7 +5,7 @@ ghost use Rattle.cyc_types.specs.declared.refusal.Refusal.TheVariants.{Memory};
 ghost use Rattle.cyc_model.specs.State.{State};
 ghost use Rattle.cyc_script.specs.declared.step.Step.TheVariants as steps;
 ghost use Rattle.cyc_text.specs.Status.{IsMemory};
-ghost use Rattle.cyc_replay.specs.Machine.{Holds, IsReached};
+ghost use Rattle.cyc_replay.specs.Machine.{Holds, IsNamed, IsReached};
 ghost use Rattle.cyc_replay.specs.Words.{TakesWord};
 ghost use Rattle.cyc_replay.specs.Offline.{Juggles, GoesOffline, juggle_line, why_line, offline_line};
 
@@ -16,7 +16,7 @@ use cyc_types::{JuggleReport, Refusal, Tally};
 
 /// Moves the cyclics of a CPU to others.
 pub fn juggle_cpu(machine: &mut Machine, cpu: u32) -> Result<JuggleReport, Refusal>
-    ensures { (step : ℕ) (s : State) → IsReached step s → Holds s machine.old → Juggles cpu result s machine.new }
+    ensures { (step : ℕ) (s : State) → IsReached step s → IsNamed s → Holds s machine.old → Juggles cpu result s machine.new }
 {
     juggle_law();
     kept_law::<Tally>();
@@ -27,7 +27,7 @@ pub fn juggle_cpu(machine: &mut Machine, cpu: u32) -> Result<JuggleReport, Refus
 
 /// Takes a CPU offline.
 pub fn offline_cpu(machine: &mut Machine, cpu: u32) -> Result<(), Refusal>
-    ensures { (step : ℕ) (s : State) → IsReached step s → Holds s machine.old → GoesOffline cpu result s machine.new }
+    ensures { (step : ℕ) (s : State) → IsReached step s → IsNamed s → Holds s machine.old → GoesOffline cpu result s machine.new }
 {
     offline_law();
     kept_law::<Tally>();
@@ -90,7 +90,7 @@ pub fn take_juggle(
     step: u32,
     cpu: u32,
 ) -> Result<(), RunFault>
-    ensures takes { OnOk result ((texts : List (List ℕ)) (s : State) → IsReached step s → Holds s machine.old
+    ensures takes { OnOk result ((texts : List (List ℕ)) (s : State) → IsReached step s → IsNamed s → Holds s machine.old
         → TakesWord texts step (steps.Juggle cpu) (string_bytes line.new) s machine.new) }
     ensures memory { IfErr result IsMemory }
 {
@@ -105,7 +105,7 @@ pub fn take_offline(
     step: u32,
     cpu: u32,
 ) -> Result<(), RunFault>
-    ensures takes { OnOk result ((texts : List (List ℕ)) (s : State) → IsReached step s → Holds s machine.old
+    ensures takes { OnOk result ((texts : List (List ℕ)) (s : State) → IsReached step s → IsNamed s → Holds s machine.old
         → TakesWord texts step (steps.Offline cpu) (string_bytes line.new) s machine.new) }
     ensures memory { IfErr result IsMemory }
 {

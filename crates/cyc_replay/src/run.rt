@@ -7,7 +7,7 @@ ghost use Rattle.cyc_script.specs.declared.step.Step.{Step as TheStep};
 ghost use Rattle.cyc_model.specs.Questions.{plain};
 ghost use Rattle.cyc_model.specs.Script.{word, run_on, names_of, no_indexes};
 ghost use Rattle.cyc_text.specs.Status.{is_write, IsMemoryOrWrite};
-ghost use Rattle.cyc_replay.specs.Runs.{Runs};
+ghost use Rattle.cyc_replay.specs.Runs.{HaveNames, Runs};
 ghost use Rattle.cyc_replay.specs.Words.{SetsBelowNever};
 
 use crate::machine::Machine;
@@ -26,14 +26,14 @@ fn put_step<S: Sink>(
 ) -> Result<(), RunFault>
     requires few { step ≤ most_steps }
     requires before { SetsBelowNever taken.now }
-    requires runs { (done : List TheStep) × (step ≡ 1 + length done)
+    requires runs { (done : List TheStep) × (step ≡ 1 + length done) × HaveNames (names_of script.now) done
         × Runs script.now.cpus script.now.ceiling (names_of script.now) done machine.old }
     requires whole { S.has_failed sink.old ≡ false }
-    ensures text { (done : List TheStep) → step ≡ 1 + length done
+    ensures text { (done : List TheStep) → step ≡ 1 + length done → HaveNames (names_of script.now) done
         → Runs script.now.cpus script.now.ceiling (names_of script.now) done machine.old
         → Puts (S.written sink.old) (S.written sink.new) result (word plain (names_of script.now) no_indexes step taken.now
         (run_on no_indexes script.now.cpus script.now.ceiling (names_of script.now) done).state).line }
-    ensures runs { OnOk result ((done : List TheStep) → step ≡ 1 + length done
+    ensures runs { OnOk result ((done : List TheStep) → step ≡ 1 + length done → HaveNames (names_of script.now) done
         → Runs script.now.cpus script.now.ceiling (names_of script.now) done machine.old
         → Runs script.now.cpus script.now.ceiling (names_of script.now) (done ++ taken.now ∷ []) machine.new) }
     ensures write { S.has_failed sink.new ≡ is_write result }

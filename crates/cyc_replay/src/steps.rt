@@ -5,7 +5,7 @@ ghost use Rattle.cyc_script.specs.Limits.{most_steps};
 ghost use Rattle.cyc_script.specs.declared.step.Step.TheVariants as steps;
 ghost use Rattle.cyc_model.specs.State.{State};
 ghost use Rattle.cyc_text.specs.Status.{IsMemory};
-ghost use Rattle.cyc_replay.specs.Machine.{Holds, IsReached};
+ghost use Rattle.cyc_replay.specs.Machine.{Holds, IsNamed, IsReached};
 ghost use Rattle.cyc_replay.specs.Words.{SetsBelowNever, TakesWord};
 
 use crate::adding::{add_cyclic, add_omni};
@@ -143,7 +143,7 @@ pub(crate) fn take_step(
     requires few { step ≤ most_steps }
     requires before { SetsBelowNever taken.now }
     requires reached { (s : State) × IsReached step s × Holds s machine.old }
-    ensures takes { OnOk result ((s : State) → IsReached step s → Holds s machine.old
+    ensures takes { OnOk result ((s : State) → IsReached step s → IsNamed s → Holds s machine.old
         → TakesWord (map string_bytes names.now) step taken.now (string_bytes line.new) s machine.new) }
     ensures memory { IfErr result IsMemory }
 {

@@ -42,7 +42,7 @@ ghost use Rattle.cyc_model.specs.Report.{counts_of};
 ghost use Rattle.cyc_model.specs.Questions.{plain};
 ghost use Rattle.cyc_replay.specs.Removal.{told_by, told_in, answer_line, IsRemoved, IsKept, HavePolled, leaving_in};
 ghost use Rattle.cyc_replay.specs.Removal.{IsInterrupted};
-ghost use Rattle.cyc_replay.specs.Room.{HaveAllRoom};
+ghost use Rattle.cyc_replay.specs.Room.{HaveRoomFor};
 ghost use Rattle.cyc_replay.specs.Shown.{ShowsSystem, IsSystem};
 ghost use Rattle.cyc_replay.specs.Kept.{AreNew, new_system, LeavesMark};
 ghost use Rattle.cyc_replay.specs.Running.{IsFired, IsServed};
@@ -60,8 +60,8 @@ pub fn begin_law()
 {}
 
 /// Each call of a system, also a fire or a soft interrupt that was refused or stopped, keeps what the laws here ask of a system
-/// beside what each system's own law says of it; each CPU's bound on the expirations of a cyclic; on each CPU the memory for as
-/// many cyclics as one can have; and, but for a suspend and a resume, whether the system is suspended.
+/// beside what each system's own law says of it; each CPU's bound on the expirations of a cyclic; on each CPU the memory for so
+/// many cyclics; and, but for a suspend and a resume, whether the system is suspended.
 ///
 /// It does nothing when it runs: its clauses are the law.
 pub fn kept_law<C: Calls>()
@@ -73,7 +73,7 @@ pub fn kept_law<C: Calls>()
         → IsSystem s.system → (n : ℕ) → most_on n t.system.cpus ≡ most_on n s.system.cpus }
     ensures room { (call : SystemCall) (s t : RunningSystem C Tables)
         → Does C.Calls raise_tables (Interrupts C.Calls) s call t
-        → IsSystem s.system → HaveAllRoom s.system.cpus → HaveAllRoom t.system.cpus }
+        → IsSystem s.system → (wanted : ℕ) → HaveRoomFor wanted s.system.cpus → HaveRoomFor wanted t.system.cpus }
     ensures suspended { (call : SystemCall) (s t : RunningSystem C Tables)
         → Does C.Calls raise_tables (Interrupts C.Calls) s call t
         → LeavesMark call → is_suspended t.system ≡ is_suspended s.system }
@@ -168,33 +168,34 @@ pub fn online_law()
         → Changes raise_tables v (Online n s.clock (Err e)) w → IsRefusedFor e (steps.Online n) s w }
 {}
 
-/// A `juggle` of a system whose CPUs have memory for as many cyclics as they can have is the word `juggle`: each cyclic of the
+/// A `juggle` of a system whose CPUs have memory for as many cyclics as the system has is the word `juggle`: each cyclic of the
 /// CPU that is not omnipresent has the turn that it has there, and goes where it goes there; and its report is what the word's
 /// line tells. Or both are refused, for one reason.
 ///
 /// It does nothing when it runs: its clauses are the law.
 pub fn juggle_law()
     ensures accepted { (n : ℕ) (report : JuggleReport) (s : State) (v w : SystemView Tables) → IsSystem v → ShowsSystem s v
-        → HaveAllRoom v.cpus → Changes raise_tables v (Juggle n (Ok report)) w
+        → HaveRoomFor (length v.records) v.cpus → Changes raise_tables v (Juggle n (Ok report)) w
         → IsDoneWith (λ step. moved step report) (steps.Juggle n) s w }
     ensures refused { (n : ℕ) (e : Refusal) (s : State) (v w : SystemView Tables) → IsSystem v → ShowsSystem s v
         → Changes raise_tables v (Juggle n (Err e)) w → IsRefusedFor e (steps.Juggle n) s w }
 {}
 
-/// An `offline` of a system whose CPUs have memory for as many cyclics as they can have is the word `offline`: the cyclics of the
-/// CPU have their turns; then it is refused where one is left that is not omnipresent, with the report of the turns, and then
+/// An `offline` of a system whose CPUs have memory for as many cyclics as the system has is the word `offline`: the cyclics of
+/// the CPU have their turns; then it is refused where one is left that is not omnipresent, with the report of the turns, and then
 /// where a component has calls outstanding, and what moved stays moved; or the components end, their counts are kept, and the CPU
 /// takes no further part. Or both are refused before that, for one reason.
 ///
 /// It does nothing when it runs: its clauses are the law.
 pub fn offline_law()
-    ensures accepted { (n : ℕ) (s : State) (v w : SystemView Tables) → IsSystem v → ShowsSystem s v → HaveAllRoom v.cpus
-        → Changes raise_tables v (Offline n (Ok tt)) w → IsDoneWith accepted (steps.Offline n) s w }
+    ensures accepted { (n : ℕ) (s : State) (v w : SystemView Tables) → IsSystem v → ShowsSystem s v
+        → HaveRoomFor (length v.records) v.cpus → Changes raise_tables v (Offline n (Ok tt)) w
+        → IsDoneWith accepted (steps.Offline n) s w }
     ensures left { (n : ℕ) (report : JuggleReport) (s : State) (v w : SystemView Tables) → IsSystem v → ShowsSystem s v
-        → HaveAllRoom v.cpus → Changes raise_tables v (Offline n (Err (why.Left report))) w
+        → HaveRoomFor (length v.records) v.cpus → Changes raise_tables v (Offline n (Err (why.Left report))) w
         → IsDoneWith (λ step. cyclics_left step report) (steps.Offline n) s w }
-    ensures pending { (n : ℕ) (s : State) (v w : SystemView Tables) → IsSystem v → ShowsSystem s v → HaveAllRoom v.cpus
-        → Changes raise_tables v (Offline n (Err why.Pending)) w
+    ensures pending { (n : ℕ) (s : State) (v w : SystemView Tables) → IsSystem v → ShowsSystem s v
+        → HaveRoomFor (length v.records) v.cpus → Changes raise_tables v (Offline n (Err why.Pending)) w
         → IsDoneWith (λ step. refused step (number_of why.Pending)) (steps.Offline n) s w }
     ensures refused { (n : ℕ) (e : Refusal) (s : State) (v w : SystemView Tables) → IsSystem v → ShowsSystem s v → IsAtOnce e
         → Changes raise_tables v (Offline n (Err e)) w → IsRefusedFor e (steps.Offline n) s w }

@@ -105,8 +105,8 @@ module _ (start : ℕ) (t : List DrainStep) where
   FoundEntry id before steps = (bank end e : ℕ) × (end ≢ consumer_index start (before ++ t) % index_range) × (id ≡ entry_id e)
       × (steps ≡ Took e ∷ LoadedProducer end ∷ LoadedHardBank bank ∷ before)
 
-  -- the steps of a call of the soft side. A take follows at most once for each bank but the first, and so looks at most nine
-  -- times
+  -- the steps of a call of the soft side. A take follows at most once for each bank but the first, and so looks at most as often
+  -- as there are banks
   abbrev pub DrainSteps : DrainCall → List DrainStep → Type 0
   DrainSteps (Takes None) steps = (before : List DrainStep) × AreFollows before
       × FoundNone before steps × (length before ≤ 3 * greatest_bank)

@@ -9,7 +9,7 @@ ghost use Rattle.cyc_ring.specs.Rows.{HoldsStays};
 use crate::ring::Ring;
 use crate::seats::{DrainSeat, RaiseSeat, Stays};
 use cyc_types::{CyclicId, Index};
-use ring_steps::{INDEXES, MARK};
+use ring_steps::MARK;
 use std::snapshot::Snapshot;
 
 /// What a closed ring says of the cyclic at one index.
@@ -33,23 +33,22 @@ pub struct Book {
 #[derive(Drop)]
 pub struct Closed {
     stays: Box<Stays>,
-    pends: [u64; INDEXES],
     raise_seat: Snapshot<RaiseSeat>,
     drain_seat: Snapshot<DrainSeat>,
     ghost rows: { HoldsStays stays.value.ids stays.value.sent stays.value.lost raise_seat.value.side.seat.me.0.raise_trail },
     ghost named: { (i : ℕ) → i < cyclics → slice_index stays.value.ids i ≤ last_id },
     ghost counted: { (i : ℕ) → i < cyclics → slice_index stays.value.ids i ≢ 0
-        → slice_index stays.value.lost i + slice_index pends i % mark_bit ≤ slice_index stays.value.sent i },
+        → slice_index stays.value.lost i + slice_index stays.value.pends i % mark_bit ≤ slice_index stays.value.sent i },
     ghost finished: { (i : ℕ) → i < cyclics → slice_index stays.value.ids i ≢ 0
         → made_calls (slice_index stays.value.ids i) drain_seat.value.side.seat.me.0.drain_trail + slice_index stays.value.lost i
-        + slice_index pends i % mark_bit ≡ slice_index stays.value.sent i + ended_calls
+        + slice_index stays.value.pends i % mark_bit ≡ slice_index stays.value.sent i + ended_calls
         (slice_index stays.value.ids i) raise_seat.value.side.seat.me.0.raise_trail },
     ghost marked: { (i : ℕ) → i < cyclics → slice_index stays.value.ids i ≢ 0
         → marked_of raise_seat.value.side.seat.me.0.raise_trail ≡ Some (slice_index stays.value.ids i)
-        → mark_bit ≤ slice_index pends i },
+        → mark_bit ≤ slice_index stays.value.pends i },
     ghost unmarked: { (i : ℕ) → i < cyclics → slice_index stays.value.ids i ≢ 0
         → marked_of raise_seat.value.side.seat.me.0.raise_trail ≢ Some (slice_index stays.value.ids i)
-        → slice_index pends i < mark_bit },
+        → slice_index stays.value.pends i < mark_bit },
 }
 
 impl Ring {
@@ -74,7 +73,7 @@ impl Ring {
             side: firing,
             setting: _,
             finder: _,
-            stays,
+            mut stays,
             bank: _,
             mask: _,
             next: _,
@@ -88,10 +87,9 @@ impl Ring {
             hand: _,
         } = drain_seat;
         let both = words.join(firing, soft);
-        let pends = words.close(both);
+        words.close(both, &mut stays.pends);
         Closed {
             stays,
-            pends,
             raise_seat: known,
             drain_seat: done,
         }
@@ -111,7 +109,7 @@ impl Closed {
         let id = CyclicId::new(self.stays.ids[at])?;
         let sent = self.stays.sent[at];
         let lost = self.stays.lost[at];
-        let pend = self.pends[at];
+        let pend = self.stays.pends[at];
         let count = (pend % MARK) as u32;
         Some(Book {
             id,

@@ -11,18 +11,19 @@ ghost use Rattle.cyc_ring.specs.Rows.{HoldsStays, stay_index, entry_in_hand};
 ghost use Rattle.cyc_ring.specs.Views.{IsSeenSound, IsBalanced};
 
 use cyc_finder::Finder;
-use cyc_types::CyclicId;
+use cyc_types::{CYCLICS, CyclicId};
 use ring_rule::Setting;
 use ring_steps::{FiringSide, INDEXES, SoftSide};
 use std::alloc::{AllocError, Global};
 
-/// For each index the id of its cyclic, 0 where it is free, and the counts of its stay. They stand in memory of their own, so
-/// that a seat that is moved copies little.
+/// For each index the id of its cyclic, 0 where it is free, and the counts of its stay; and its pend word, once the ring is closed. They
+/// stand in memory of their own, so that a seat or a closed ring that is moved copies little.
 #[derive(Drop)]
 pub struct Stays {
     pub(crate) ids: [u64; INDEXES],
     pub(crate) sent: [u64; INDEXES],
     pub(crate) lost: [u64; INDEXES],
+    pub(crate) pends: [u64; INDEXES],
 }
 
 /// The seat of a ring's firing side: what it knows of each index, and its slot in the buffer.
@@ -41,7 +42,8 @@ pub struct RaiseSeat {
     ghost next_is: { next ≡ producer_index setting.start side.seat.me.0.raise_trail % index_range },
     ghost ranges: { (0 < setting.ceiling) × (setting.ceiling < 2 ^ 32) × (setting.start < 2 ^ 32) },
     ghost rows: { HoldsStays stays.value.ids stays.value.sent stays.value.lost side.seat.me.0.raise_trail },
-    ghost listed: { (id : ℕ) → index_of id finder ≡ stay_index (open_stay id side.seat.me.0.raise_trail) },
+    ghost roomy: { cyclics ≤ finder.room },
+    ghost listed: { (id : ℕ) → index_of id finder.entries ≡ stay_index (open_stay id side.seat.me.0.raise_trail) },
     ghost seen: { IsSeenSound setting.ceiling side.seat.me.0.raise_trail },
     ghost balanced: { IsBalanced side.seat.me.0.raise_trail },
 }
@@ -74,13 +76,15 @@ impl RaiseSeat {
         requires ranges { (0 < setting.ceiling) × (setting.ceiling < 2 ^ 32) × (setting.start < 2 ^ 32) }
         ensures { IfOk result (λ r. (r.side ≡ side) × (r.setting ≡ setting)) }
     {
-        let finder = Finder::new(alloc)?;
+        let mut finder = Finder::new(alloc)?;
+        finder.reserve(usize::from(CYCLICS))?;
         let stays = Box::new(
             alloc,
             Stays {
                 ids: [0; INDEXES],
                 sent: [0; INDEXES],
                 lost: [0; INDEXES],
+                pends: [0; INDEXES],
             },
         )?;
         Ok(RaiseSeat {
@@ -100,7 +104,7 @@ impl RaiseSeat {
         ensures { (result < cyclics) × (slice_index self.now.stays.value.ids result ≡ id) }
     {
         match self.finder.find(id) {
-            Some(index) => index,
+            Some(index) => usize::from(index.number()),
             None => unreachable!(),
         }
     }

@@ -5,7 +5,7 @@ use Rattle.std.specs.Prelude.{Option, Some, None}
 use mathlib.Core.Logic.{dite}
 use native.Mathlib.Decide.{ℕ_discrete}
 use Rattle.cyc_level.proofs.Maps.{some_same}
-use Rattle.cyc_types.specs.Limits.{greatest_bank}
+use Rattle.cyc_types.specs.Limits.{greatest_bank, cyclics}
 use Rattle.cyc_types.specs.Firing.{FiringView, Stay, Stays, at_stay, edited, Admits, Loads, Raises, Marks, Polls, Expands, Looks}
 use Rattle.cyc_types.specs.Firing.{Learns, MayAdmit, MayAsk, MayRaise, MayMark, MayPoll, MayExpand}
 use Rattle.cyc_types.specs.declared.firing.Raised.{Raised}
@@ -15,7 +15,7 @@ use Rattle.cyc_ring.specs.Views.{firing_view}
 use Rattle.cyc_ring_sides.specs.Knowing.{index_in, Lists, Knows}
 
 abbrev Fits : List ℕ → ℕ → ℕ → Stay → Type 0
-Fits ids n id s = (s.index < 256) × (get_or ids s.index 0 ≡ id) × (id ≢ 0) × (s.sent ≤ n)
+Fits ids n id s = (s.index < cyclics) × (get_or ids s.index 0 ≡ id) × (id ≢ 0) × (s.sent ≤ n)
 
 is_some : (o : Option Stay) (i : ℕ) → index_in o ≡ Some i → (s : Stay) × (o ≡ Some s)
 is_some None i e = absurd (cc)
@@ -41,7 +41,7 @@ module _ (f : Stay → Stay) (d : ℕ) (keeps : (s : Stay) → ((f s).index ≡ 
   fits : (ids : List ℕ) (n m j : ℕ) → n + d ≤ m → (r s : Stay) → (s ≡ f r) ⊎ (s ≡ r) → Fits ids n j r → Fits ids m j s
   fits ids n m j more r s (inl e) h = let k = keeps r in
       subst (λ (x : Stay). Fits ids m j x) (sym e) (
-        subst (λ (i : ℕ). i < 256) (sym k.0) h.0,
+        subst (λ (i : ℕ). i < cyclics) (sym k.0) h.0,
         ap (λ (i : ℕ). get_or ids i 0) k.0
             ∙ h.1,
         h.2,
@@ -57,19 +57,19 @@ module _ (f : Stay → Stay) (d : ℕ) (keeps : (s : Stay) → ((f s).index ≡ 
   }
 
 module _ (ids : List ℕ) (n : ℕ) (stays : Stays) (L : Lists ids n stays) where
-  pub absent : (id : ℕ) → ((i : ℕ) → i < 256 → get_or ids i 0 ≢ id) → stays id ≡ None
+  pub absent : (id : ℕ) → ((i : ℕ) → i < cyclics → get_or ids i 0 ≢ id) → stays id ≡ None
   absent id never = is_none (stays id) (λ s e. let o = L.only id s e in never s.index o.0 o.1)
 
   pub apart : (i : ℕ) → get_or ids i 0 ≡ 0 → (j : ℕ) (s : Stay) → stays j ≡ Some s → ¬ (s.index ≡ i)
   apart i free j s e at = let o = L.only j s e in o.2 (sym o.1 ∙ (ap (λ (x : ℕ). get_or ids x 0) at ∙ free))
 
-  pub stay_of : (i id : ℕ) → i < 256 → get_or ids i 0 ≡ id → id ≢ 0 → (s : Stay) × (stays id ≡ Some s) × (s.sent ≤ n)
+  pub stay_of : (i id : ℕ) → i < cyclics → get_or ids i 0 ≡ id → id ≢ 0 → (s : Stay) × (stays id ≡ Some s) × (s.sent ≤ n)
   stay_of i id low is real = let x = is_some (stays id) i
       (subst (λ (y : ℕ). index_in (stays y) ≡ Some i) is (L.used i low (λ z. real (sym is ∙ z)))) in
       (x.0, x.1, (L.only id x.0 x.1).3)
 
-  module _ (id i : ℕ) (low : i < 256) (long : i < length ids) (real : id ≢ 0) where
-    lists_admitted : get_or ids i 0 ≡ 0 → ((k : ℕ) → k < 256 → get_or ids k 0 ≢ id)
+  module _ (id i : ℕ) (low : i < cyclics) (long : i < length ids) (real : id ≢ 0) where
+    lists_admitted : get_or ids i 0 ≡ 0 → ((k : ℕ) → k < cyclics → get_or ids k 0 ≢ id)
         → Lists (set ids i id) n (at_stay id (λ _. Some record { index = i; sent = 0; lost = 0; seen = 0 }) stays)
     lists_admitted free never = let new : Stay = record { index = i; sent = 0; lost = 0; seen = 0 } in record {
       used = λ j lj uj. dite (ℕ_discrete j i)
@@ -119,7 +119,7 @@ module _ (ids : List ℕ) (n : ℕ) (stays : Stays) (L : Lists ids n stays) wher
     }
 
 pub knows_begin : (ceiling : ℕ) (ids : List ℕ) (n : ℕ) (marked : Option ℕ) (bank : ℕ) (followed : Bool) → n ≡ 0 → marked ≡ None
-    → bank ≡ 0 → followed ≡ true → ((i : ℕ) → i < 256 → get_or ids i 0 ≡ 0)
+    → bank ≡ 0 → followed ≡ true → ((i : ℕ) → i < cyclics → get_or ids i 0 ≡ 0)
     → Knows ids n marked bank followed (firing_view ceiling [])
 knows_begin ceiling ids n marked bank followed n0 m0 b0 f0 none = record {
   lists = record { used = λ i low real. absurd (real (none i low)); only = λ id s e. absurd (cc) };
@@ -131,7 +131,7 @@ knows_begin ceiling ids n marked bank followed n0 m0 b0 f0 none = record {
 
 module _ (ids : List ℕ) (n : ℕ) (marked : Option ℕ) (bank : ℕ) (followed : Bool) (v : FiringView)
     (K : Knows ids n marked bank followed v) where
-  pub may_admit : (id i : ℕ) → get_or ids i 0 ≡ 0 → ((k : ℕ) → k < 256 → get_or ids k 0 ≢ id) → i < 2 ^ bank → MayAdmit id i v
+  pub may_admit : (id i : ℕ) → get_or ids i 0 ≡ 0 → ((k : ℕ) → k < cyclics → get_or ids k 0 ≢ id) → i < 2 ^ bank → MayAdmit id i v
   may_admit id i free never small = (
     absent ids n v.stays K.lists id never,
     apart ids n v.stays K.lists i free,
@@ -139,18 +139,18 @@ module _ (ids : List ℕ) (n : ℕ) (marked : Option ℕ) (bank : ℕ) (followed
     K.free_hand,
   )
 
-  pub may_raise : (id i : ℕ) → i < 256 → get_or ids i 0 ≡ id → id ≢ 0 → ¬ (marked ≡ Some id) → n < 2 ^ 64 - 1 → MayRaise id v
+  pub may_raise : (id i : ℕ) → i < cyclics → get_or ids i 0 ≡ id → id ≢ 0 → ¬ (marked ≡ Some id) → n < 2 ^ 64 - 1 → MayRaise id v
   may_raise id i low is real unmarked few = let s = stay_of ids n v.stays K.lists i id low is real in
       ((s.0, s.1, omega (arith, s.2, few)), (λ e. unmarked (sym K.marked_is ∙ e)), K.free_hand)
 
-  pub may_ask : (id i : ℕ) → i < 256 → get_or ids i 0 ≡ id → id ≢ 0 → MayAsk id v
+  pub may_ask : (id i : ℕ) → i < cyclics → get_or ids i 0 ≡ id → id ≢ 0 → MayAsk id v
   may_ask id i low is real = let s = stay_of ids n v.stays K.lists i id low is real in ((s.0, s.1, tt), K.free_hand)
 
-  pub may_mark : (id i : ℕ) → i < 256 → get_or ids i 0 ≡ id → id ≢ 0 → marked ≡ None → MayMark id v
+  pub may_mark : (id i : ℕ) → i < cyclics → get_or ids i 0 ≡ id → id ≢ 0 → marked ≡ None → MayMark id v
   may_mark id i low is real none = let s = stay_of ids n v.stays K.lists i id low is real in
       ((s.0, s.1, tt), K.marked_is ∙ none, K.free_hand)
 
-  pub may_poll : (id i : ℕ) → i < 256 → get_or ids i 0 ≡ id → id ≢ 0 → marked ≡ Some id → MayPoll id v
+  pub may_poll : (id i : ℕ) → i < cyclics → get_or ids i 0 ≡ id → id ≢ 0 → marked ≡ Some id → MayPoll id v
   may_poll id i low is real its = let s = stay_of ids n v.stays K.lists i id low is real in
       ((s.0, s.1, tt), K.marked_is ∙ its, K.free_hand)
 
@@ -159,8 +159,8 @@ module _ (ids : List ℕ) (n : ℕ) (marked : Option ℕ) (bank : ℕ) (followed
 
 module _ (ids : List ℕ) (n : ℕ) (marked : Option ℕ) (bank : ℕ) (followed : Bool) (v w : FiringView)
     (K : Knows ids n marked bank followed v) where
-  pub knows_admit : (id i : ℕ) → i < 256 → i < length ids → id ≢ 0 → get_or ids i 0 ≡ 0
-      → ((k : ℕ) → k < 256 → get_or ids k 0 ≢ id) → Learns v (Admits id i) w → Knows (set ids i id) n marked bank followed w
+  pub knows_admit : (id i : ℕ) → i < cyclics → i < length ids → id ≢ 0 → get_or ids i 0 ≡ 0
+      → ((k : ℕ) → k < cyclics → get_or ids k 0 ≢ id) → Learns v (Admits id i) w → Knows (set ids i id) n marked bank followed w
   knows_admit id i low long real free never l = subst (λ (x : FiringView). Knows (set ids i id) n marked bank followed x) (sym l)
       record {
         lists = lists_admitted ids n v.stays K.lists id i low long real free never;
@@ -238,7 +238,7 @@ module _ (ids : List ℕ) (n : ℕ) (marked : Option ℕ) (bank : ℕ) (followed
             K.free_hand;
       }
 
-  pub knows_clear : (id i : ℕ) (counts : Sent) → i < 256 → i < length ids → id ≢ 0 → get_or ids i 0 ≡ id
+  pub knows_clear : (id i : ℕ) (counts : Sent) → i < cyclics → i < length ids → id ≢ 0 → get_or ids i 0 ≡ id
       → Learns v (Polls id (Some counts)) w → Knows (set ids i 0) n None bank followed w
   knows_clear id i counts low long real is l = subst (λ (x : FiringView). Knows (set ids i 0) n None bank followed x) (sym l.1)
       record {

@@ -7,7 +7,7 @@ use crate::help::{Counts, book, expect, open};
 use cyc_ring::{Closed, DrainSeat, Ring};
 use cyc_ring_sides::firing_side::{FiringSide, KnownSeat, NotAllowed};
 use cyc_ring_sides::soft_side::SoftSide;
-use cyc_types::{CyclicId, Finished, GREATEST_BANK, Index, Raised};
+use cyc_types::{CYCLICS, CyclicId, Finished, GREATEST_BANK, Index, Raised};
 use std::alloc::Global;
 use std::test::Fail;
 
@@ -20,7 +20,7 @@ fn fill(firing_side: &mut FiringSide) -> Result<(), NotAllowed>
     ensures { firing_side.new.ring.now ≡ firing_side.old.ring.now }
 {
     firing_side.expand(GREATEST_BANK)?;
-    for i in 0..256u16 {
+    for i in 0..CYCLICS {
         firing_side.admit(id_at(i)?, Index::new(i).ok_or(NotAllowed)?)?;
     }
     Ok(())
@@ -31,19 +31,19 @@ fn raise_each(firing_side: &mut FiringSide) -> Result<bool, NotAllowed>
     ensures { firing_side.new.ring.now ≡ firing_side.old.ring.now }
 {
     let mut first = true;
-    for i in 0..256u16 {
+    for i in 0..CYCLICS {
         let raised = firing_side.raise(id_at(i)?)?;
         first = first && raised == Raised::First;
     }
     Ok(first)
 }
 
-/// Takes and finishes the 256 calls of a full buffer: whether they came in the order of their raises.
+/// Takes and finishes all calls of a full buffer: whether they came in the order of their raises.
 fn serve_each(soft_side: &mut SoftSide) -> Result<bool, NotAllowed>
     ensures { soft_side.new.ring.now ≡ soft_side.old.ring.now }
 {
     let mut in_order = true;
-    for i in 0..256u16 {
+    for i in 0..CYCLICS {
         let taken = soft_side.take()?;
         in_order = in_order && taken == Some(id_at(i)?) && soft_side.finish()? == Finished::Last;
     }
@@ -79,7 +79,7 @@ fn goes_round(
 
 /// Whether each index has a book of three calls that are done.
 fn three_each(closed: &Closed) -> bool {
-    (0..256u16).all(|i| book(closed, i) == Some(Counts::done(i as u64 + 1, 3, 0)))
+    (0..CYCLICS).all(|i| book(closed, i) == Some(Counts::done(i as u64 + 1, 3, 0)))
 }
 
 fn closed_after(alloc: Global, start: u32) -> Result<(bool, bool), Fail> {
@@ -89,10 +89,10 @@ fn closed_after(alloc: Global, start: u32) -> Result<(bool, bool), Fail> {
     Ok((right, three_each(&closed)))
 }
 
-// All 256 cyclics are pending at once, in the greatest bank, whose indexes wrap in the second round.
+// All cyclics that a ring can have are pending at once, in the greatest bank, whose indexes wrap in the second round.
 #[test]
 fn the_greatest_bank_holds_all_cyclics(rt: HostRuntime) -> Result<(), Fail> {
-    let found = closed_after(rt.alloc(), 4294966996)?;
+    let found = closed_after(rt.alloc(), 4294963156)?;
     expect(&rt, found, (true, true));
     Ok(())
 }

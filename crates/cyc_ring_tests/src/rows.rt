@@ -1,5 +1,5 @@
 //! Worked rings: calls with their answers, and the books after them.
-use crate::help::{Books, Counts, books, expect, open};
+use crate::help::{Books, Counts, book, books, expect, open};
 use crate::play::{Call, Differs, play};
 use Call::{Admit, Expand, Finish, Followed, Load, Mark, PollClear, Raise, Take};
 use cyc_types::{Finished, Raised, Sent};
@@ -244,5 +244,29 @@ fn the_old_bank_is_drained_first(rt: HostRuntime) -> Result<(), Fail> {
     expect(&rt, found, (None, switched()));
     let found = closed_after(rt.alloc(), 5, 4294967295, &SKIPPED)?;
     expect(&rt, found, (None, [Some(Counts::done(1, 1, 0)), None]));
+    Ok(())
+}
+
+/// The last id.
+const LAST: u64 = 4503599627370495;
+
+// The last id at the last index of the greatest bank: its entry is the greatest number that a word holds.
+const AT_THE_END: [Call; 7] = [
+    Expand(12),
+    Admit(LAST, 4095),
+    Raise(LAST, Raised::First),
+    Raise(LAST, Raised::Lost),
+    Take(Some(LAST)),
+    Finish(Finished::Last),
+    Followed(true),
+];
+
+#[test]
+fn the_last_id_has_an_entry_at_the_last_index(rt: HostRuntime) -> Result<(), Fail> {
+    let (ring, raise_seat, drain_seat) = open(rt.alloc(), 1, 0)?;
+    let (raise_seat, drain_seat, differs) = play(&ring, raise_seat, drain_seat, &AT_THE_END);
+    let closed = ring.close(raise_seat.seat(), drain_seat);
+    let found = (differs, book(&closed, 4095));
+    expect(&rt, found, (None, Some(Counts::done(LAST, 2, 1))));
     Ok(())
 }

@@ -11,9 +11,9 @@ use test_handlers::Handlers;
 /// The moment that never comes.
 const NEVER: u64 = 9_223_372_036_854_775_807;
 
-/// Adds 256 cyclics to a system of one CPU, and lets both soft levels follow after each.
+/// Adds 4,096 cyclics to a system of one CPU, and lets both soft levels follow after each.
 fn fill(rt: &impl Abort, system: &mut System<LevelCore>, calls: &mut Handlers) -> Result<(), Fail> {
-    for number in 1..257_u64 {
+    for number in 1..4097_u64 {
         let steps = [
             (Step::Add(Level::High, 10, 10, 0), Answer::Id(number)),
             (Step::Softint(0, Soft::Low, 1), Answer::Ran(0, true)),
@@ -24,7 +24,7 @@ fn fill(rt: &impl Abort, system: &mut System<LevelCore>, calls: &mut Handlers) -
     Ok(())
 }
 
-/// Adds 256 cyclics, and tries one more.
+/// Adds 4,096 cyclics, and tries one more.
 fn overfill(
     rt: &impl Abort,
     system: &mut System<LevelCore>,
@@ -36,13 +36,13 @@ fn overfill(
             Step::Add(Level::High, 10, 10, 0),
             Answer::Refused(Refusal::Full),
         ),
-        (Step::Len(0), Answer::Len(256)),
+        (Step::Len(0), Answer::Len(4096)),
     ];
     play(rt, system, calls, &steps)
 }
 
 #[test]
-fn a_cpu_takes_256_cyclics(rt: HostRuntime) -> Result<(), Fail> {
+fn a_cpu_takes_4096_cyclics(rt: HostRuntime) -> Result<(), Fail> {
     let mut system = of_one_cpu(rt.alloc(), 1, u64::MAX)?;
     let mut calls = Handlers::new(rt.alloc(), 0)?;
     overfill(&rt, &mut system, &mut calls)

@@ -32,14 +32,14 @@ fn the_last_id_is_given_once(rt: HostRuntime) -> Result<(), Fail> {
         ),
         (
             Step::Add(Level::High, 0, 10, 0),
-            Answer::Id(72057594037927935),
+            Answer::Id(4503599627370495),
         ),
         (
             Step::Add(Level::High, 0, 10, 0),
             Answer::Refused(Refusal::IdsSpent),
         ),
     ];
-    within(&rt, rt.alloc(), 72057594037927935, u64::MAX, &steps)
+    within(&rt, rt.alloc(), 4503599627370495, u64::MAX, &steps)
 }
 
 #[test]

@@ -112,7 +112,7 @@ module _ {C R : Type 0} (handler : Calls C)
 
   -- there are ids enough
   ids_left : (last given : ℕ) → last ≤ given → given + 1 ≤ names → last + 1 ≤ last_id
-  ids_left last given a b = let c : names ≤ 256 = few in omega (arith, a, b, c)
+  ids_left last given a b = let c : names ≤ most_cyclics = few in omega (arith, a, b, c)
 
   -- ---- a name gets a cyclic
 

@@ -1,8 +1,9 @@
 -- The definitions, computed on worked scripts.
-use Rattle.std.proofs.Common.{◌≡◌, ℕ, zero, suc, ◌<◌, ◌≤◌, arith, sym, subst, Bool, true, false, Some, None, List, [], ◌∷◌}
+use Rattle.std.proofs.Common.{◌≡◌, ℕ, zero, suc, ◌+◌, ◌<◌, ◌≤◌, arith, sym, subst, Bool, true, false, Some, None, List, [], ◌∷◌}
 use Rattle.std.proofs.Common.{◌++◌, map, refl}
 use Rattle.std.specs.Prelude.{pos, negsuc, ℤ, codes}
 use Rattle.std.specs.Fmt.{digits}
+use Rattle.cyc_types.specs.Limits.{cyclics as most_cyclics}
 use Rattle.cyc_types.specs.declared.level.Level.TheVariants as level
 use Rattle.cyc_script.specs.declared.step.Step.{Step}
 use Rattle.cyc_script.specs.declared.step.Step.TheVariants.{Add, Remove, Advance, Juggle, Offline, Online, Suspend, Resume}
@@ -155,9 +156,17 @@ an_advance_does_not calm = by (calm.apart 0 2 0 1 (omega arith) refl refl)
     by : AreParted advanced 0 2 → ⊥
     by r = at r.place r.step r.after r.before r.here r.parts
 
--- nor is a script with an offline calm, or one with 257 names
+-- nor is a script with an offline calm, or one with more names than a CPU can have cyclics
 an_offline_is_not_calm : AreCalm (Offline 0 ∷ []) 0 → ⊥
 an_offline_is_not_calm calm = calm.online 0 0 refl
 
-names_too_many : AreCalm [] 257 → ⊥
-names_too_many calm = let few : 257 ≤ 256 = calm.few in omega (arith, few)
+names_too_many : AreCalm [] (most_cyclics + 1) → ⊥
+names_too_many calm = let few : most_cyclics + 1 ≤ most_cyclics = calm.few in omega (arith, few)
+
+-- one with as many is
+names_enough : AreCalm [] most_cyclics
+names_enough = record {
+  apart = λ i j a b less p q. absurd (none_is p);
+  online = λ i n p. none_is p;
+  few = omega arith;
+}

@@ -1,6 +1,7 @@
 -- The definitions, computed on worked scripts.
-use Rattle.std.proofs.Common.{◌≡◌, ℕ, true, false, Some, None, List, [], ◌∷◌, replicate, refl}
+use Rattle.std.proofs.Common.{◌≡◌, ℕ, ◌+◌, ◌-◌, ◌*◌, true, false, Some, None, List, [], ◌∷◌, replicate, refl}
 use Rattle.std.specs.Prelude.{pos, negsuc}
+use Rattle.cyc_types.specs.Limits.{cyclics as most_cyclics}
 use Rattle.cyc_types.specs.declared.level.Level.TheVariants as level
 use Rattle.cyc_types.specs.declared.level.Soft.TheVariants as soft
 use Rattle.cyc_script.specs.declared.step.Step.{Step}
@@ -138,30 +139,30 @@ what_goes_on_is_not_resumed = refl
 abbrev crowd : ℕ → Known
 crowd many = record { online = true ∷ true ∷ []; names = replicate many (OnOne (Some 0)); leaving = false; suspended = false }
 
-no_more_is_bound_to_a_full_cpu : has_reason (bind 0 0) (crowd 256) ≡ true
+no_more_is_bound_to_a_full_cpu : has_reason (bind 0 0) (crowd most_cyclics) ≡ true
 no_more_is_bound_to_a_full_cpu = refl
 
-one_more_is : has_reason (bind 0 0) (crowd 255) ≡ false
+one_more_is : has_reason (bind 0 0) (crowd (most_cyclics - 1)) ≡ false
 one_more_is = refl
 
-none_is_everywhere : has_reason (omni 256) (crowd 256) ≡ true
+none_is_everywhere : has_reason (omni most_cyclics) (crowd most_cyclics) ≡ true
 none_is_everywhere = refl
 
-one_more_is_added : has_reason (add 256) (crowd 256) ≡ false
+one_more_is_added : has_reason (add most_cyclics) (crowd most_cyclics) ≡ false
 one_more_is_added = refl
 
-no_more_has_room : has_reason (add 512) (crowd 512) ≡ true
+no_more_has_room : has_reason (add (2 * most_cyclics)) (crowd (2 * most_cyclics)) ≡ true
 no_more_has_room = refl
 
-the_last_of_them_has : has_reason (add 511) (crowd 511) ≡ false
+the_last_of_them_has : has_reason (add (2 * most_cyclics - 1)) (crowd (2 * most_cyclics - 1)) ≡ false
 the_last_of_them_has = refl
 
 -- so many that are bound to none
 abbrev flock : ℕ → Known
 flock many = record { online = true ∷ true ∷ []; names = replicate many (OnOne None); leaving = false; suspended = false }
 
-the_other_has_room_for_256 : has_reason (Offline 0) (flock 256) ≡ false
-the_other_has_room_for_256 = refl
+the_other_has_room_for_the_most : has_reason (Offline 0) (flock most_cyclics) ≡ false
+the_other_has_room_for_the_most = refl
 
-not_for_257 : has_reason (Offline 0) (flock 257) ≡ true
-not_for_257 = refl
+not_for_one_more : has_reason (Offline 0) (flock (most_cyclics + 1)) ≡ true
+not_for_one_more = refl

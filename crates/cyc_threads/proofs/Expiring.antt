@@ -63,7 +63,7 @@ use Rattle.cyc_threads.specs.Running.{most}
 use Rattle.cyc_threads.proofs.Following.{begins_all, does_all}
 use Rattle.cyc_threads.proofs.Ready.{changes_long}
 use Rattle.cyc_threads.proofs.Taking.{fit_before, fit_drop}
-use Rattle.cyc_threads.proofs.Fires.{sums_grow, each_grows, all_grow, timer_few}
+use Rattle.cyc_threads.proofs.Fires.{most_of_all, sums_grow, each_grows, all_grow, timer_few}
 
 abbrev sent : Sent → ℕ
 sent c = c.sent
@@ -210,8 +210,8 @@ module _ {C R : Type 0} (handler : Calls C) (firing : Raise R) where
       asked n x y p q = let a = w.asked.cpus.each n x y p q in asks_same firing a.0 x y a.1
 
   fires_more : (now k : ℕ) (s t : Progress R C) → Fires handler firing now s t → Has k s.side
-      → Has (k + 12288000024576) t.side
-  fires_more now k s t f h = subst (λ (x : SystemSide R C). Has (k + 12288000024576) x) (sym f.side) (record {
+      → Has (k + most_of_all) t.side
+  fires_more now k s t f h = subst (λ (x : SystemSide R C). Has (k + most_of_all) x) (sym f.side) (record {
     ready = f.fired.long_leads ∙ h.ready ∙ sym f.fired.long;
     sound = sound;
     most = λ n y at. (let (x, p) = there s.side.system.cpus.cpus f.after.side.system.cpus.cpus n y f.fired.long at in
@@ -226,11 +226,11 @@ module _ {C R : Type 0} (handler : Calls C) (firing : Raise R) where
   -- ---- steps
 
   step_more : (x : Step) (s t : Progress R C) (k : ℕ) → TakesStep handler firing s x t → Has k s.side
-      → Has (k + 12288000024576) t.side
+      → Has (k + most_of_all) t.side
   step_more x s t k (u, begins, does) h =
       let begun = begins_all handler firing Quiet same joined quiet_calls quiet_settles sets (waits_first x) s u begins k h in
-      does_all handler firing Quiet same joined quiet_calls quiet_settles sets (Has (k + 12288000024576) t.side) x u t
-      (λ quiet. more k (k + 12288000024576) t.side (omega arith) (quiet k begun))
+      does_all handler firing Quiet same joined quiet_calls quiet_settles sets (Has (k + most_of_all) t.side) x u t
+      (λ quiet. more k (k + most_of_all) t.side (omega arith) (quiet k begun))
       (λ now f. fires_more now k u t f begun) does
     where
       same : (p : Progress R C) → Quiet p p
@@ -243,12 +243,12 @@ module _ {C R : Type 0} (handler : Calls C) (firing : Raise R) where
       sets now p n g = g
 
   pub steps_more : (all : List Step) (s t : Progress R C) (k : ℕ) → TakesSteps handler firing s all t → Has k s.side
-      → Has (k + length all * 12288000024576) t.side
+      → Has (k + length all * most_of_all) t.side
   steps_more [] s t k e h =
-      more k (k + 0 * 12288000024576) t.side (omega arith) (subst (λ (p : Progress R C). Has k p.side) e h)
+      more k (k + 0 * most_of_all) t.side (omega arith) (subst (λ (p : Progress R C). Has k p.side) e h)
   steps_more (x ∷ all) s t k (u, d, rest) h =
-      more (k + 12288000024576 + length all * 12288000024576) (k + length (x ∷ all) * 12288000024576) t.side (omega arith)
-      (steps_more all u t (k + 12288000024576) rest (step_more x s u k d h))
+      more (k + most_of_all + length all * most_of_all) (k + length (x ∷ all) * most_of_all) t.side (omega arith)
+      (steps_more all u t (k + most_of_all) rest (step_more x s u k d h))
 
 -- ---- a fire that is refused
 
@@ -276,7 +276,7 @@ module _ {C R : Type 0} (handler : Calls C) (firing : Raise R) where
       let b = stays_found firing.view id (λ t. t.sent.sent) s sound.lawful in omega (arith, a, b)
 
   -- the fire of a CPU, in an advance of a system in which no id has expired too often
-  module _ (k now : ℕ) (s : SystemSide R C) (b : Advanced R C) (h : HasExpired firing k s) (low : k ≤ 65536 * 12288000024576)
+  module _ (k now : ℕ) (s : SystemSide R C) (b : Advanced R C) (h : HasExpired firing k s) (low : k ≤ 65536 * most_of_all)
       (before : now < never) (awake : is_suspended s.system ≡ false) (f : AllFire handler firing now s b) where
     -- no CPU is suspended
     awake_all : (n : ℕ) (x : CpuView R) → slice_get s.system.cpus.cpus n ≡ Some x → x.suspended ≡ false
@@ -337,7 +337,7 @@ module _ {C R : Type 0} (handler : Calls C) (firing : Raise R) where
       place : ℕ
       place = h.place
 
-      taken : HasExpired firing (0 + length (take place all) * 12288000024576) h.before.side
+      taken : HasExpired firing (0 + length (take place all) * most_of_all) h.before.side
       taken = steps_more handler firing (take place all) first h.before 0 h.taken none
 
       by : StepHalts handler firing h.last h.before (halt.Fired n why) → HandlerRefuses handler.may_refuse why
@@ -345,7 +345,7 @@ module _ {C R : Type 0} (handler : Calls C) (firing : Raise R) where
       by (inr (now, is, (awake, after, f, refused))) =
           let few : length all ≤ 65536 = form.few_steps in let short = length-take place all in
           let before = fit_before all place h.last h.here.0 (sym h.here.1) (fit_drop all place (0, form.moments_in_order)) in
-          refused_by_handler (0 + length (take place all) * 12288000024576) now h.before.side after taken
+          refused_by_handler (0 + length (take place all) * most_of_all) now h.before.side after taken
           (omega (arith, few, short)) (subst (λ (x : Step). IsBefore x) is before) awake f n why refused.here
 
 -- ---- before the first step

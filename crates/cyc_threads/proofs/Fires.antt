@@ -12,6 +12,7 @@ use Rattle.cyc_types.specs.declared.Calls.{Ghosts as Calls}
 use Rattle.cyc_types.specs.declared.Raise.{Ghosts as Raise}
 use Rattle.cyc_types.specs.declared.level.Level.{Level}
 use Rattle.cyc_types.specs.declared.level.Level.TheVariants.{Low, Lock, High}
+use Rattle.cyc_types.specs.Limits.{cyclics as most_cyclics}
 use Rattle.cyc_types.specs.Series.{due, late}
 use Rattle.cyc_types.specs.Timers.{Timer}
 use Rattle.cyc_types.specs.Expirations.{Expiration, expirations, times_of}
@@ -83,10 +84,17 @@ few_share level ts made id = by (is_of level (timer_of id ts)) (count_by-le-leng
     by true few = few
     by false few = omega arith
 
--- what a CPU has of the id grows by no more than 256 cyclics make at each of three levels, and what a cyclic may expire at most
--- is the same
+-- what a fire makes at most: as many cyclics as a CPU can have, at each of three levels
+abbrev pub most_made : ℕ
+most_made = 3 * most_cyclics * (late + 2)
+
+-- and an advance, over 16 CPUs. In a script of 65,536 steps this must stay below 2^64
+abbrev pub most_of_all : ℕ
+most_of_all = 16 * most_made
+
+-- what a CPU has of the id grows by no more than a fire makes, and what a cyclic may expire at most is the same
 pub record Grows {R : Type 0} (id : ℕ) (x y : CpuView R) : Type 0 where
-  pub few : expired_of id y.cyclics ≤ expired_of id x.cyclics + 768000001536
+  pub few : expired_of id y.cyclics ≤ expired_of id x.cyclics + most_made
   pub most : y.most ≡ x.most
 
 module _ {C R : Type 0} (handler : Calls C) (firing : Raise R) (id now : ℕ) where
@@ -100,7 +108,7 @@ module _ {C R : Type 0} (handler : Calls C) (firing : Raise R) (id now : ℕ) wh
       let c = few_share High (timers cs) made id in
       let e = few_made now answer cs in let f = few_expirations now (timers cs) in
       let g : length (timers cs) ≡ length cs = length-map cs (λ (c : Cyclic). c.timer) in
-      let few = law.few in let size : s.cpu.size ≤ 256 = law.size in
+      let few = law.few in let size : s.cpu.size ≤ most_cyclics = law.size in
       record { few = omega (arith, own, a, b, c, e, f, g, few, size); most = p.limits.most }
 
   if_grows : (up : Bool) (s t : Running C R) (answer : Option (Result Fired FireRefused)) → IsLawful firing.view s.cpu
@@ -130,14 +138,14 @@ module _ {C R : Type 0} (handler : Calls C) (firing : Raise R) (id now : ℕ) wh
 
     -- of 16 CPUs
     pub all_grow : IsSound firing.view b.side.system
-        → all_expired id b.side.system ≤ all_expired id a.system + 12288000024576
+        → all_expired id b.side.system ≤ all_expired id a.system + most_of_all
     all_grow after =
         let x = stays_found firing.view id (λ t. t.sent.sent) a.system sound.lawful in
         let y = stays_found firing.view id (λ t. t.sent.sent) b.side.system after.lawful in
         let r = ap (λ rs. option_map_or (λ r. sum_by (λ e. e.sent) r.ended) (found id rs) 0) f.records in
-        let g = sums_grow (on_cpu (λ t. t.sent.sent) id) (λ (v : CpuView R). 768000001536) a.system.cpus.cpus
+        let g = sums_grow (on_cpu (λ t. t.sent.sent) id) (λ (v : CpuView R). most_made) a.system.cpus.cpus
         b.side.system.cpus.cpus f.long (λ n v w p q. (each_grows n v w p q).few) in
-        let s = sum_by-le (λ (v : CpuView R). 768000001536) 768000001536 a.system.cpus.cpus (λ k d low. omega arith) in
+        let s = sum_by-le (λ (v : CpuView R). most_made) most_made a.system.cpus.cpus (λ k d low. omega arith) in
         let few = sound.agrees.few in omega (arith, x, y, r, g, s, few)
 
 -- ---- one cyclic

@@ -1,5 +1,6 @@
 pub mod Removing
 pub mod Tables
+pub mod Finding
 pub mod Widening
 pub mod Acting
 pub mod Nexts
@@ -8,3 +9,4 @@ pub mod Making
 pub mod Stepping
 pub mod Sharing
 pub mod Sparing
+pub use Rattle.cyc_finder.proofs.Walks

@@ -9,9 +9,8 @@ use Rattle.std.proofs.lemmas.List.Edits.{length-remove, get_or-remove_below, get
 use Rattle.std.proofs.lemmas.List.Sums.{sum_by-set}
 use Rattle.cyc_types.specs.Expirations.{Expiration}
 use Rattle.cyc_finder.proofs.RisingIds.{rises_removed}
-use Rattle.cyc_finder.specs.declared.finder.Entry.{Entry}
+use Rattle.cyc_finder.specs.Indexes.{Entry, id_in}
 use Rattle.cyc_timers.specs.declared.table.Record.{Record}
-use Rattle.cyc_finder.specs.Indexes.{id_in}
 use Rattle.cyc_timers.specs.Rows.{Row, joined, no_record, row_of, rows_of, IsTable}
 use Rattle.cyc_timers.proofs.Tables.{Standing, no_place, map_same, apart_index, slot_changed, tally}
 

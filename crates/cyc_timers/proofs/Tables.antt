@@ -15,9 +15,8 @@ use Rattle.cyc_types.specs.Series.{never}
 use Rattle.cyc_types.specs.Expirations.{Expiration, is_before, next_of}
 use Rattle.cyc_types.specs.Timers.{Timer, IsSound}
 use Rattle.cyc_finder.specs.Sorted.{IsAt, IsGap}
-use Rattle.cyc_finder.specs.declared.finder.Entry.{Entry}
+use Rattle.cyc_finder.specs.Indexes.{Entry, id_in}
 use Rattle.cyc_timers.specs.declared.table.Record.{Record}
-use Rattle.cyc_finder.specs.Indexes.{id_in}
 use Rattle.cyc_timers.specs.Rows.{Row, no_record, moment_in, joined, row_of, rows_of, timers_of, IsTable, IsRow, IsRising}
 use Rattle.cyc_timers.specs.Rows.{HasDistinctIndexes, IsFirstAt, IsRecordOf, at_moment, with_record, with_counts, TableView}
 use Rattle.cyc_timers.specs.Rows.{Cyclic, cyclic_of, cyclics_of, HasNo}

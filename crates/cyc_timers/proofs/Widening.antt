@@ -13,9 +13,8 @@ use Rattle.cyc_types.specs.Series.{never}
 use Rattle.cyc_types.specs.Expirations.{Expiration}
 use Rattle.cyc_finder.specs.Sorted.{IsGap}
 use Rattle.cyc_finder.proofs.RisingIds.{rises_inserted}
-use Rattle.cyc_finder.specs.declared.finder.Entry.{Entry}
+use Rattle.cyc_finder.specs.Indexes.{Entry, id_in}
 use Rattle.cyc_timers.specs.declared.table.Record.{Record}
-use Rattle.cyc_finder.specs.Indexes.{id_in}
 use Rattle.cyc_timers.specs.Rows.{no_record, joined, row_of, rows_of, IsTable}
 use Rattle.cyc_timers.proofs.Tables.{no_place, slot_low, map_same, slot_changed, tally}
 

@@ -7,9 +7,8 @@ use Rattle.cyc_types.specs.declared.level.Level.TheVariants.{Low}
 use Rattle.cyc_types.specs.Expirations.{Expiration, is_before, next_of}
 use Rattle.cyc_types.specs.Timers.{Timer}
 use Rattle.cyc_types.specs.Counting.{no_counts}
-use Rattle.cyc_finder.specs.declared.finder.Entry.{Entry}
-use Rattle.cyc_finder.specs.Indexes.{id_in}
-use Rattle.cyc_finder.specs.Sorted.{Rises}
+use Rattle.cyc_finder.specs.Indexes.{Entry, id_in}
+pub use Rattle.cyc_finder.specs.Sorted.{Rises, IsAt, IsPassed, ComesAfter, IsNextAfter}
 use Rattle.cyc_timers.specs.declared.table.Record.{Record}
 
 -- a cyclic with its index

@@ -7,6 +7,7 @@ ghost use Rattle.cyc_types.specs.Series.{due, next, never, late};
 ghost use Rattle.cyc_types.specs.Firing.{MayRaise, Sound};
 ghost use Rattle.cyc_types.specs.Levels.{at_level};
 ghost use Rattle.cyc_types.specs.declared.level.Level.TheVariants.{Low, Lock, High};
+ghost use Rattle.cyc_types.specs.declared.refusal.Refusal.TheVariants.{CountSpent};
 ghost use Rattle.cyc_types.specs.Timers.{earliest};
 ghost use Rattle.cyc_types.specs.Expirations.{Expiration, expirations};
 ghost use Rattle.cyc_timers.specs.Rows.{timers_of, cyclics_of};
@@ -137,6 +138,15 @@ fn next_moment(table: &Table) -> Moment
     }
 }
 
+/// Why a fire stops at a cyclic that has expired as often as it may. A call, so that LLVM takes it for rare.
+#[cold]
+#[inline(never)]
+fn spent(id: CyclicId) -> Refusal
+    ensures { result ≡ CountSpent id }
+{
+    Refusal::CountSpent(id)
+}
+
 /// Makes every expiration that is due, in ascending order (`cyclic_fire`).
 pub fn fire_all<C: Calls, R: Raise>(
     table: &mut Table,
@@ -186,7 +196,7 @@ pub fn fire_all<C: Calls, R: Raise>(
         let count = found.expired;
         if count >= most {
             return Err(FireRefused {
-                why: Refusal::CountSpent(id),
+                why: spent(id),
                 expired,
                 lost,
             });

@@ -9,10 +9,11 @@ ghost use Rattle.cyc_types.specs.Timers.{IsSound};
 ghost use Rattle.cyc_types.specs.declared.refusal.Refusal.TheVariants.{Memory};
 ghost use Rattle.cyc_timers.specs.Rows.{Row, TableView, new_table, timers_of, IsRow, IsRising, HasNo, HasDistinctIndexes};
 ghost use Rattle.cyc_timers.specs.Rows.{vacant_row, with_record, with_counts, at_moment, IsRecordOf, IsFirstAt};
+ghost use Rattle.cyc_finder.specs.Sorted.{IsNextAfter, IsPassed};
 
-use cyc_finder::{Entry, guess, hint_of, search, search_new, search_unguessed, stands_at};
+use cyc_finder::Finder;
 use cyc_heap::ExpiryHeap;
-use cyc_types::{CYCLICS, CyclicId, Index, Interval, Level, Moment, Refusal, Sent};
+use cyc_types::{CyclicId, Index, Interval, Level, Moment, Refusal, Sent};
 use std::alloc::Global;
 use std::marker::Model;
 
@@ -34,14 +35,12 @@ pub struct Record {
 /// The cyclics of a CPU: the expirations in a heap, the records by index, and the indexes by rising id (`cyp_heap` and
 /// `cyp_cyclics` of sys/cyclic_impl.h; the order by id is our own).
 ///
-/// A look-up by id takes O(log n), and so does an expiration. Putting in and taking out move the ids above.
+/// A look-up by id takes O(log n), and so do an expiration, taking out and, on average, putting in above the last id.
 #[derive(Drop)]
 pub struct Table {
     heap: ExpiryHeap,
     records: Vec<Record>,
-    entries: Vec<Entry>,
-    // For the low bits of an id where the last such one was found that `soon` had not: right or not, it says where to look first.
-    hints: [u8; CYCLICS as usize],
+    finder: Finder,
 }
 
 impl Model for Table {
@@ -51,15 +50,15 @@ impl Model for Table {
     ghost Value = { TableView };
 
     ghost view = { λ t. record {
-      rows = rows_of t.heap.slots t.records.items t.entries.items;
+      rows = rows_of t.heap.slots t.records.items t.finder.entries;
       root = t.heap.root;
       size =
           length t.heap.slots;
       room = t.heap.room;
     } };
 
-    ghost invariant = { λ t. IsTable t.heap.slots t.records.items t.entries.items × (t.heap.room ≤ vec_capacity t.records)
-        × (t.heap.room ≤ vec_capacity t.entries) × (length t.heap.slots ≤ t.heap.room) };
+    ghost invariant = { λ t. IsTable t.heap.slots t.records.items t.finder.entries × (t.heap.room ≤ vec_capacity t.records)
+        × (t.heap.room ≤ t.finder.room) × (length t.heap.slots ≤ t.heap.room) };
 }
 
 impl Record {
@@ -84,14 +83,13 @@ impl Table {
         ensures err { IfErr result (λ refusal. refusal ≡ Memory) }
     {
         let mut records = Vec::with_capacity(alloc, 1)?;
-        let entries = Vec::with_capacity(alloc, 1)?;
+        let finder = Finder::new(alloc)?;
         let heap = ExpiryHeap::new(alloc)?;
         let _ = records.push(Record::vacant());
         Ok(Table {
             heap,
             records,
-            entries,
-            hints: [0; CYCLICS as usize],
+            finder,
         })
     }
 
@@ -105,8 +103,7 @@ impl Table {
     {
         self.records
             .reserve(size.saturating_sub(self.records.len()))?;
-        self.entries
-            .reserve(size.saturating_sub(self.entries.len()))?;
+        self.finder.reserve(size)?;
         self.heap.reserve(size)
     }
 
@@ -122,7 +119,7 @@ impl Table {
     }
 
     /// Puts in a cyclic with this record and this first expiration, and gives its index, which was free (`cyclic_add_here`).
-    /// O(n) for the ids above it. Takes no memory.
+    /// O(log n) on average where the id is above all that came, else as `insert` of a `Finder`. Takes no memory.
     pub fn insert(&mut self, id: CyclicId, moment: Moment, kept: Record) -> Index
         requires free { length self.old.rows < self.old.size }
         requires absent { HasNo id self.old.rows }
@@ -135,98 +132,74 @@ impl Table {
         ensures size { self.new.size ≡ self.old.size }
         ensures room { self.new.room ≡ self.old.room }
     {
-        let Err(position) = search_new(&self.entries, id) else {
-            unreachable!()
-        };
         let index = self.heap.insert(moment, id);
+        self.finder.insert(id, index);
         self.records[index.number() as usize] = kept;
-        let _ = self.entries.insert(position, Entry { id, index });
         index
     }
 
-    /// The position of this id among the rows, or None where it is not here. O(log n), and takes no memory.
-    pub fn find(&self, id: CyclicId) -> Option<usize>
+    /// The index of the cyclic of this id, or None where it is not here. O(log n), and takes no memory.
+    pub fn find(&self, id: CyclicId) -> Option<Index>
         ensures none { IfNone result (HasNo id self.now.rows) }
-        ensures some { IfSome result (λ k. (r : Row) × IsRow self.now.rows k r × (r.timer.id ≡ id)) }
+        ensures some { IfSome result (λ index. (k : ℕ) × (r : Row) × IsRow self.now.rows k r × (r.timer.id ≡ id)
+            × (r.index ≡ index)) }
     {
-        search(&self.entries, id).ok()
+        self.finder.find(id)
     }
 
-    /// Whether a cyclic of this id is here. O(1) where the id is above all others, as that of a new cyclic mostly is, else O(log n). Takes
-    /// no memory.
+    /// Whether a cyclic of this id is here. O(1) where the id is above all that came, as that of a new cyclic mostly is, else O(log n).
+    /// Takes no memory.
     pub fn has(&self, id: CyclicId) -> bool
         ensures here { OnTrue result ((k : ℕ) × (r : Row) × IsRow self.now.rows k r × (r.timer.id ≡ id)) }
         ensures none { OnFalse result (HasNo id self.now.rows) }
     {
-        match search_new(&self.entries, id) {
-            Ok(_position) => true,
-            Err(_position) => false,
-        }
+        self.finder.has(id)
     }
 
     /// As `find`, by two looks: as far from the first id as this is above it, and where it was found last. None unless it stands at one
     /// of them. O(1), and takes no memory.
     #[inline(always)]
-    pub fn soon(&self, id: CyclicId) -> Option<usize>
+    pub fn soon(&self, id: CyclicId) -> Option<Index>
         ensures none { IfNone result ((first r : Row) → IsRow self.now.rows 0 first → first.timer.id ≤ id
             → IsRow self.now.rows (id - first.timer.id) r → r.timer.id ≢ id) }
-        ensures some { IfSome result (λ k. (r : Row) × IsRow self.now.rows k r × (r.timer.id ≡ id)) }
+        ensures some { IfSome result (λ index. (k : ℕ) × (r : Row) × IsRow self.now.rows k r × (r.timer.id ≡ id)
+            × (r.index ≡ index)) }
     {
-        if let Some(position) = guess(&self.entries, id) {
-            return Some(position);
-        }
-        let hinted = usize::from(self.hints[hint_of(id)]);
-        if stands_at(&self.entries, id, hinted) {
-            return Some(hinted);
-        }
-        None
+        self.finder.soon(id)
     }
 
-    /// As `find`, and the next `soon` of this id finds it while no cyclic comes or goes and no other id has its hint.
-    #[cold]
-    #[inline(never)]
-    pub fn seek(&mut self, id: CyclicId) -> Option<usize>
+    /// As `find`, and the next `soon` of this id finds it while no cyclic comes and no other id has its hint.
+    pub fn seek(&mut self, id: CyclicId) -> Option<Index>
         ensures none { IfNone result (HasNo id self.new.rows) }
-        ensures some { IfSome result (λ k. (r : Row) × IsRow self.new.rows k r × (r.timer.id ≡ id)) }
+        ensures some { IfSome result (λ index. (k : ℕ) × (r : Row) × IsRow self.new.rows k r × (r.timer.id ≡ id)
+            × (r.index ≡ index)) }
         ensures same { self.new ≡ self.old }
     {
-        match search_unguessed(&self.entries, id) {
-            Ok(position) => {
-                self.hints[hint_of(id)] = position.min(usize::from(u8::MAX)) as u8;
-                Some(position)
-            }
-            Err(_) => None,
-        }
+        self.finder.seek(id)
     }
 
-    /// What is kept of the cyclic at this position of `find`. O(1).
-    pub fn record_at(&self, position: usize) -> Record
-        requires { position < length self.now.rows }
-        ensures { (r : Row) → IsRow self.now.rows position r → IsRecordOf result r }
+    /// The cyclic with the smallest id above this one, or with the smallest of all: its id and its index, for a walk by rising id. None
+    /// where there is none. O(log n), and those that were taken out are passed by. Takes no memory.
+    pub fn next_after(&self, passed: Option<CyclicId>) -> Option<(CyclicId, Index)>
+        ensures none { IfNone result (All (λ r. IsPassed passed r.timer.id) self.now.rows) }
+        ensures some { IfSome result (λ found. (k : ℕ) × (r : Row) × IsRow self.now.rows k r × (r.timer.id ≡ found.0)
+            × (r.index ≡ found.1) × IsNextAfter (λ x. x.timer.id) self.now.rows passed k) }
     {
-        self.records[self.entries[position].index.number() as usize]
+        self.finder.next_after(passed)
     }
 
-    /// The id of the cyclic at this position, which rises with the position. O(1).
-    pub fn id_at(&self, position: usize) -> CyclicId
-        requires { position < length self.now.rows }
-        ensures { (r : Row) → IsRow self.now.rows position r → result ≡ r.timer.id }
+    /// The next expiration of the cyclic with this index of `find` (`cy_expire`). O(1).
+    pub fn moment(&self, index: Index) -> Moment
+        requires { (k : ℕ) × (r : Row) × IsRow self.now.rows k r × (r.index ≡ index) }
+        ensures { (k : ℕ) (r : Row) → IsRow self.now.rows k r → r.index ≡ index → result ≡ r.timer.moment }
     {
-        self.entries[position].id
-    }
-
-    /// The next expiration of the cyclic at this position of `find` (`cy_expire`). O(1).
-    pub fn moment_at(&self, position: usize) -> Moment
-        requires { position < length self.now.rows }
-        ensures { (r : Row) → IsRow self.now.rows position r → result ≡ r.timer.moment }
-    {
-        match self.heap.at(self.entries[position].index) {
-            Some((moment, _)) => moment,
+        match self.heap.at(index) {
+            Some(found) => found.0,
             None => unreachable!(),
         }
     }
 
-    /// What is kept of the cyclic with this index of `root`, for the path of firing. O(1).
+    /// What is kept of the cyclic with this index of `find` or `root`. O(1).
     pub fn record(&self, index: Index) -> Record
         requires { (k : ℕ) × (r : Row) × IsRow self.now.rows k r × (r.index ≡ index) }
         ensures { (k : ℕ) (r : Row) → IsRow self.now.rows k r → r.index ≡ index → IsRecordOf result r }
@@ -235,29 +208,28 @@ impl Table {
         self.records[number]
     }
 
-    /// Gives the cyclic at this position of `find` another next expiration, earlier or later (`cyclic_reprogram_cyclic`).
+    /// Gives the cyclic with this index of `find` another next expiration, earlier or later (`cyclic_reprogram_cyclic`).
     /// O(log n), and takes no memory.
-    pub fn reprogram(&mut self, position: usize, moment: Moment)
-        requires here { position < length self.old.rows }
+    pub fn reprogram(&mut self, index: Index, moment: Moment)
+        requires here { (k : ℕ) × (r : Row) × IsRow self.old.rows k r × (r.index ≡ index) }
         requires moment { moment ≤ never }
-        ensures rows { (r : Row) → IsRow self.old.rows position r
-            → self.new.rows ≡ slice_set self.old.rows position (at_moment moment r) }
+        ensures rows { (k : ℕ) (r : Row) → IsRow self.old.rows k r → r.index ≡ index
+            → self.new.rows ≡ slice_set self.old.rows k (at_moment moment r) }
         ensures size { self.new.size ≡ self.old.size }
         ensures room { self.new.room ≡ self.old.room }
     {
-        self.heap.replace(self.entries[position].index, moment);
+        self.heap.replace(index, moment);
     }
 
-    /// Takes out the cyclic at this position of `find`; its index is free from now on (`cyclic_remove_here`). O(n) for the ids
-    /// above it. Takes no memory.
-    pub fn remove(&mut self, position: usize)
-        requires { position < length self.old.rows }
-        ensures rows { self.new.rows ≡ remove self.old.rows position }
+    /// Takes out the cyclic of this id; its index is free from now on (`cyclic_remove_here`). O(log n), and takes no memory.
+    pub fn remove(&mut self, id: CyclicId)
+        requires { (k : ℕ) × (r : Row) × IsRow self.old.rows k r × (r.timer.id ≡ id) }
+        ensures rows { (k : ℕ) (r : Row) → IsRow self.old.rows k r → r.timer.id ≡ id → self.new.rows ≡ remove self.old.rows k }
         ensures size { self.new.size ≡ self.old.size }
         ensures room { self.new.room ≡ self.old.room }
     {
-        self.heap.remove(self.entries[position].index);
-        let _ = self.entries.remove(position);
+        let index = self.finder.remove(id);
+        self.heap.remove(index);
     }
 
     /// The cyclic that expires first, of equal moments the smaller id: its index, its moment and its id. None where there is
@@ -315,7 +287,7 @@ impl Table {
         ensures value { result ≡ length self.now.rows }
         ensures few { result ≤ self.now.size }
     {
-        self.entries.len()
+        self.heap.len()
     }
 
     /// What is true of every table: its ids rise, each of its cyclics is sound, and no two have one index. It does nothing

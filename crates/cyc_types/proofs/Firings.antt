@@ -10,6 +10,7 @@ use Rattle.std.proofs.lemmas.List.{get_or_default, same_lists}
 use Rattle.std.proofs.lemmas.List.Concat.{flat_map-append, length-flat_map}
 use Rattle.std.proofs.lemmas.List.Elements.{All-set, recursion_from_All, All-from_get_or}
 use Rattle.std.proofs.lemmas.List.Sums.{sum_by-append, sum_by-le}
+use Rattle.cyc_types.specs.Limits.{cyclics}
 use Rattle.cyc_types.specs.Series.{due, next, never, late}
 use Rattle.cyc_types.specs.Expirations.{Expiration, is_before, due_of, expirations, ascending, times_of, moment_after}
 use Rattle.cyc_types.specs.Expirations.{after, all_after, next_of}
@@ -233,7 +234,7 @@ fire_done now made ts cur f later = f.whole ∙ ap (λ xs. made ++ xs) (expirati
 
 -- the number made fits
 pub fire_bound : (now : ℕ) (made : List Expiration) (ts cur : List Timer) → Firing now made ts cur → All IsSound ts
-    → length ts ≤ 256 → length made ≤ 256 * (late + 2)
+    → length ts ≤ cyclics → length made ≤ cyclics * (late + 2)
 fire_bound now made ts cur f sound few =
     let a = ap length f.whole in
     let b = length-append made (expirations now cur) in

@@ -3,7 +3,7 @@ use Rattle.std.specs.Prelude.{ℕ, ◌-◌, ◌^◌}
 
 -- the greatest bank of a soft level's buffer; bank k has 2^k slots (our own rule)
 abbrev pub greatest_bank : ℕ
-greatest_bank = 8
+greatest_bank = 12
 
 -- the cyclics that one CPU can hold: the slots of the greatest bank (our own rule)
 abbrev pub cyclics : ℕ
@@ -11,4 +11,4 @@ cyclics = 2 ^ greatest_bank
 
 -- the greatest number of a cyclic: what is left of 64 bits beside an index (our own rule)
 abbrev pub last_id : ℕ
-last_id = 2 ^ 56 - 1
+last_id = 2 ^ 52 - 1

@@ -5,13 +5,13 @@ ghost use Rattle.cyc_types.specs.Limits.{greatest_bank, cyclics, last_id};
 ghost use Rattle.cyc_types.specs.Series.{late};
 
 /// The cyclics that one CPU can hold, which is the number of slots of the greatest bank (our own rule).
-pub const CYCLICS: u16 = 256;
+pub const CYCLICS: u16 = 4096;
 
 /// The greatest bank of a soft level's buffer; bank `k` has `2^k` slots (our own rule).
-pub const GREATEST_BANK: u8 = 8;
+pub const GREATEST_BANK: u8 = 12;
 
 /// The greatest number of a cyclic, so that a buffer entry of 64 bits holds it beside an index (our own rule).
-pub const LAST_ID: u64 = (1 << 56) - 1;
+pub const LAST_ID: u64 = (1 << 52) - 1;
 
 /// A cyclic that is later than this, in nanoseconds, skips the expirations that it missed (our own rule).
 pub const LATE: u64 = 1_000_000_000;

@@ -1,5 +1,6 @@
 -- What the exports of a CPU between threads do.
-use Rattle.std.specs.Prelude.{◌≡◌, ◌≢◌, ℕ, ◌<◌, ◌⊎◌, false, Option, Some, None}
+use Rattle.std.specs.Prelude.{◌≡◌, ◌≢◌, ℕ, ◌<◌, ◌≤◌, ◌⊎◌, false, Option, Some, None}
+use Rattle.cyc_types.specs.Limits.{cyclics}
 use Rattle.cyc_types.specs.declared.refusal.Refusal.TheVariants as why
 use Rattle.cyc_types.specs.declared.draining.Finished.{Finished}
 use Rattle.cyc_ring.specs.Books.{IsBook, IsFree}
@@ -90,8 +91,8 @@ abbrev pub IsBookAt : ℕ → Closed → CyclicBook → Type 0
 IsBookAt index c out = ((b : Book) × IsBook index b c × IsBookOut b out) ⊎ (IsFree index c × (out.id ≡ 0))
 
 abbrev pub BookOut : ℕ → ℕ → ℕ → Written CyclicBook → Books → Books → Type 0
-BookOut level index r out v w = ((r ≡ 64) × ((1 < level) ⊎ (255 < index)) × (out.new ≡ out.old) × (w ≡ v))
-    ⊎ ((r ≡ 0) × (w ≡ v) × (index < 256)
+BookOut level index r out v w = ((r ≡ 64) × ((1 < level) ⊎ (cyclics ≤ index)) × (out.new ≡ out.old) × (w ≡ v))
+    ⊎ ((r ≡ 0) × (w ≡ v) × (index < cyclics)
     × (((level ≡ 0) × IsBookAt index v.low out.new) ⊎ ((level ≡ 1) × IsBookAt index v.lock out.new)))
 
 -- a handle was given up

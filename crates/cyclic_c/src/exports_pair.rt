@@ -12,7 +12,7 @@ use crate::handle_firing::CyclicFiring;
 use crate::handle_soft::CyclicSoft;
 use crate::records::{CyclicBook, book_of};
 use cyc_border::pair::{Shelf, closed, opened};
-use cyc_types::{Ceiling, Index};
+use cyc_types::{CYCLICS, Ceiling, Index};
 use std::alloc::Global;
 
 /// Opens a CPU with no cyclic for three threads. Refuses with Misused where a handle is open, or `ceiling` or `most` is 0; then
@@ -141,7 +141,7 @@ pub extern "C" fn cyclic_soft_hand(alloc: Global, soft: &mut CyclicSoft, id: &mu
 }
 
 /// The book of the cyclic at an index of a soft level, 0 low and 1 lock; its id is 0 where none is. Refuses with Misused where
-/// the level or the index, which is below 256, is none.
+/// the level or the index, which is below `CYCLICS`, is none.
 #[unsafe(no_mangle)]
 pub extern "C" fn cyclic_book(
     alloc: Global,
@@ -156,7 +156,7 @@ pub extern "C" fn cyclic_book(
     let Some(open) = books.take(alloc) else {
         return MISUSED;
     };
-    if level > 1 || index > 255 {
+    if level > 1 || index >= u32::from(CYCLICS) {
         books.put(open);
         return MISUSED;
     }

@@ -7,8 +7,11 @@ ghost use Rattle.cyc_cpu.specs.Cpu.{IsFresh};
 use crate::seen::{Seen, refused};
 use cyc_core::LevelCore;
 use cyc_cpu::{Hard, Totals};
-use cyc_types::{Ceiling, CyclicId, Level, Moment, Refusal, Soft, Tally, When};
+use cyc_types::{CYCLICS, Ceiling, CyclicId, Level, Moment, Refusal, Soft, Tally, When};
 use std::alloc::Global;
+
+/// As many cyclics as fit beside one.
+const REST: usize = CYCLICS as usize - 1;
 
 /// A new level.
 pub(crate) fn level(alloc: Global) -> Result<LevelCore, Refusal>
@@ -69,7 +72,7 @@ struct Picture {
     len: usize,
     first: Option<Totals>,
     second: Option<Totals>,
-    /// Whether there is room for 1, and for 255.
+    /// Whether there is room for 1, and for all that still fit.
     room: (Result<(), Refusal>, Result<(), Refusal>),
 }
 
@@ -78,7 +81,7 @@ fn pictured(cpu: &mut Hard<LevelCore>, first: CyclicId, second: CyclicId) -> Pic
         len: cpu.len(),
         first: cpu.totals(first),
         second: cpu.totals(second),
-        room: (cpu.room(1), cpu.room(255)),
+        room: (cpu.room(1), cpu.room(REST)),
     }
 }
 
@@ -104,11 +107,11 @@ fn with_one(alloc: Global, id: CyclicId) -> Result<Hard<LevelCore>, Refusal> {
 
 fn reserve_on(cpu: &mut Hard<LevelCore>, first: CyclicId, second: CyclicId) -> Seen {
     let before = pictured(cpu, first, second);
-    match cpu.reserve(255) {
+    match cpu.reserve(REST) {
         Ok(()) => Seen::Done,
         Err(why) => {
             let as_before = pictured(cpu, first, second) == before;
-            refused(why, as_before, cpu.reserve(255).is_ok())
+            refused(why, as_before, cpu.reserve(REST).is_ok())
         }
     }
 }
@@ -124,7 +127,7 @@ fn add_on(cpu: &mut Hard<LevelCore>, first: CyclicId, second: CyclicId) -> Seen 
     }
 }
 
-/// `Hard::reserve` of 255, of a CPU with one cyclic that has a call outstanding.
+/// `Hard::reserve` of all that still fit, of a CPU with one cyclic that has a call outstanding.
 pub(crate) fn reserve(alloc: Global) -> Seen {
     let (Some(first), Some(second)) = (CyclicId::new(1), CyclicId::new(2)) else {
         return Seen::Wrong;

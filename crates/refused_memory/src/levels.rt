@@ -4,7 +4,7 @@ use crate::seen::{Seen, refused};
 use cyc_core::LevelCore;
 use cyc_heap::ExpiryHeap;
 use cyc_ring::Ring;
-use cyc_types::{Ceiling, CyclicId, Moment, Refusal, Tally};
+use cyc_types::{CYCLICS, Ceiling, CyclicId, Moment, Refusal, Tally};
 use std::alloc::Global;
 
 fn make_tally(alloc: Global) -> Result<(), Refusal> {
@@ -83,11 +83,11 @@ pub(crate) fn heap_reserve(alloc: Global) -> Seen {
         return Seen::Before;
     };
     let index = heap.insert(moment, id);
-    match heap.reserve(256) {
+    match heap.reserve(usize::from(CYCLICS)) {
         Ok(()) => Seen::Done,
         Err(why) => {
             let as_before = heap.root() == Some((index, moment, id));
-            refused(why, as_before, heap.reserve(256).is_ok())
+            refused(why, as_before, heap.reserve(usize::from(CYCLICS)).is_ok())
         }
     }
 }

@@ -100,22 +100,20 @@ impl Words {
         BothSides { seat }
     }
 
-    /// Ends the words, and gives the pend word of each index. There is one order of all steps that the two sides made, which
-    /// left them, and a lawful level stood before and after each of its steps.
-    pub fn close(self, both: BothSides) -> [u64; INDEXES]
+    /// Ends the words, and puts the pend word of each index into `pends`, so that no such array stands on the stack. There is one order
+    /// of all steps that the two sides made, which left them, and a lawful level stood before and after each of its steps.
+    pub fn close(self, both: BothSides, pends: &mut [u64; INDEXES])
         requires { both.seat.table_id ≡ self.table.shared.table_id }
         ensures { (log : List RingStep) × HasItsTrail log both.seat.me.0 Joint × AllStood self.setting log
-            × ((i : ℕ) → i < cyclics → slice_index result i ≡ slice_index (replay self.setting.start log) (pend_word i)) }
+            × ((i : ℕ) → i < cyclics → slice_index pends.new i ≡ slice_index (replay self.setting.start log) (pend_word i)) }
     {
         closing_stands();
         let Words { table, setting: _ } = self;
         let BothSides { seat } = both;
         let closed = table.close_with(seat);
-        let mut pends = [0u64; INDEXES];
         for i in 0..INDEXES {
             pends[i] = closed.word(pend_at(i));
         }
         closed.free();
-        pends
     }
 }

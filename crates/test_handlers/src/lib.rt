@@ -5,13 +5,13 @@ ghost use Rattle.std.specs.Prelude.{◌≡◌, ℕ, ◌+◌, ◌∷◌, [], OnOk
 ghost use Rattle.cyc_types.specs.Counting.{times};
 ghost use Rattle.cyc_types.specs.Tally.{tally_count, tally_called};
 
-use cyc_types::{Calls, CyclicId, Level, Refused, Tally};
+use cyc_types::{CYCLICS, Calls, CyclicId, Level, Refused, Tally};
 use std::alloc::{AllocError, Global};
 
 /// How many of the calls are noted.
 const NOTED: usize = 8;
 
-/// Handlers of the ids 1 to 256. They count the calls of each, note the first ones, and refuse one call of all.
+/// Handlers of the ids 1 to `CYCLICS`. They count the calls of each, note the first ones, and refuse one call of all.
 #[derive(Drop)]
 pub struct Handlers {
     tally: Tally,
@@ -26,7 +26,7 @@ impl Handlers {
     pub fn new(alloc: Global, refused: u32) -> Result<Handlers, AllocError> {
         let first = CyclicId::new(1).unwrap();
         Ok(Handlers {
-            tally: Tally::new(alloc, first, 256, u64::MAX)?,
+            tally: Tally::new(alloc, first, usize::from(CYCLICS), u64::MAX)?,
             noted: [None; NOTED],
             made: 0,
             asked: 0,

@@ -3,7 +3,7 @@
 use crate::refusals::{done, Refusal};
 use crate::sides::{FiringSide, SoftSide};
 use crate::sys;
-use crate::values::{Book, Id, Soft};
+use crate::values::{Book, Id, Soft, CYCLICS};
 use alloc::boxed::Box;
 use alloc::sync::Arc;
 use alloc::vec::Vec;
@@ -113,7 +113,7 @@ fn closed(
 fn read(mut books: sys::Handle) -> Vec<Book> {
     let mut all = Vec::new();
     for level in [Soft::Lock, Soft::Low] {
-        for index in 0..256 {
+        for index in 0..CYCLICS {
             let mut book = sys::Book::default();
             unsafe { sys::cyclic_book(&mut books, level.number(), index, &mut book) };
             if book.id != 0 {

@@ -30,7 +30,7 @@ pub enum Refusal {
     BadInterval,
     /// The moment of the fire or of the add is [`NEVER`](crate::NEVER).
     BadNow,
-    /// The CPU holds 256 cyclics.
+    /// The CPU holds 4,096 cyclics.
     Full,
     /// A soft level has not followed the last doubling of the CPU's size: serve both until they are idle.
     Expanding,
@@ -57,7 +57,7 @@ impl fmt::Display for Refusal {
             Refusal::BadWhen => f.write_str("the start or the moment is negative"),
             Refusal::BadInterval => f.write_str("the interval is below 1"),
             Refusal::BadNow => f.write_str("the moment is never"),
-            Refusal::Full => f.write_str("the CPU holds 256 cyclics"),
+            Refusal::Full => f.write_str("the CPU holds 4,096 cyclics"),
             Refusal::Expanding => f.write_str("a soft level has not followed the last doubling"),
             Refusal::Busy(id) => write!(f, "the removal of cyclic {} is open", id.0),
             Refusal::NoCyclic => f.write_str("there is no such cyclic"),

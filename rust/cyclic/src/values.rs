@@ -5,7 +5,10 @@ use crate::refusals::{done, FireRefused};
 use crate::sys;
 
 /// The greatest number of a cyclic.
-pub(crate) const LAST_ID: u64 = (1 << 56) - 1;
+pub(crate) const LAST_ID: u64 = (1 << 52) - 1;
+
+/// The cyclics that a CPU can hold, each at an index below this.
+pub(crate) const CYCLICS: u32 = 4096;
 
 /// What a part of a fire answers that has stopped in front of a high handler.
 const HANDLER_REFUSED: u32 = 12;

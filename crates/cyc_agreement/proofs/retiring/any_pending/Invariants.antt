@@ -1,5 +1,10 @@
+use Rattle.cyc_agreement.specs.System.{ids_on}
 use Rattle.cyc_agreement.proofs.AskingEach.{Asked}
+use Rattle.cyc_agreement.proofs.Stepping.{WalksOver}
 use Rattle.cyc_agreement.proofs.retiring.any_pending.Given as goal
 
 abbrev pub invariant-loop-place : goal.invariant-loop-place
-invariant-loop-place g l = Asked g.R.Raise l.source l.fn.cpus l.place l.cpus
+invariant-loop-place g l = record {
+  asked : Asked g.R.Raise l.source l.fn.cpus l._place l.cpus;
+  walk : WalksOver (ids_on l.source l.cpus) l.passed l._place;
+}

@@ -1,4 +1,4 @@
-use Rattle.std.proofs.Common.{◌-◌, ◌+◌, arith, refl, ap, sym, subst, map, ◌∙◌, Some}
+use Rattle.std.proofs.Common.{◌-◌, ◌+◌, arith, refl, ap, sym, subst, map, ◌∙◌, Some, length}
 use Rattle.std.specs.Prelude.{Ok, Err, slice_set}
 use Rattle.std.proofs.lemmas.Result.{err_from_is_err_and}
 use Rattle.std.proofs.lemmas.List.{map-set}
@@ -35,7 +35,7 @@ returns-in_err-id c step s r low h =
     let after = running_system m.tally t in
     let kept = keeps s m t h (c.kept_law.ensures.system call before after (made, refl) h.system c.law.ensures)
     (c.kept_law.ensures.most call before after (made, refl) h.system)
-    (c.kept_law.ensures.room call before after (made, refl) h.system h.room)
+    (c.kept_law.ensures.room call before after (made, refl) h.system (length s.names) h.room)
     (c.kept_law.ensures.suspended call before after (made, refl) tt) in
     let p = err_from_is_err_and c.from_residual-in_err-id.result c.from_residual-in_err-id.ensures.1 in
     rw p.1 (
@@ -55,7 +55,7 @@ returns c step s r low h =
     let after = running_system m.tally t in
     let kept = keeps s m t h (c.kept_law.ensures.system call before after (made, refl) h.system c.law.ensures)
     (c.kept_law.ensures.most call before after (made, refl) h.system)
-    (c.kept_law.ensures.room call before after (made, refl) h.system h.room)
+    (c.kept_law.ensures.room call before after (made, refl) h.system (length s.names) h.room)
     (c.kept_law.ensures.suspended call before after (made, refl) tt) in
     let names = c.set_id.ensures ∙ ap (λ k. slice_set m.names.items k (Some id)) c.number-name.ensures.value in
     let named = c.set_name.ensures ∙ ap (λ k. slice_set m.named.items (id - 1) k) c.number-name.ensures.value in

@@ -1,4 +1,4 @@
-use Rattle.std.proofs.Common.{◌+◌, ◌∙◌, refl, sym, subst, arith}
+use Rattle.std.proofs.Common.{◌+◌, ◌∙◌, refl, sym, subst, arith, length}
 use Rattle.std.specs.Prelude.{Ok}
 use Rattle.cyc_types.specs.Tally.{tally_count}
 use Rattle.cyc_system.specs.System.{running_system}
@@ -39,7 +39,8 @@ returns-in-Ok-clause-next c step expired lost s first a =
       remembers = remembers_on s s m (record m { system = c.fire_one-answer.new.self; tally = c.fire_one-answer.new.calls })
           a.remembers
           (record { names = refl; counted = refl; named = refl }) (omega arith) (λ id low gone. gone) (λ id low gone. refl);
-      room = c.kept_law.ensures.room (FireOne c.args.cpu m.clock (Ok fired)) before after c.in-Ok.ensures a.system a.room;
+      room = c.kept_law.ensures.room (FireOne c.args.cpu m.clock (Ok fired)) before after c.in-Ok.ensures a.system
+          (length s.names) a.room;
       tally = wide_fired c.args.cpu m.clock before after fired c.in-Ok.ensures a.tally;
       most = most_fired c.args.cpu m.clock before after fired c.in-Ok.ensures a.most;
     }

@@ -1,4 +1,6 @@
 use Rattle.std.proofs.Common.{◌≡◌, ◌-◌, ap, sym, subst, ◌∙◌, refl, length, All}
+use Rattle.std.specs.Prelude.{min}
+use Rattle.cyc_types.specs.Limits.{cyclics as most_cyclics}
 use Rattle.cyc_system.specs.Agreement.{Agrees}
 use Rattle.cyc_agreement.specs.Suspending.{is_suspended}
 use Rattle.cyc_system.specs.System.{SystemView}
@@ -29,6 +31,7 @@ with_room-requires c =
 pub returns-clause-holds : goal.returns-clause-holds
 returns-clause-holds c =
     let ends = c.in_ok-levels.levels.items in let v = c.in_ok-fresh.fresh in let w = c.in_ok-system.system in
+    let k = min c.args.names most_cyclics in
     let two = c.in_ok-system.ensures.cpus in let rest = c.in_ok-system.ensures.rest in
     let is : v ≡ new_system 18446744073709551615 ends =
     c.in_ok-fresh.ensures.ok ∙ (λ z. record (new_system 18446744073709551615 ends) { last = c.first_id.ensures z - 1 }) in
@@ -41,9 +44,9 @@ returns-clause-holds c =
     (new_empty 18446744073709551615 c.args.ceiling ends c.in_ok-levels.ensures.new) in
     held_new c.args.cpus c.args.ceiling c.args.names _ refl
     c.in_ok-tally.ensures.tally c.in_ok-tally.ensures.ids c.in_ok-tally.ensures.counted c.in_ok-tally.ensures.named
-    (still_most v w two.0 two.1 rest.0 rest.1 most) (now_room v w two.0 two.1 rest.0 rest.1 empty)
-    (still_awake v w two.0 two.1 rest.0 rest.1 (ap is_suspended is ∙ awake_new 18446744073709551615 ends)) (
-      still_system v w two.0 two.1 rest.0 rest.1 here.0 c.law-2.ensures,
-      still_shows v w two.0 two.1 rest.0 rest.1 (start c.args.cpus c.args.ceiling c.args.names)
-          (subst (λ k. ShowsSystem (start k c.args.ceiling c.args.names) v) c.in_ok-levels.ensures.long here.1),
+    (still_most k v w two.0 two.1 rest.0 rest.1 most) (now_room k v w two.0 two.1 rest.0 rest.1 c.args.names refl empty)
+    (still_awake k v w two.0 two.1 rest.0 rest.1 (ap is_suspended is ∙ awake_new 18446744073709551615 ends)) (
+      still_system k v w two.0 two.1 rest.0 rest.1 here.0 c.law-2.ensures,
+      still_shows k v w two.0 two.1 rest.0 rest.1 (start c.args.cpus c.args.ceiling c.args.names)
+          (subst (λ j. ShowsSystem (start j c.args.ceiling c.args.names) v) c.in_ok-levels.ensures.long here.1),
     )

@@ -1,5 +1,6 @@
-use Rattle.std.proofs.Common.{ap, sym, ◌∙◌, subst}
-use Rattle.std.specs.Prelude.{All}
+use Rattle.std.proofs.Common.{ap, sym, ◌∙◌, subst, arith}
+use Rattle.std.specs.Prelude.{All, min}
+use Rattle.cyc_types.specs.Limits.{cyclics as most_cyclics}
 use Rattle.cyc_types.specs.Pairs.{EachTwo}
 use Rattle.cyc_core.specs.Tables.{Tables}
 use Rattle.cyc_cpu.specs.Soft.{firing_at}
@@ -10,22 +11,29 @@ use Rattle.cyc_replay.proofs.Start.{come_back}
 use Rattle.cyc_replay.proofs.beginning.with_room.Goals as goal
 
 pub reserve_each-requires : goal.reserve_each-requires
-reserve_each-requires c = record { empty = subst (λ xs. All IsEmpty xs) (sym c.split-desk.ensures.cpus) c.requires.empty }
+reserve_each-requires c =
+    let few = c.wanted_of-wanted.ensures in
+    record {
+      empty = subst (λ xs. All IsEmpty xs) (sym c.split-desk.ensures.cpus) c.requires.empty;
+      few = omega (arith, few);
+    }
 
 pub unite-requires : goal.unite-requires
 unite-requires c =
     let left = c.split-desk.ensures in
     subst (λ xs. AllComeBack firing_at xs c.reserve_each.new.hards.items)
     (left.cpus ∙ sym (ap (λ (v : SystemView Tables). v.cpus.cpus) left.desk))
-    (come_back c.split-desk.result.1.items c.reserve_each.new.hards.items
+    (come_back c.wanted_of-wanted.result c.split-desk.result.1.items c.reserve_each.new.hards.items
     (subst (λ xs. All IsEmpty xs) (sym left.cpus) c.requires.empty) c.in_ok-reserve_each.ensures.did)
 
 pub returns-clause-cpus : goal.returns-clause-cpus
 returns-clause-cpus c =
     let left = c.split-desk.ensures in (
-      subst (λ ys. EachTwo HasReserved c.args.system.cpus.cpus ys)
+      subst (λ ys. EachTwo (HasReserved (min c.args.names most_cyclics)) c.args.system.cpus.cpus ys)
           (sym (ap (λ (v : SystemView Tables). v.cpus.cpus) c.unite.ensures))
-          (subst (λ xs. EachTwo HasReserved xs c.reserve_each.new.hards.items) left.cpus c.in_ok-reserve_each.ensures.did),
+          (subst (λ k. EachTwo (HasReserved k) c.args.system.cpus.cpus c.reserve_each.new.hards.items) c.wanted_of-wanted.ensures
+          (subst (λ xs. EachTwo (HasReserved c.wanted_of-wanted.result) xs c.reserve_each.new.hards.items) left.cpus
+          c.in_ok-reserve_each.ensures.did)),
       ap (λ (v : SystemView Tables). v.cpus.online) c.unite.ensures ∙ ap (λ (v : SystemView Tables). v.cpus.online) left.desk,
     )
 

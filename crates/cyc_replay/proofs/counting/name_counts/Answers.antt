@@ -1,4 +1,4 @@
-use Rattle.std.proofs.Common.{Some, None, refl, ap, sym, ◌∙◌, subst}
+use Rattle.std.proofs.Common.{Some, None, refl, ap, sym, ◌∙◌, subst, length}
 use Rattle.cyc_system.specs.System.{running_system}
 use Rattle.cyc_system.specs.Calls.{AskTotals}
 use Rattle.cyc_replay.specs.Shown.{ShowsSystem}
@@ -39,7 +39,7 @@ returns-in_default-answer-clause-holds c = λ s h.
     let same = (c.report_law.ensures.none id s m.system w h.system h.shows did).1 in
     refuses s m (record m { system = w }) h
     (keeps s m w h system (kept.most call before after (did, refl) h.system)
-    (kept.room call before after (did, refl) h.system h.room)
+    (kept.room call before after (did, refl) h.system (length s.names) h.room)
     (kept.suspended call before after (did, refl) tt))
     (subst (λ v. ShowsSystem s v) (sym same) h.shows) refl refl (record { names = refl; counted = refl; named = refl })
 
@@ -63,6 +63,6 @@ returns-clause-holds c = λ s h.
     let shows = (c.report_law.ensures.some id c.in-Some-answer.totals s m.system w h.system h.shows did).0 in
     refuses s m (record m { system = w }) h
     (keeps s m w h system (kept.most call before after (did, refl) h.system)
-    (kept.room call before after (did, refl) h.system h.room)
+    (kept.room call before after (did, refl) h.system (length s.names) h.room)
     (kept.suspended call before after (did, refl) tt))
     shows refl refl (record { names = refl; counted = refl; named = refl })

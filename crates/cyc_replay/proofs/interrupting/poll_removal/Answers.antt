@@ -1,4 +1,4 @@
-use Rattle.std.proofs.Common.{◌≡◌, ℕ, List, Option, Some, None, refl, subst}
+use Rattle.std.proofs.Common.{◌≡◌, ℕ, List, Option, Some, None, refl, subst, length}
 use Rattle.std.specs.Prelude.{Ok, slice_set}
 use Rattle.cyc_replay.specs.Removing.{counted_by}
 use Rattle.cyc_cpu.specs.Soft.{raise_tables}
@@ -23,7 +23,8 @@ returns-in_default-clause-polls c = λ texts step ids lines i s p.
     (interrupt step i s).state m.system t p.holds.system p.polled did in
     polling_next texts step i s ids lines id m p None n next
     (keeps (left texts step i s ids) m t p.holds system (kept.most call before after (did, refl) p.holds.system)
-    (kept.room call before after (did, refl) p.holds.system p.holds.room)
+    (kept.room call before after (did, refl) p.holds.system
+    (length (left texts step i s ids).names) p.holds.room)
     (kept.suspended call before after (did, refl) tt))
     refl refl refl
     (remembers_open texts step i s ids lines id m p n next.comes.shows c.poll_system-polled.ensures.agrees
@@ -49,7 +50,8 @@ returns-clause-polls c = λ texts step ids lines i s p.
     (interrupt step i s).state m.system t p.holds.system p.polled did in
     polling_next texts step i s ids lines id m p (Some receipt) n next
     (keeps (left texts step i s ids) m t p.holds system (kept.most call before after (did, refl) p.holds.system)
-    (kept.room call before after (did, refl) p.holds.system p.holds.room)
+    (kept.room call before after (did, refl) p.holds.system
+    (length (left texts step i s ids).names) p.holds.room)
     (kept.suspended call before after (did, refl) tt))
     refl refl refl
     (remembers_answered texts step i s ids lines id m p receipt n refl refl told

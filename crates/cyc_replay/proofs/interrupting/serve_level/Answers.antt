@@ -1,4 +1,4 @@
-use Rattle.std.proofs.Common.{sym, subst, arith}
+use Rattle.std.proofs.Common.{sym, subst, arith, length}
 use Rattle.std.specs.Prelude.{Ok}
 use Rattle.cyc_types.specs.Tally.{TallyView}
 use Rattle.cyc_core.specs.Tables.{Tables}
@@ -33,7 +33,7 @@ returns-in-Ok-clause-some c = λ step s r h.
       reached = r;
       served = served;
       holds = served_holds step i ran s m after (reached_good step s r) h served
-          (keeps s m after.system h system most (c.kept_law.ensures.room call before after did h.system h.room)
+          (keeps s m after.system h system most (c.kept_law.ensures.room call before after did h.system (length s.names) h.room)
           (c.kept_law.ensures.suspended call before after did tt))
           (wide_served i s m after h ran did);
     }

@@ -1,4 +1,4 @@
-use Rattle.std.proofs.Common.{arith, None, Some, refl, ap, sym, subst, ◌∙◌}
+use Rattle.std.proofs.Common.{arith, None, Some, refl, ap, sym, subst, ◌∙◌, length}
 use Rattle.cyc_script.specs.declared.step.Step.TheVariants as steps
 use Rattle.cyc_system.specs.System.{running_system}
 use Rattle.cyc_system.specs.Calls.{Changes, Bind}
@@ -27,7 +27,7 @@ returns c step s r h =
     let after = running_system m.tally t in
     let kept = keeps s m t h (c.kept_law.ensures.system call before after (c.bind-answer.ensures, refl) h.system c.law.ensures)
     (c.kept_law.ensures.most call before after (c.bind-answer.ensures, refl) h.system)
-    (c.kept_law.ensures.room call before after (c.bind-answer.ensures, refl) h.system h.room)
+    (c.kept_law.ensures.room call before after (c.bind-answer.ensures, refl) h.system (length s.names) h.room)
     (c.kept_law.ensures.suspended call before after (c.bind-answer.ensures, refl) tt) in
     let did = subst (λ k. Changes raise_tables m.system (Bind k (Some b.cpu) answer) t) (sym named) c.bind-answer.ensures in
     answered step (steps.Bind b) answer s m (record m { system = t }) r tt h kept

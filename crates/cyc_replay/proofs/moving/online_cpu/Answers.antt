@@ -1,4 +1,4 @@
-use Rattle.std.proofs.Common.{arith, refl, sym, subst, ◌∙◌}
+use Rattle.std.proofs.Common.{arith, refl, sym, subst, ◌∙◌, length}
 use Rattle.cyc_script.specs.declared.step.Step.TheVariants as steps
 use Rattle.cyc_system.specs.System.{running_system}
 use Rattle.cyc_system.specs.Calls.{Changes, Online}
@@ -14,7 +14,7 @@ returns c step s r h =
     let call = Online n m.clock answer in let before = running_system m.tally m.system in let after = running_system m.tally t in
     let kept = keeps s m t h (c.kept_law.ensures.system call before after (c.online-answer.ensures, refl) h.system c.law.ensures)
     (c.kept_law.ensures.most call before after (c.online-answer.ensures, refl) h.system)
-    (c.kept_law.ensures.room call before after (c.online-answer.ensures, refl) h.system h.room)
+    (c.kept_law.ensures.room call before after (c.online-answer.ensures, refl) h.system (length s.names) h.room)
     (c.kept_law.ensures.suspended call before after (c.online-answer.ensures, refl) tt) in
     let did = subst (λ k. Changes raise_tables m.system (Online n k answer) t) (sym h.clock) c.online-answer.ensures in
     answered step (steps.Online n) answer s m (record m { system = t }) r tt h kept

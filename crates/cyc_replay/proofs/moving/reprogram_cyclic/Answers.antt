@@ -1,4 +1,4 @@
-use Rattle.std.proofs.Common.{arith, None, Some, refl, ap, sym, subst, ◌∙◌}
+use Rattle.std.proofs.Common.{arith, None, Some, refl, ap, sym, subst, ◌∙◌, length}
 use Rattle.std.proofs.lemmas.Result.{err_from_is_err_and}
 use Rattle.cyc_script.specs.declared.step.Step.TheVariants as steps
 use Rattle.cyc_system.specs.System.{running_system}
@@ -45,7 +45,8 @@ returns c step s r h =
     let after = running_system m.tally t in
     let made = same_kept b.cpu id moment answer m.tally m.system t c.reprogram_at.ensures.did in
     let kept = keeps s m t h (c.kept_law.ensures.system call before after made h.system c.reprogram_at.ensures.agrees)
-    (c.kept_law.ensures.most call before after made h.system) (c.kept_law.ensures.room call before after made h.system h.room)
+    (c.kept_law.ensures.most call before after made h.system)
+    (c.kept_law.ensures.room call before after made h.system (length s.names) h.room)
     (c.kept_law.ensures.suspended call before after made (leaves_mark b.cpu id moment answer)) in
     let did = subst (λ k. Changes raise_tables m.system (reprograms b.cpu k moment answer) t)
     (sym named) c.reprogram_at.ensures.did in

@@ -1,4 +1,4 @@
-use Rattle.std.proofs.Common.{None, Some, refl, ap, sym, subst, ◌∙◌}
+use Rattle.std.proofs.Common.{None, Some, refl, ap, sym, subst, ◌∙◌, length}
 use Rattle.cyc_system.specs.System.{running_system}
 use Rattle.cyc_system.specs.Calls.{Changes, BeginRemove}
 use Rattle.cyc_cpu.specs.Soft.{raise_tables}
@@ -28,7 +28,8 @@ returns-clause-answers c = λ step s r h.
     let system = kept.system (BeginRemove id answer) before after (c.begin_remove-answer.ensures, refl) h.system c.law.ensures in
     let most = kept.most (BeginRemove id answer) before after (c.begin_remove-answer.ensures, refl) h.system in
     let did = subst (λ k. Changes raise_tables m.system (BeginRemove k answer) t) (sym named) c.begin_remove-answer.ensures in
-    let room = kept.room (BeginRemove id answer) before after (c.begin_remove-answer.ensures, refl) h.system h.room in
+    let room = kept.room (BeginRemove id answer) before after (c.begin_remove-answer.ensures, refl) h.system
+    (length s.names) h.room in
     let mark = kept.suspended (BeginRemove id answer) before after (c.begin_remove-answer.ensures, refl) tt in
     let at = ap (id_at m.names.items) (sym c.number-place.ensures.value) ∙ sym (sym c.in-Some.is ∙ found) in
     let counted = c.keep_begun.ensures ∙ ap (λ k. counted_begun k answer m.counted.items) c.number-place.ensures.value in

@@ -6,6 +6,7 @@ use Rattle.cyc_text.specs.Puts.{AppendsPrefix}
 use Rattle.cyc_text.proofs.Puts.{prefix_more, stops}
 use Rattle.cyc_model.specs.Script.{names_of, no_indexes}
 use Rattle.cyc_replay.specs.Runs.{Runs}
+use Rattle.cyc_replay.proofs.Introduced.{names_so_far}
 use Rattle.cyc_replay.proofs.Moments.{before_never}
 use Rattle.cyc_replay.proofs.RunningMachine.{take_on, number_on, whole_line, line_then}
 use Rattle.cyc_replay.proofs.run.put_steps.Goals as goal
@@ -28,8 +29,12 @@ put_step-requires-clause-runs g c =
     let steps = c.args.script.now.steps.items in let i = c.loop-taken.taken-index in let x = c.taken-item.result in
     let low = subst (λ xs. i < length xs) c.deref-taken-items.ensures.value c.loop-taken-test.true in
     let here = subst (λ xs. x ≡ get_or xs i x) c.deref-taken-items.ensures.value c.taken-item.is in
-    let number = c.loop-taken.invariant.number in
-    (take i steps, number_on steps i x low here c.loop-taken.step number, c.loop-taken.invariant.runs)
+    let number = c.loop-taken.invariant.number in (
+      take i steps,
+      number_on steps i x low here c.loop-taken.step number,
+      names_so_far c.args.script.now i,
+      c.loop-taken.invariant.runs,
+    )
 
 pub returns-in_err-put_step-clause-text : goal.returns-in_err-put_step-clause-text
 returns-in_err-put_step-clause-text g c =
@@ -39,7 +44,7 @@ returns-in_err-put_step-clause-text g c =
     let here = subst (λ xs. x ≡ get_or xs i x) c.deref-taken-items.ensures.value c.taken-item.is in
     let number = c.loop-taken.invariant.number in
     let put = c.in_err-put_step.ensures.text (take i steps)
-    (number_on steps i x low here c.loop-taken.step number) c.loop-taken.invariant.runs in
+    (number_on steps i x low here c.loop-taken.step number) (names_so_far script i) c.loop-taken.invariant.runs in
     let whole = whole_line steps i x low here script.cpus script.ceiling (names_of script) no_indexes c.loop-taken.step number in
     let p = err_from_is_err_and c.from_residual.result c.from_residual.ensures.1 in
     rw p.1 (subst (λ text. AppendsPrefix (g.S.Sink.written c.args.sink.now) (g.S.Sink.written c.put_step.new.sink) text)
@@ -59,9 +64,9 @@ loop-taken-preserved g c =
       whole = c.in_ok-put_step.ensures.write;
       runs = subst (λ xs. Runs script.cpus script.ceiling (names_of script) xs c.put_step.new.machine)
           (sym (take_on steps i x low here))
-          (c.in_ok-put_step.ensures.runs (take i steps) at c.loop-taken.invariant.runs);
+          (c.in_ok-put_step.ensures.runs (take i steps) at (names_so_far script i) c.loop-taken.invariant.runs);
       text = subst (λ text. Appends (g.S.Sink.written c.args.sink.now) (g.S.Sink.written c.put_step.new.sink) text)
           (sym (line_then steps i x low here script.cpus script.ceiling (names_of script) no_indexes c.loop-taken.step number))
           (Appends-trans _ _ _ _ _ c.loop-taken.invariant.text
-          (c.in_ok-put_step.ensures.text (take i steps) at c.loop-taken.invariant.runs));
+          (c.in_ok-put_step.ensures.text (take i steps) at (names_so_far script i) c.loop-taken.invariant.runs));
     }

@@ -1,4 +1,4 @@
-use Rattle.std.proofs.Common.{false, refl, subst}
+use Rattle.std.proofs.Common.{false, refl, subst, length}
 use Rattle.cyc_script.specs.declared.step.Step.TheVariants as steps
 use Rattle.cyc_system.specs.System.{running_system}
 use Rattle.cyc_system.specs.Calls.{Changes, Resume}
@@ -15,7 +15,7 @@ returns c step s r h =
     answers_marked steps.Resume false s m t h (λ texts indexes k. refl)
     (c.kept_law.ensures.system call before after (did, refl) h.system c.law.ensures)
     (most_kept m.system.cpus t.cpus (c.kept_law.ensures.most call before after (did, refl) h.system) h.most)
-    (c.kept_law.ensures.room call before after (did, refl) h.system h.room)
+    (c.kept_law.ensures.room call before after (did, refl) h.system (length s.names) h.room)
     answer
     (λ is. c.resume_law.ensures.accepted s m.system t h.system h.shows h.suspended
     (subst (λ a. Changes raise_tables m.system (Resume a) t) is did))

@@ -7,7 +7,7 @@ use Rattle.cyc_timers.specs.Rows.{timers_of, cyclics_of}
 use Rattle.cyc_types.specs.Levels.{at_level}
 use Rattle.cyc_types.specs.declared.level.Level.TheVariants.{High}
 use Rattle.cyc_timers.specs.Ends.{IsReady}
-use Rattle.cyc_timers.specs.Made.{Makes}
+use Rattle.cyc_timers.specs.Made.{Makes, WhyStopped}
 use Rattle.cyc_timers.proofs.Tables.{timers_long}
 use Rattle.cyc_timers.proofs.Stepping.{turn_written, makes_none, less_left, row_found, front}
 use Rattle.cyc_timers.proofs.fire.fire_all.Goals as goal
@@ -129,7 +129,9 @@ returns-then-count-most-clause-refused g c =
       c.loop-root.calls,
       makes,
       (λ id. refl),
-      (r.timer, row_found c.loop-root.table.rows k r i.rising is, (sym named, (let e = kept.2 in omega (arith, e, spent)))),
+      subst (WhyStopped g.C.Calls.may_refuse c.args.most c.loop-root.calls (next_of r.timer) (timers_of c.loop-root.table.rows))
+          (sym c.spent.ensures)
+          (r.timer, row_found c.loop-root.table.rows k r i.rising is, (sym named, (let e = kept.2 in omega (arith, e, spent)))),
     )
 
 pub returns-in-Err-clause-refused : goal.returns-in-Err-clause-refused

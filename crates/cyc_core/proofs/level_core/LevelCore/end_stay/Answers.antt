@@ -1,39 +1,61 @@
-use Rattle.std.proofs.Common.{ap, arith, subst, sym, ◌∙◌, None}
+use Rattle.std.proofs.Common.{arith, refl, subst, sym, false}
 use Rattle.cyc_level.specs.declared.Event.TheVariants.{Clear}
 use Rattle.cyc_finder.specs.Sorted.{Rises}
-use Rattle.cyc_core.specs.Tables.{id_in, cyclic_of, level_of}
+use Rattle.cyc_finder.specs.Indexes.{id_in}
+use Rattle.cyc_finder.proofs.RisingIds.{rises_removed}
+use Rattle.cyc_core.specs.declared.admitted.Kept.{Kept}
+use Rattle.cyc_core.specs.Tables.{level_of}
 use Rattle.cyc_core.specs.Shown.{shown}
-use Rattle.std.specs.Option.{option_map}
-use Rattle.cyc_finder.proofs.RisingIds.{rises_removed, look_up_gap}
-use Rattle.cyc_core.proofs.Changes.{level_clear, sound_by, none_some, reached_lawful}
+use Rattle.cyc_core.proofs.Keeping.{named_index, left_low, finds_left, left_kept}
+use Rattle.cyc_core.proofs.Changes.{level_clear, sound_by, reached_lawful}
 use Rattle.cyc_core.proofs.level_core.LevelCore.end_stay.Goals as goal
 
-pub unreachable-requires : goal.unreachable-requires
-unreachable-requires c =
-    let t = shown c.self.inside in
+pub remove-index-requires : goal.remove-index-requires
+remove-index-requires c =
+    let a = c.self.inside in
+    let kept = a.kept.items in
+    let entries = a.ids.entries in
+    let t = shown a in
     let law = reached_lawful (level_of t) c.self.invariant.reached in
     let may = rw (← c.self.view_is) at c.requires in
-    let gap = rw (← c.self.view_is) at c.in_default.ensures.absent in
-    none_some _ (ap (option_map cyclic_of) (look_up_gap id_in t.table c.args.id c.in_default.field-0 gap))
-    (law.marked_admitted c.args.id may.1)
+    named_index kept entries c.args.id (law.marked_admitted c.args.id may.1)
+
+pub index_mut-requires : goal.index_mut-requires
+index_mut-requires c =
+    let a = c.self.inside in
+    let kept = a.kept.items in
+    let entries = a.ids.entries in
+    let gone = c.remove-index.ensures in
+    let none : Kept = record { id = 1; sent = 0; done = 0; lost = 0; count = 0; here = false } in
+    let low = left_low kept entries c.remove-index.new.self.entries c.self.invariant.cyclics_kept c.args.id
+    c.remove-index.result c.number.result c.number.ensures.value none gone.index gone.told refl in
+    omega (arith, low)
 
 pub invariant_of-self : goal.invariant_of-self
 invariant_of-self c =
-    let t = shown c.self.inside in
-    let ordered = c.self.invariant.ordered in
-    let at = rw (← c.self.view_is) at c.in-Ok.ensures.found in
-    let gone = c.remove.ensures.items in
-    let made = (λ z. level_of (record t { table = gone z; marked = None })) ∙ level_clear t ordered c.args.id c.in-Ok.place at in
+    let a = c.self.inside in
+    let kept = a.kept.items in
+    let entries = a.ids.entries in
+    let gone = c.remove-index.ensures in
+    let (k, at, is) = gone.entries in
+    let sound = c.self.invariant.cyclics_kept in
     let may = rw (← c.self.view_is) at c.requires in
-    sound_by c.self.inside _ (Clear c.args.id) c.self.invariant may made
-    (subst (Rises id_in) (sym gone) (rises_removed id_in t.table ordered c.args.id c.in-Ok.place at))
-    (omega (arith, c.remove.ensures.capacity)) (omega arith) (omega arith)
+    let new : Kept = record c.index_mut.result.now { here = false } in
+    let made = level_clear (shown a) _ c.args.id (finds_left kept entries c.remove-index.new.self.entries sound c.args.id
+    c.remove-index.result c.number.result c.number.ensures.value new gone.index gone.told refl) in
+    sound_by a _ (Clear c.args.id) c.self.invariant may made
+    (left_kept kept entries c.remove-index.new.self.entries sound c.args.id c.remove-index.result c.number.result
+    c.number.ensures.value new gone.index gone.told refl
+    (subst (Rises id_in) (sym is) (rises_removed id_in entries sound.ordered c.args.id k at)))
+    (omega arith) (omega (arith, gone.room)) (omega arith) (omega arith)
 
 pub returns : goal.returns
 returns c =
-    let t = shown c.self.inside in
-    let ordered = c.self.invariant.ordered in
-    let at = rw (← c.self.view_is) at c.in-Ok.ensures.found in
-    let gone = c.remove.ensures.items in
-    let made = (λ z. level_of (record t { table = gone z; marked = None })) ∙ level_clear t ordered c.args.id c.in-Ok.place at in
-    rw (← c.self.view_is) made
+    let a = c.self.inside in
+    let kept = a.kept.items in
+    let entries = a.ids.entries in
+    let gone = c.remove-index.ensures in
+    let new : Kept = record c.index_mut.result.now { here = false } in
+    rw (← c.self.view_is) (level_clear (shown a) _ c.args.id (finds_left kept entries c.remove-index.new.self.entries
+    c.self.invariant.cyclics_kept c.args.id c.remove-index.result c.number.result c.number.ensures.value new gone.index gone.told
+    refl))

@@ -1,25 +1,32 @@
-use Rattle.std.proofs.Common.{ap, sym}
-use Rattle.cyc_core.specs.Tables.{id_in, level_of}
-use Rattle.cyc_core.specs.Shown.{shown}
+use Rattle.std.proofs.Common.{ap, arith, sym}
 use Rattle.std.specs.Option.{option_map}
-use Rattle.cyc_core.specs.Tables.{cyclic_of}
-use Rattle.cyc_finder.proofs.RisingIds.{look_up_gap}
-use Rattle.cyc_core.proofs.Changes.{read_cyclic, reached_lawful}
+use Rattle.cyc_core.specs.Tables.{cyclic_of, level_of}
+use Rattle.cyc_core.specs.Shown.{shown}
+use Rattle.cyc_core.proofs.Keeping.{found_low, found_read}
+use Rattle.cyc_core.proofs.Changes.{reached_lawful}
 use Rattle.cyc_core.proofs.level_core.LevelCore.find.Goals as goal
 
-pub returns-in-Ok-clause-cyclic : goal.returns-in-Ok-clause-cyclic
-returns-in-Ok-clause-cyclic c =
-    let t = shown c.self.inside in
-    let at = rw (← c.self.view_is) at c.in-Ok.ensures.found in
-    rw (← c.self.view_is) (sym (read_cyclic t c.self.invariant.ordered c.args.id c.in-Ok.place at c.index.result.now
-    c.index.ensures))
+pub index-requires : goal.index-requires
+index-requires c =
+    let a = c.self.inside in
+    let kept = a.kept.items in
+    let entries = a.ids.entries in
+    let found = rw (← c.self.view_is) at c.in-Some.ensures in
+    let low = found_low kept entries c.self.invariant.cyclics_kept c.args.id c.in-Some.index c.number.result
+    c.number.ensures.value found in
+    omega (arith, low)
 
-pub returns-in-Ok-clause-lawful : goal.returns-in-Ok-clause-lawful
-returns-in-Ok-clause-lawful c = rw (← c.self.view_is) (reached_lawful (level_of (shown c.self.inside)) c.self.invariant.reached)
+pub returns-in-Some-clause-cyclic : goal.returns-in-Some-clause-cyclic
+returns-in-Some-clause-cyclic c =
+    let a = c.self.inside in
+    let kept = a.kept.items in
+    let entries = a.ids.entries in
+    let found = rw (← c.self.view_is) at c.in-Some.ensures in
+    rw (← c.self.view_is) (sym (ap (option_map cyclic_of) (found_read kept entries c.self.invariant.cyclics_kept
+    c.args.id c.in-Some.index c.number.result c.number.ensures.value found c.index.result.now _ c.index.ensures c.read.ensures)))
 
-pub returns-in-Err-clause-cyclic : goal.returns-in-Err-clause-cyclic
-returns-in-Err-clause-cyclic c = sym (ap (option_map cyclic_of)
-    (look_up_gap id_in c.args.self.now.table c.args.id c.in-Err.field-0 c.in-Err.ensures.absent))
+pub returns-in-Some-clause-lawful : goal.returns-in-Some-clause-lawful
+returns-in-Some-clause-lawful c = rw (← c.self.view_is) (reached_lawful (level_of (shown c.self.inside)) c.self.invariant.reached)
 
-pub returns-in-Err-clause-lawful : goal.returns-in-Err-clause-lawful
-returns-in-Err-clause-lawful c = rw (← c.self.view_is) (reached_lawful (level_of (shown c.self.inside)) c.self.invariant.reached)
+pub returns-in-None-clause-lawful : goal.returns-in-None-clause-lawful
+returns-in-None-clause-lawful c = rw (← c.self.view_is) (reached_lawful (level_of (shown c.self.inside)) c.self.invariant.reached)

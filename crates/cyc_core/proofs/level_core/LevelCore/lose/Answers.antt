@@ -1,91 +1,88 @@
-use Rattle.std.proofs.Common.{◌≡◌, ◌<◌, ◌+◌, ap, arith, refl}
+use Rattle.std.proofs.Common.{◌≡◌, ◌<◌, ◌+◌, ap, arith, refl, sym}
+use Rattle.std.specs.Option.{option_map}
 use Rattle.cyc_level.specs.declared.Event.TheVariants.{Lose}
 use Rattle.cyc_level.specs.Level.{AdmittedCyclic}
 use Rattle.cyc_level.specs.Events.{most_sent}
 use Rattle.cyc_core.specs.declared.admitted.Admitted.{Admitted}
-use Rattle.cyc_core.specs.Tables.{id_in, cyclic_of, level_of}
-use Rattle.cyc_core.specs.Shown.{shown}
-use Rattle.std.proofs.lemmas.Option.{slice_get_within}
-use Rattle.cyc_finder.proofs.RisingIds.{rises_set}
-use Rattle.cyc_core.proofs.Changes.{found_fact, entry_is_at, entry_cyclic, level_lose, sound_by, stood, reached_lawful}
+use Rattle.cyc_core.specs.declared.admitted.Kept.{Kept}
+use Rattle.cyc_core.specs.Tables.{cyclic_of, level_of}
+use Rattle.cyc_core.specs.Shown.{shown, read_as}
+use Rattle.cyc_core.proofs.Keeping.{place_low, counts_read, counted, counted_kept}
+use Rattle.cyc_core.proofs.Changes.{found_fact, level_lose, sound_by, reached_lawful}
 use Rattle.cyc_core.proofs.level_core.LevelCore.lose.Goals as goal
+
+pub index_mut-kept-requires : goal.index_mut-kept-requires
+index_mut-kept-requires c =
+    let a = c.self.inside in
+    let kept = a.kept.items in
+    let entries = a.ids.entries in
+    let here = rw (← c.self.view_is) at c.requires.here in
+    let low = place_low kept entries c.self.invariant.cyclics_kept c.args.entry c.number.result c.number.ensures.value here in
+    omega (arith, low)
 
 pub prove-unreachable-requires : goal.prove-unreachable-requires
 prove-unreachable-requires c =
     let t = shown c.self.inside in
-    let ordered = c.self.invariant.ordered in
-    let entry = c.args.entry in
     let may = rw (← c.self.view_is) at c.requires.enabled in
-    let stands = rw (← c.self.view_is) at c.requires.place in
-    let at = entry_is_at t.table c.args.place entry stands in
-    let found = entry_cyclic t ordered c.args.place entry stands in
-    let fact = found_fact t ordered entry.id c.args.place at entry found refl (λ (x : AdmittedCyclic). (x.count ≡ t.ceiling)
+    let here = rw (← c.self.view_is) at c.requires.here in
+    let fact = found_fact t c.args.entry.id c.args.entry here (λ (x : AdmittedCyclic). (x.count ≡ t.ceiling)
     × (x.sent < most_sent)) may.2 in
     absurd (let apart = c.if-prove.true in omega (arith, fact, apart))
 
 pub overflow_add-kept : goal.overflow_add-kept
 overflow_add-kept c =
     let t = shown c.self.inside in
-    let ordered = c.self.invariant.ordered in
-    let entry = c.args.entry in
     let may = rw (← c.self.view_is) at c.requires.enabled in
-    let stands = rw (← c.self.view_is) at c.requires.place in
-    let at = entry_is_at t.table c.args.place entry stands in
-    let found = entry_cyclic t ordered c.args.place entry stands in
-    let fact = found_fact t ordered entry.id c.args.place at entry found refl (λ (x : AdmittedCyclic). (x.count ≡ t.ceiling)
+    let here = rw (← c.self.view_is) at c.requires.here in
+    let fact = found_fact t c.args.entry.id c.args.entry here (λ (x : AdmittedCyclic). (x.count ≡ t.ceiling)
     × (x.sent < most_sent)) may.2 in
     omega (arith, fact)
 
 pub overflow_add-kept-2 : goal.overflow_add-kept-2
 overflow_add-kept-2 c =
     let t = shown c.self.inside in
-    let ordered = c.self.invariant.ordered in
-    let entry = c.args.entry in
     let may = rw (← c.self.view_is) at c.requires.enabled in
-    let stands = rw (← c.self.view_is) at c.requires.place in
-    let at = entry_is_at t.table c.args.place entry stands in
-    let found = entry_cyclic t ordered c.args.place entry stands in
-    let fact = found_fact t ordered entry.id c.args.place at entry found refl (λ (x : AdmittedCyclic). (x.count ≡ t.ceiling)
+    let here = rw (← c.self.view_is) at c.requires.here in
+    let fact = found_fact t c.args.entry.id c.args.entry here (λ (x : AdmittedCyclic). (x.count ≡ t.ceiling)
     × (x.sent < most_sent)) may.2 in
-    let even = (reached_lawful (level_of t) c.self.invariant.reached).conserved entry.id _ found in
+    let even = (reached_lawful (level_of t) c.self.invariant.reached).conserved c.args.entry.id (cyclic_of c.args.entry)
+    (ap (option_map cyclic_of) here) in
     omega (arith, fact, even)
 
 pub invariant_of-self : goal.invariant_of-self
 invariant_of-self c =
-    let t = shown c.self.inside in
-    let ordered = c.self.invariant.ordered in
+    let a = c.self.inside in
+    let kept = a.kept.items in
+    let entries = a.ids.entries in
+    let sound = c.self.invariant.cyclics_kept in
     let entry = c.args.entry in
+    let place = c.number.result in
+    let is = c.number.ensures.value in
     let may = rw (← c.self.view_is) at c.requires.enabled in
-    let stands = rw (← c.self.view_is) at c.requires.place in
-    let at = entry_is_at t.table c.args.place entry stands in
-    let found = entry_cyclic t ordered c.args.place entry stands in
-    let kept = c.index_mut-kept.result.now in
-    let same = stood t.table c.args.place entry kept stands at.in_range c.index_mut-kept.ensures.value in
-    let named = ap (λ (x : Admitted). x.id) same in
-    let made = ap (λ (x : Admitted). cyclic_of (record x { sent = entry.sent + 1; lost = entry.lost + 1 })) same in
-    sound_by c.self.inside _ (Lose entry.id) c.self.invariant may
-    (level_lose t ordered entry.id c.args.place at entry found refl _ named made)
-    (rises_set id_in t.table ordered entry.id c.args.place at _ named) (omega arith) (omega arith) (omega arith)
+    let here = rw (← c.self.view_is) at c.requires.here in
+    let read = c.index_mut-kept.result.now in
+    let new : Kept = record read { sent = entry.sent + 1; lost = entry.lost + 1 } in
+    let same = counts_read kept entries sound entry place is here read c.index_mut-kept.ensures.value in
+    let made = ap (λ (x : Admitted). cyclic_of (record x { sent = entry.sent + 1; lost = entry.lost + 1 })) (sym same) in
+    sound_by a _ (Lose entry.id) c.self.invariant may
+    (level_lose (shown a) _ entry.id entry (read_as entry.id entry.index new) here
+    (counted kept entries sound entry place is here read c.index_mut-kept.ensures.value new refl refl) made)
+    (counted_kept kept entries sound entry place is here read c.index_mut-kept.ensures.value new refl refl)
+    (omega arith) (omega arith) (omega arith) (omega arith)
 
 pub returns : goal.returns
 returns c =
-    let t = shown c.self.inside in
-    let ordered = c.self.invariant.ordered in
+    let a = c.self.inside in
+    let kept = a.kept.items in
+    let entries = a.ids.entries in
+    let sound = c.self.invariant.cyclics_kept in
     let entry = c.args.entry in
-    let may = rw (← c.self.view_is) at c.requires.enabled in
-    let stands = rw (← c.self.view_is) at c.requires.place in
-    let at = entry_is_at t.table c.args.place entry stands in
-    let found = entry_cyclic t ordered c.args.place entry stands in
-    let kept = c.index_mut-kept.result.now in
-    let same = stood t.table c.args.place entry kept stands at.in_range c.index_mut-kept.ensures.value in
-    let named = ap (λ (x : Admitted). x.id) same in
-    let made = ap (λ (x : Admitted). cyclic_of (record x { sent = entry.sent + 1; lost = entry.lost + 1 })) same in
-    rw (← c.self.view_is) (level_lose t ordered entry.id c.args.place at entry found refl _ named made)
-
-pub index_mut-kept-requires : goal.index_mut-kept-requires
-index_mut-kept-requires c =
-    let t = shown c.self.inside in
-    let stands = rw (← c.self.view_is) at c.requires.place in
-    let low = slice_get_within t.table c.args.place _ stands in
-    let long = c.self.inside.table.ok.0 in
-    omega (arith, low, long)
+    let place = c.number.result in
+    let is = c.number.ensures.value in
+    let here = rw (← c.self.view_is) at c.requires.here in
+    let read = c.index_mut-kept.result.now in
+    let new : Kept = record read { sent = entry.sent + 1; lost = entry.lost + 1 } in
+    let same = counts_read kept entries sound entry place is here read c.index_mut-kept.ensures.value in
+    let made = ap (λ (x : Admitted). cyclic_of (record x { sent = entry.sent + 1; lost = entry.lost + 1 })) (sym same) in
+    rw (← c.self.view_is) (level_lose (shown a) _ entry.id entry (read_as entry.id entry.index new) here
+    (counted kept entries sound entry place is here read c.index_mut-kept.ensures.value new refl refl) made)

@@ -9,8 +9,7 @@ use Rattle.cyc_core.proofs.level_core.LevelCore.publish.Goals as goal
 pub push_back_reserved-requires : goal.push_back_reserved-requires
 push_back_reserved-requires c =
     let t = shown c.self.inside in
-    let fits = publish_room t c.self.invariant.ordered (reached_lawful (level_of t) c.self.invariant.reached) c.in-Some.id
-    c.in-Some.is in
+    let fits = publish_room t (reached_lawful (level_of t) c.self.invariant.reached) c.in-Some.id c.in-Some.is in
     let room = c.self.invariant.new_room in
     omega (arith, fits, room)
 
@@ -21,5 +20,5 @@ invariant_of-self c =
     let pushed = c.push_back_reserved.ensures in
     let made = (λ z. record (level_of t) { firer_hand = None; new_list = pushed.items z })
     ∙ level_publish t c.in-Some.id c.in-Some.is in
-    sound_by c.self.inside _ Publish c.self.invariant may made c.self.invariant.ordered (omega arith) (omega arith)
-    (omega (arith, pushed.capacity))
+    sound_by c.self.inside _ Publish c.self.invariant may made c.self.invariant.cyclics_kept (omega arith) (omega arith)
+    (omega arith) (omega (arith, pushed.capacity))

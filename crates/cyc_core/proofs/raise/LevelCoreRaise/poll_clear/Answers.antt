@@ -10,7 +10,7 @@ use Rattle.cyc_core.proofs.raise.LevelCoreRaise.poll_clear.Goals as goal
 pub returns-clause-learns : goal.returns-clause-learns
 returns-clause-learns c =
     let l = level_of c.args.self.now in
-    let entry = c.entry_of-entry.result.1 in
+    let entry = c.entry_of-entry.result in
     let facts = c.entry_of-entry.ensures in
     subst (λ (m : SoftLevel). Learns (firing_view l) (Polls c.args.id (Some (record { sent = entry.sent; lost = entry.lost })))
     (firing_view m)) (sym c.end_stay.ensures) (learns_clear l c.args.id (cyclic_of entry) facts.cyclic)
@@ -18,7 +18,7 @@ returns-clause-learns c =
 pub returns-clause-sound : goal.returns-clause-sound
 returns-clause-sound c =
     let l = level_of c.args.self.now in
-    let entry = c.entry_of-entry.result.1 in
+    let entry = c.entry_of-entry.result in
     let facts = c.entry_of-entry.ensures in
     let none : entry.count ≡ 0 = omega (arith, c.if-entry-gt0.false) in
     subst (λ (m : SoftLevel). Sound (firing_view m)) (sym c.end_stay.ensures)

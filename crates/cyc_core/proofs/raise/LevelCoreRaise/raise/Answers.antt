@@ -14,8 +14,8 @@ use Rattle.cyc_core.proofs.raise.LevelCoreRaise.raise.Goals as goal
 pub lose-requires-clause-enabled : goal.lose-requires-clause-enabled
 lose-requires-clause-enabled c =
     let l = level_of c.args.self.now in
-    let entry = c.entry_of-place.result.1 in
-    let facts = c.entry_of-place.ensures in
+    let entry = c.entry_of-entry.result in
+    let facts = c.entry_of-entry.ensures in
     let ceil : c.self.inside.ceiling ≡ l.ceiling = ap (λ (t : Tables). t.ceiling) c.self.view_is in
     let full : entry.count ≡ l.ceiling = c.if-count-self.true ∙ ceil in
     let may = can_lose l c.args.id (cyclic_of entry) facts.cyclic c.requires full in
@@ -24,8 +24,8 @@ lose-requires-clause-enabled c =
 pub returns-then-count-self-clause-step : goal.returns-then-count-self-clause-step
 returns-then-count-self-clause-step c =
     let l = level_of c.args.self.now in
-    let entry = c.entry_of-place.result.1 in
-    let facts = c.entry_of-place.ensures in
+    let entry = c.entry_of-entry.result in
+    let facts = c.entry_of-entry.ensures in
     let ceil : c.self.inside.ceiling ≡ l.ceiling = ap (λ (t : Tables). t.ceiling) c.self.view_is in
     let full : entry.count ≡ l.ceiling = c.if-count-self.true ∙ ceil in
     let may = can_lose l c.args.id (cyclic_of entry) facts.cyclic c.requires full in
@@ -35,8 +35,8 @@ returns-then-count-self-clause-step c =
 pub returns-then-count-self-clause-learns : goal.returns-then-count-self-clause-learns
 returns-then-count-self-clause-learns c =
     let l = level_of c.args.self.now in
-    let entry = c.entry_of-place.result.1 in
-    let facts = c.entry_of-place.ensures in
+    let entry = c.entry_of-entry.result in
+    let facts = c.entry_of-entry.ensures in
     let ceil : c.self.inside.ceiling ≡ l.ceiling = ap (λ (t : Tables). t.ceiling) c.self.view_is in
     let full : entry.count ≡ l.ceiling = c.if-count-self.true ∙ ceil in
     let may = can_lose l c.args.id (cyclic_of entry) facts.cyclic c.requires full in
@@ -47,8 +47,8 @@ returns-then-count-self-clause-learns c =
 pub returns-then-count-self-clause-sound : goal.returns-then-count-self-clause-sound
 returns-then-count-self-clause-sound c =
     let l = level_of c.args.self.now in
-    let entry = c.entry_of-place.result.1 in
-    let facts = c.entry_of-place.ensures in
+    let entry = c.entry_of-entry.result in
+    let facts = c.entry_of-entry.ensures in
     let ceil : c.self.inside.ceiling ≡ l.ceiling = ap (λ (t : Tables). t.ceiling) c.self.view_is in
     let full : entry.count ≡ l.ceiling = c.if-count-self.true ∙ ceil in
     let may = can_lose l c.args.id (cyclic_of entry) facts.cyclic c.requires full in
@@ -59,8 +59,8 @@ returns-then-count-self-clause-sound c =
 pub expire-requires-clause-enabled : goal.expire-requires-clause-enabled
 expire-requires-clause-enabled c =
     let l = level_of c.args.self.now in
-    let entry = c.entry_of-place.result.1 in
-    let facts = c.entry_of-place.ensures in
+    let entry = c.entry_of-entry.result in
+    let facts = c.entry_of-entry.ensures in
     let ceil : c.self.inside.ceiling ≡ l.ceiling = ap (λ (t : Tables). t.ceiling) c.self.view_is in
     let below : entry.count < l.ceiling = (let most = facts.lawful.below_ceiling c.args.id (cyclic_of entry) facts.cyclic in
     let apart = c.if-count-self.false in omega (arith, most, apart, ceil)) in
@@ -70,8 +70,8 @@ expire-requires-clause-enabled c =
 pub returns-then-count-gt0-clause-step : goal.returns-then-count-gt0-clause-step
 returns-then-count-gt0-clause-step c =
     let l = level_of c.args.self.now in
-    let entry = c.entry_of-place.result.1 in
-    let facts = c.entry_of-place.ensures in
+    let entry = c.entry_of-entry.result in
+    let facts = c.entry_of-entry.ensures in
     let ceil : c.self.inside.ceiling ≡ l.ceiling = ap (λ (t : Tables). t.ceiling) c.self.view_is in
     let below : entry.count < l.ceiling = (let most = facts.lawful.below_ceiling c.args.id (cyclic_of entry) facts.cyclic in
     let apart = c.if-count-self.false in omega (arith, most, apart, ceil)) in
@@ -86,8 +86,8 @@ returns-then-count-gt0-clause-step c =
 pub returns-then-count-gt0-clause-learns : goal.returns-then-count-gt0-clause-learns
 returns-then-count-gt0-clause-learns c =
     let l = level_of c.args.self.now in
-    let entry = c.entry_of-place.result.1 in
-    let facts = c.entry_of-place.ensures in
+    let entry = c.entry_of-entry.result in
+    let facts = c.entry_of-entry.ensures in
     let ceil : c.self.inside.ceiling ≡ l.ceiling = ap (λ (t : Tables). t.ceiling) c.self.view_is in
     let below : entry.count < l.ceiling = (let most = facts.lawful.below_ceiling c.args.id (cyclic_of entry) facts.cyclic in
     let apart = c.if-count-self.false in omega (arith, most, apart, ceil)) in
@@ -100,8 +100,8 @@ returns-then-count-gt0-clause-learns c =
 pub returns-then-count-gt0-clause-sound : goal.returns-then-count-gt0-clause-sound
 returns-then-count-gt0-clause-sound c =
     let l = level_of c.args.self.now in
-    let entry = c.entry_of-place.result.1 in
-    let facts = c.entry_of-place.ensures in
+    let entry = c.entry_of-entry.result in
+    let facts = c.entry_of-entry.ensures in
     let ceil : c.self.inside.ceiling ≡ l.ceiling = ap (λ (t : Tables). t.ceiling) c.self.view_is in
     let below : entry.count < l.ceiling = (let most = facts.lawful.below_ceiling c.args.id (cyclic_of entry) facts.cyclic in
     let apart = c.if-count-self.false in omega (arith, most, apart, ceil)) in
@@ -114,8 +114,8 @@ returns-then-count-gt0-clause-sound c =
 pub publish-requires : goal.publish-requires
 publish-requires c =
     let l = level_of c.args.self.now in
-    let entry = c.entry_of-place.result.1 in
-    let facts = c.entry_of-place.ensures in
+    let entry = c.entry_of-entry.result in
+    let facts = c.entry_of-entry.ensures in
     let ceil : c.self.inside.ceiling ≡ l.ceiling = ap (λ (t : Tables). t.ceiling) c.self.view_is in
     let below : entry.count < l.ceiling = (let most = facts.lawful.below_ceiling c.args.id (cyclic_of entry) facts.cyclic in
     let apart = c.if-count-self.false in omega (arith, most, apart, ceil)) in
@@ -129,8 +129,8 @@ publish-requires c =
 pub returns-clause-step : goal.returns-clause-step
 returns-clause-step c =
     let l = level_of c.args.self.now in
-    let entry = c.entry_of-place.result.1 in
-    let facts = c.entry_of-place.ensures in
+    let entry = c.entry_of-entry.result in
+    let facts = c.entry_of-entry.ensures in
     let ceil : c.self.inside.ceiling ≡ l.ceiling = ap (λ (t : Tables). t.ceiling) c.self.view_is in
     let below : entry.count < l.ceiling = (let most = facts.lawful.below_ceiling c.args.id (cyclic_of entry) facts.cyclic in
     let apart = c.if-count-self.false in omega (arith, most, apart, ceil)) in
@@ -148,8 +148,8 @@ returns-clause-step c =
 pub returns-clause-learns : goal.returns-clause-learns
 returns-clause-learns c =
     let l = level_of c.args.self.now in
-    let entry = c.entry_of-place.result.1 in
-    let facts = c.entry_of-place.ensures in
+    let entry = c.entry_of-entry.result in
+    let facts = c.entry_of-entry.ensures in
     let ceil : c.self.inside.ceiling ≡ l.ceiling = ap (λ (t : Tables). t.ceiling) c.self.view_is in
     let below : entry.count < l.ceiling = (let most = facts.lawful.below_ceiling c.args.id (cyclic_of entry) facts.cyclic in
     let apart = c.if-count-self.false in omega (arith, most, apart, ceil)) in
@@ -165,8 +165,8 @@ returns-clause-learns c =
 pub returns-clause-sound : goal.returns-clause-sound
 returns-clause-sound c =
     let l = level_of c.args.self.now in
-    let entry = c.entry_of-place.result.1 in
-    let facts = c.entry_of-place.ensures in
+    let entry = c.entry_of-entry.result in
+    let facts = c.entry_of-entry.ensures in
     let ceil : c.self.inside.ceiling ≡ l.ceiling = ap (λ (t : Tables). t.ceiling) c.self.view_is in
     let below : entry.count < l.ceiling = (let most = facts.lawful.below_ceiling c.args.id (cyclic_of entry) facts.cyclic in
     let apart = c.if-count-self.false in omega (arith, most, apart, ceil)) in

@@ -1,12 +1,20 @@
-use Rattle.std.proofs.Common.{◌≡◌, subst}
-use Rattle.cyc_cpu.specs.Cpu.{CpuView, IsCyclic}
-use Rattle.cyc_timers.specs.Rows.{Cyclic, cyclic_of}
-use Rattle.cyc_cpu.proofs.Cyclics.{is_cyclic}
+use Rattle.std.proofs.Common.{Ok, ap, sym, ◌∙◌}
+use Rattle.cyc_cpu.specs.Calls.{Reprogram}
+use Rattle.cyc_cpu.specs.Cpu.{CpuView}
+use Rattle.cyc_cpu.proofs.Cyclics.{changes_from}
+use Rattle.cyc_cpu.proofs.Reprogramming.{over, hard_reprogrammed, reprogrammed}
 use Rattle.cyc_cpu.proofs.hard.Hard.reprogram.Goals as goal
 
-pub reprogram_found-requires-clause-here : goal.reprogram_found-requires-clause-here
-reprogram_found-requires-clause-here g c =
-    let (r, is, named) = c.in-Some.ensures.some in
-    let place = c.in-Some.place in
-    subst (λ (v : CpuView _). (x : Cyclic) × IsCyclic v.cyclics place x × (x.timer.id ≡ c.args.id)) c.self.view_is
-    (cyclic_of r, is_cyclic c.self.inside.table.rows place r is, named)
+pub invariant_of-self : goal.invariant_of-self
+invariant_of-self g c = let i = c.self.inside in
+    hard_reprogrammed g.R.Raise i.removal i.most i.lock i.low i.table c.reprogram.new.self c.args.id c.in-Some.index c.args.moment
+    c.in-Some.ensures.some (λ q. c.if-is_removed.ensures.kept (sym (ap (λ (v : CpuView _). v.removal) c.self.view_is) ∙ q))
+    c.reprogram.ensures.rows c.reprogram.ensures.size c.self.invariant
+
+pub returns-in-Some : goal.returns-in-Some
+returns-in-Some g c = let i = c.self.inside in
+    changes_from g.R.Raise (Reprogram c.args.id c.args.moment (Ok tt)) _ _
+    (over i.removal i.most i.suspended i.lock i.low c.reprogram.new.self) c.self.view_is
+    (reprogrammed g.R.Raise i.removal i.most i.lock i.low i.table c.reprogram.new.self c.args.id c.in-Some.index c.args.moment
+    c.in-Some.ensures.some (λ q. c.if-is_removed.ensures.kept (sym (ap (λ (v : CpuView _). v.removal) c.self.view_is) ∙ q))
+    c.reprogram.ensures.rows c.reprogram.ensures.size i.suspended c.reprogram.ensures.room)

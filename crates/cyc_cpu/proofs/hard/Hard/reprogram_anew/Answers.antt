@@ -1,26 +1,28 @@
-use Rattle.std.proofs.Common.{ℕ, Bool, Option, ap, ◌∙◌, subst, refl, inl}
-use Rattle.cyc_timers.specs.Rows.{TableView, cyclic_of, cyclics_of}
+use Rattle.std.proofs.Common.{Ok, ap, sym, ◌∙◌, subst, refl, inl}
+use Rattle.cyc_timers.specs.Rows.{TableView}
+use Rattle.cyc_timers.specs.Ends.{IsHard}
+use Rattle.cyc_cpu.specs.Calls.{Reprogram}
 use Rattle.cyc_cpu.specs.Cpu.{CpuView, HasNoCyclic}
-use Rattle.cyc_cpu.proofs.Cyclics.{is_cyclic, no_cyclic}
+use Rattle.cyc_cpu.proofs.Cyclics.{no_cyclic, changes_from}
+use Rattle.cyc_cpu.proofs.Reprogramming.{over, hard_reprogrammed, reprogrammed}
 use Rattle.cyc_cpu.proofs.hard.Hard.reprogram_anew.Goals as goal
 
--- a CPU over this table
-abbrev over : {R : Type 0} → Option ℕ → ℕ → Bool → R → R → TableView → CpuView R
-over removal most suspended lock low t = record {
-  cyclics = cyclics_of t.rows;
-  removal = removal;
-  size = t.size;
-  room = t.room;
-  most = most;
-  suspended = suspended;
-  lock = lock;
-  low = low;
-}
+pub invariant_of-self : goal.invariant_of-self
+invariant_of-self g c = let i = c.self.inside in
+    hard_reprogrammed g.R.Raise i.removal i.most i.lock i.low c.seek.new.self c.reprogram.new.self c.args.id c.in-Some.index
+    c.args.moment c.in-Some.ensures.some (λ q. c.requires (sym (ap (λ (v : CpuView _). v.removal) c.self.view_is) ∙ q))
+    c.reprogram.ensures.rows c.reprogram.ensures.size
+    (subst (λ (t : TableView). IsHard g.R.Raise.view t.size i.most i.removal i.lock i.low t.rows) (sym c.seek.ensures.same)
+    c.self.invariant)
 
-pub reprogram_found-requires-clause-here : goal.reprogram_found-requires-clause-here
-reprogram_found-requires-clause-here g c =
-    let (r, is, named) = c.in-Some.ensures.some in
-    (cyclic_of r, is_cyclic c.seek.new.self.rows c.in-Some.place r is, named)
+pub returns-in-Some : goal.returns-in-Some
+returns-in-Some g c = let i = c.self.inside in
+    let v = ap (over i.removal i.most i.suspended i.lock i.low) c.seek.ensures.same ∙ c.self.view_is in
+    changes_from g.R.Raise (Reprogram c.args.id c.args.moment (Ok tt)) _ _
+    (over i.removal i.most i.suspended i.lock i.low c.reprogram.new.self) v
+    (reprogrammed g.R.Raise i.removal i.most i.lock i.low c.seek.new.self c.reprogram.new.self c.args.id c.in-Some.index
+    c.args.moment c.in-Some.ensures.some (λ q. c.requires (sym (ap (λ (v : CpuView _). v.removal) c.self.view_is) ∙ q))
+    c.reprogram.ensures.rows c.reprogram.ensures.size i.suspended c.reprogram.ensures.room)
 
 pub returns-in-None : goal.returns-in-None
 returns-in-None g c =

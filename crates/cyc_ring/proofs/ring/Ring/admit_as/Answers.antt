@@ -27,10 +27,9 @@ invariant_of-raise_seat g c = let r = c.args.raise_seat.now in let t : List Rais
     let room = c.requires.index.0 in let p : 2 ^ r.bank ≤ 2 ^ greatest_bank =
     pow_mono {i = r.bank} {j = greatest_bank} r.bank_is.1 in let q : 2 ^ greatest_bank ≡ cyclics = refl in
     let low : at < cyclics = omega (arith, room, p, q, is_at) in let some = c.number.ensures.valid.0 in let st = r.stays.value in
-    let now : c.deref_mut-3.result.now ≡ record { ids = set st.ids at n; sent = set st.sent at 0; lost = st.lost } =
-    c.deref_mut-3.ensures.value ∙ ap (λ (p : Stays). record { ids = p.ids; sent = set p.sent at 0; lost = p.lost })
-    (c.deref_mut-2.ensures.value ∙ ap (λ (p : Stays). record { ids = set p.ids at n; sent = p.sent; lost = p.lost })
-    c.deref_mut.ensures.value) in
+    let now : c.deref_mut-3.result.now ≡ record st { ids = set st.ids at n; sent = set st.sent at 0 } =
+    c.deref_mut-3.ensures.value ∙ ap (λ (p : Stays). record p { sent = set p.sent at 0 })
+    (c.deref_mut-2.ensures.value ∙ ap (λ (p : Stays). record p { ids = set p.ids at n }) c.deref_mut.ensures.value) in
     let l1 : at < length st.ids = search rules in let l2 : at < length st.sent = search rules in let l3 : at < length st.lost =
     search rules in
     record {
@@ -42,8 +41,10 @@ invariant_of-raise_seat g c = let r = c.args.raise_seat.now in let t : List Rais
           (λ z. (sym now z, sym e' z))
           (fits_admitted st.ids st.sent st.lost t r.rows n at low (ap (λ (j : ℕ). get_or st.ids j 0) is_at ∙ c.requires.index.1)
           (λ z. omega (arith, z, some)) (ap (λ (y : ℕ). open_stay y t) is_id ∙ c.requires.absent) l1 l2 l3);
-      listed = subst (λ (u : List RaiseStep). (j : ℕ) → index_of j c.insert.new.self ≡ stay_index (open_stay j u)) (sym e)
-          (listed_admitted t (λ j. index_of j r.finder) (λ j. index_of j c.insert.new.self) r.listed id i c.insert.ensures);
+      roomy = (let k = r.roomy in let e = c.insert.ensures.room in omega (arith, k, e));
+      listed = subst (λ (u : List RaiseStep). (j : ℕ) → index_of j c.insert.new.self.entries ≡ stay_index (open_stay j u)) (sym e)
+          (listed_admitted t (λ j. index_of j r.finder.entries) (λ j. index_of j c.insert.new.self.entries)
+          r.listed id i c.insert.ensures.told);
       seen = subst (IsSeenSound r.setting.ceiling) (sym e)
           (sound_admits r.setting.ceiling t r.seen id i (subst (λ (b : ℕ). i < 2 ^ b) r.bank_is.0 room));
       balanced = subst IsBalanced (sym e) (balanced_admitted t r.balanced id i c.requires.absent);

@@ -1,4 +1,4 @@
-use Rattle.std.proofs.Common.{rules, ◌≡◌, ℕ, get_or, ◌%◌, ◌<◌, List, ◌∷◌, length, set, refl, sym, ap, ◌∙◌, subst}
+use Rattle.std.proofs.Common.{rules, ◌≡◌, ℕ, get_or, ◌%◌, ◌<◌, List, ◌∷◌, length, set, refl, sym, ap, ◌∙◌, subst, arith}
 use Rattle.ring_rule.specs.declared.RaiseStep.{RaiseStep}
 use Rattle.ring_rule.specs.declared.RaiseStep.TheVariants.{Cleared}
 use Rattle.ring_rule.specs.Words.{index_range}
@@ -44,9 +44,11 @@ invariant_of-raise_seat g c = let r = c.args.raise_seat.now in let t : List Rais
           (λ z. (sym c.deref_mut.ensures.value z, sym e z))
           (fits_cleared r.stays.value.ids r.stays.value.sent r.stays.value.lost t r.rows c.args.id i c.requires.index.0
           c.requires.index.1 c.requires.index.2 long);
-      listed = subst (λ (u : List RaiseStep). (id : ℕ) → index_of id c.remove.new.self ≡ stay_index (open_stay id u)) (sym e)
-          (listed_cleared t (λ id. index_of id r.finder)
-          (λ id. index_of id c.remove.new.self) r.listed c.args.id c.remove.ensures);
+      roomy = (let k = r.roomy in let e = c.remove.ensures.room in omega (arith, k, e));
+      listed = subst (λ (u : List RaiseStep). (id : ℕ) → index_of id c.remove.new.self.entries ≡ stay_index (open_stay id u))
+          (sym e)
+          (listed_cleared t (λ id. index_of id r.finder.entries)
+          (λ id. index_of id c.remove.new.self.entries) r.listed c.args.id c.remove.ensures.told);
       seen = subst (IsSeenSound r.setting.ceiling) (sym e) (sound_cleared r.setting.ceiling t r.seen c.args.id);
       balanced = subst IsBalanced (sym e) (balanced_cleared t r.balanced c.args.id);
     }

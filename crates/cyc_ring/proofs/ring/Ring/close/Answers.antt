@@ -13,15 +13,16 @@ use Rattle.ring_rule.proofs.Truths.{stands_now}
 use Rattle.cyc_ring.specs.Rows.{HoldsStays}
 use Rattle.cyc_ring.specs.declared.seats.RaiseSeat.{RaiseSeat}
 use Rattle.cyc_ring.specs.declared.seats.DrainSeat.{DrainSeat}
+use Rattle.cyc_ring.specs.declared.seats.Stays.{Stays}
 use Rattle.cyc_ring.proofs.Closing.{Ended, ended, counted_row, finished_row, named_row, marked_row, unmarked_row}
 use Rattle.cyc_ring.proofs.ring.Ring.close.Goals as goal
 
 pub invariant_of-result : goal.invariant_of-result
-invariant_of-result c = let r = c.args.raise_seat in let d = c.args.drain_seat in let pends : List ℕ = c.close-pends.result in
+invariant_of-result c = let r = c.args.raise_seat in let d = c.args.drain_seat in let pends : List ℕ = c.close.new.pends in
     let k = c.args.self.setting in
     let C : Ended k pends r.side.seat.me.0 d.side.seat.me.0 =
     ended c.args.self.words.setting k c.args.self.same pends c.join-both.result.seat.me.0 r.side.seat.me.0 d.side.seat.me.0
-    c.join-both.ensures.trails c.close-pends.ensures in
+    c.join-both.ensures.trails c.close.ensures in
     let log : List RingStep = C.0 in let L : LevelStands k log = stands_now k log C.2 in
     let read : (i : ℕ) → i < cyclics → get_or (replay k.start log) (pend_word i) 0 ≡ get_or pends i 0 =
     λ i low. sym (C.3 i low) in
@@ -30,8 +31,11 @@ invariant_of-result c = let r = c.args.raise_seat in let d = c.args.drain_seat i
     let done : c.of-done.result.value.side.seat.me.0.drain_trail ≡ drain_side log =
     ap (λ (x : DrainSeat). x.side.seat.me.0.drain_trail) c.of-done.ensures ∙ C.1.1.0 in
     let small : k.ceiling < mark_bit = subst (λ (x : Setting). x.ceiling < mark_bit) c.requires.raise_seat.1 r.ranges.1 in
-    let ids : List ℕ = r.stays.value.ids in let sent : List ℕ = r.stays.value.sent in let lost : List ℕ = r.stays.value.lost in
-    let rows : HoldsStays ids sent lost (raise_side log) = subst (HoldsStays ids sent lost) C.1.0.0 r.rows in
+    let st : Stays = c.deref_mut.result.now in
+    let ids : List ℕ = st.ids in let sent : List ℕ = st.sent in let lost : List ℕ = st.lost in
+    let rows : HoldsStays ids sent lost (raise_side log) =
+    subst (λ (p : Stays × List RaiseStep). HoldsStays p.0.ids p.0.sent p.0.lost p.1)
+    (λ z. (sym c.deref_mut.ensures.value z, C.1.0.0 z)) r.rows in
     record {
       rows = subst (HoldsStays ids sent lost) (sym known) rows;
       named = λ i low. dite (ℕ_discrete (get_or ids i 0) 0) (λ z. omega (arith, z))
@@ -47,15 +51,15 @@ invariant_of-result c = let r = c.args.raise_seat in let d = c.args.drain_seat i
 
 pub returns-clause-stands : goal.returns-clause-stands
 returns-clause-stands c = let r = c.args.raise_seat in let d = c.args.drain_seat in let k = c.args.self.setting in
-    let C : Ended k c.close-pends.result r.side.seat.me.0 d.side.seat.me.0 =
-    ended c.args.self.words.setting k c.args.self.same c.close-pends.result c.join-both.result.seat.me.0 r.side.seat.me.0
-    d.side.seat.me.0 c.join-both.ensures.trails c.close-pends.ensures in
+    let C : Ended k c.close.new.pends r.side.seat.me.0 d.side.seat.me.0 =
+    ended c.args.self.words.setting k c.args.self.same c.close.new.pends c.join-both.result.seat.me.0 r.side.seat.me.0
+    d.side.seat.me.0 c.join-both.ensures.trails c.close.ensures in
     (C.0, C.1, C.2)
 
 pub returns-clause-accounted : goal.returns-clause-accounted
 returns-clause-accounted c = let r = c.args.raise_seat in let d = c.args.drain_seat in let k = c.args.self.setting in
-    let C : Ended k c.close-pends.result r.side.seat.me.0 d.side.seat.me.0 =
-    ended c.args.self.words.setting k c.args.self.same c.close-pends.result c.join-both.result.seat.me.0 r.side.seat.me.0
-    d.side.seat.me.0 c.join-both.ensures.trails c.close-pends.ensures in
+    let C : Ended k c.close.new.pends r.side.seat.me.0 d.side.seat.me.0 =
+    ended c.args.self.words.setting k c.args.self.same c.close.new.pends c.join-both.result.seat.me.0 r.side.seat.me.0
+    d.side.seat.me.0 c.join-both.ensures.trails c.close.ensures in
     subst (λ (p : List RaiseStep × List DrainStep). IsAccounted p.0 p.1) (λ z. (sym C.1.0.0 z, sym C.1.1.0 z))
     ((stands_now k C.0 C.2).accounted)

@@ -38,7 +38,9 @@ invariant_of-raise_seat g c = let r = c.args.raise_seat.now in let t : List Rais
       ranges = r.ranges;
       rows = subst (HoldsStays r.stays.value.ids r.stays.value.sent r.stays.value.lost) (sym e)
           (fits_same r.stays.value.ids r.stays.value.sent r.stays.value.lost t (x ∷ t) (λ id. refl) r.rows);
-      listed = subst (λ (u : List RaiseStep). (id : ℕ) → index_of id r.finder ≡ stay_index (open_stay id u)) (sym e) r.listed;
+      roomy = r.roomy;
+      listed = subst (λ (u : List RaiseStep). (id : ℕ) → index_of id r.finder.entries ≡ stay_index (open_stay id u))
+          (sym e) r.listed;
       seen = subst (IsSeenSound r.setting.ceiling) (sym e)
           (sound_marks r.setting.ceiling t r.seen g.J.Served.id c.mark.result c.mark.ensures.bound);
       balanced = subst IsBalanced (sym e) r.balanced;

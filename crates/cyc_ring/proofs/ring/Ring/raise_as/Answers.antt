@@ -59,7 +59,7 @@ invariant_of-raise_seat g c = let r = c.args.raise_seat.now in let k = c.args.se
     is_lost b s1 before r.setting.ceiling refl full c.load_to_raise-before.ensures.lost in
     let e : s1.me.0.raise_trail ≡ Lost id before ∷ t = ap (λ (m : ThisSeat). m.0.raise_trail) m.1.1 in
     let now = c.deref_mut-then-before-ceiling.ensures.value
-    ∙ ap (λ (p : Stays). record { ids = p.ids; sent = set p.sent x (get_or p.sent x 0 + 1); lost = p.lost })
+    ∙ ap (λ (p : Stays). record p { sent = set p.sent x (get_or p.sent x 0 + 1) })
     c.deref_mut.ensures.value in
     let long : x < length lost = search rules in
     record {
@@ -72,8 +72,9 @@ invariant_of-raise_seat g c = let r = c.args.raise_seat.now in let k = c.args.se
           (fits_more _ _ _ _ r.rows id x 1 b.index.0 b.index.1 b.real (search rules) (Lost id before ∷ t) (λ id. refl)
           (set lost x (get_or lost x 0 + 1)) (get_or-set_same lost x (get_or lost x 0 + 1) 0 long)
           (λ j ne. get_or-set_other lost x j (get_or lost x 0 + 1) 0 ne) (search rules));
-      listed = subst (λ (u : List RaiseStep). (id : ℕ) → index_of id r.finder ≡ stay_index (open_stay id u)) (sym e)
-          (listed_more t (Lost id before ∷ t) (λ id. index_of id r.finder) r.listed id 1 (λ id. refl));
+      roomy = r.roomy;
+      listed = subst (λ (u : List RaiseStep). (id : ℕ) → index_of id r.finder.entries ≡ stay_index (open_stay id u)) (sym e)
+          (listed_more t (Lost id before ∷ t) (λ id. index_of id r.finder.entries) r.listed id 1 (λ id. refl));
       seen = subst (IsSeenSound r.setting.ceiling) (sym e)
           (sound_lost r.setting.ceiling t r.seen id before (is_low b before c.load_to_raise-before.ensures.bound.0));
       balanced = subst IsBalanced (sym e) (balanced_lost t r.balanced id before);
@@ -121,8 +122,9 @@ invariant_of-raise_seat-then-found-ne0 g c = let r = c.args.raise_seat.now in le
           (λ z. (sym c.deref_mut.ensures.value z, sym e z))
           (fits_more _ _ _ _ r.rows id x 0 b.index.0 b.index.1 b.real (search rules) (Added id found ∷ Loaded id before ∷ t)
           (λ id. refl) r.stays.value.lost (omega arith) (λ j ne. refl) (search rules));
-      listed = subst (λ (u : List RaiseStep). (id : ℕ) → index_of id r.finder ≡ stay_index (open_stay id u)) (sym e)
-          (listed_more t (Added id found ∷ Loaded id before ∷ t) (λ id. index_of id r.finder) r.listed id 0 (λ id. refl));
+      roomy = r.roomy;
+      listed = subst (λ (u : List RaiseStep). (id : ℕ) → index_of id r.finder.entries ≡ stay_index (open_stay id u)) (sym e)
+          (listed_more t (Added id found ∷ Loaded id before ∷ t) (λ id. index_of id r.finder.entries) r.listed id 0 (λ id. refl));
       seen = subst (IsSeenSound r.setting.ceiling) (sym e)
           (sound_added r.setting.ceiling t r.seen id before found
           (subst (λ (y : Setting). before < y.ceiling) (sym b.own) w.under) w.low a.top);
@@ -245,9 +247,10 @@ invariant_of-raise_seat-2 g c = let r = c.args.raise_seat.now in let k = c.args.
           (fits_more _ _ _ _ r.rows id x 0 b.index.0 b.index.1 b.real (search rules)
           (Published w' ∷ Stored (entry id x) ∷ Added id 0 ∷ Loaded id before ∷ t) (λ id. refl) r.stays.value.lost
           (omega arith) (λ j ne. refl) (search rules));
-      listed = subst (λ (u : List RaiseStep). (id : ℕ) → index_of id r.finder ≡ stay_index (open_stay id u)) (sym e)
+      roomy = r.roomy;
+      listed = subst (λ (u : List RaiseStep). (id : ℕ) → index_of id r.finder.entries ≡ stay_index (open_stay id u)) (sym e)
           (listed_more t (Published w' ∷ Stored (entry id x) ∷ Added id 0 ∷ Loaded id before ∷ t)
-          (λ id. index_of id r.finder) r.listed id 0 (λ id. refl));
+          (λ id. index_of id r.finder.entries) r.listed id 0 (λ id. refl));
       seen = subst (IsSeenSound r.setting.ceiling) (sym e)
           (sound_added r.setting.ceiling t r.seen id before 0 (subst (λ (y : Setting). before < y.ceiling) (sym b.own) w.under)
           w.low p.counted.top);

@@ -10,7 +10,7 @@ use Rattle.cyc_ring.specs.Views.{IsSeenSound, IsBalanced}
 use Rattle.cyc_ring.proofs.Rows.{fits_same}
 use Rattle.cyc_ring.proofs.Learning.{sound_expands}
 use Rattle.std.proofs.Common.{mod-eq_of_lt, pow_mono, pow_pos}
-use Rattle.cyc_types.specs.Limits.{greatest_bank}
+use Rattle.cyc_types.specs.Limits.{greatest_bank, cyclics}
 use Rattle.cyc_ring.proofs.ring.Ring.switch_as.Goals as goal
 
 pub invariant_of-raise_seat : goal.invariant_of-raise_seat
@@ -24,14 +24,16 @@ invariant_of-raise_seat g c = let r = c.args.raise_seat.now in let t : List Rais
         c.requires.bank.1,
         (let p : 0 < 2 ^ c.args.bank = pow_pos c.args.bank in
             let q : 2 ^ c.args.bank ≤ 2 ^ greatest_bank = pow_mono {i = c.args.bank} {j = greatest_bank} c.requires.bank.1 in
-            let z : 2 ^ greatest_bank ≡ 256 = refl in omega (arith, p, q, z)),
+            let z : 2 ^ greatest_bank ≡ cyclics = refl in omega (arith, p, q, z)),
       );
       next_is = sym (mod-eq_of_lt (let w = r.ranges.2 in omega (arith, w)))
           ∙ ap (λ (u : List RaiseStep). producer_index r.setting.start u % index_range) (sym e);
       ranges = r.ranges;
       rows = subst (HoldsStays r.stays.value.ids r.stays.value.sent r.stays.value.lost) (sym e)
           (fits_same r.stays.value.ids r.stays.value.sent r.stays.value.lost t (x ∷ t) (λ id. refl) r.rows);
-      listed = subst (λ (u : List RaiseStep). (id : ℕ) → index_of id r.finder ≡ stay_index (open_stay id u)) (sym e) r.listed;
+      roomy = r.roomy;
+      listed = subst (λ (u : List RaiseStep). (id : ℕ) → index_of id r.finder.entries ≡ stay_index (open_stay id u))
+          (sym e) r.listed;
       seen = subst (IsSeenSound r.setting.ceiling) (sym e)
           (sound_expands r.setting.ceiling t r.seen c.args.bank (let b = r.bank_is.0 in let more = c.requires.bank.0 in
           omega (arith, b, more)));

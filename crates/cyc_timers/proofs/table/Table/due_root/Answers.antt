@@ -3,7 +3,7 @@ use Rattle.std.proofs.Common.{subst, arith}
 use Rattle.cyc_types.specs.Expirations.{Expiration}
 use Rattle.cyc_types.specs.Timers.{Timer}
 use Rattle.cyc_heap.specs.Heap.{HeapView, IsEmpty, IsLeast}
-use Rattle.cyc_finder.specs.declared.finder.Entry.{Entry}
+use Rattle.cyc_finder.specs.Indexes.{Entry}
 use Rattle.cyc_timers.specs.declared.table.Record.{Record}
 use Rattle.cyc_timers.specs.Rows.{Row, TableView, IsRow, IsTable, IsFirstAt, rows_of, timers_of}
 use Rattle.cyc_timers.proofs.Tables.{no_place, rows_long, root_is}
@@ -31,7 +31,7 @@ pub returns-clause-none : goal.returns-clause-none
 returns-clause-none c =
     subst (λ (v : TableView). IfNone c.due_root.result (All (λ (t : Timer). c.args.now < t.moment) (timers_of v.rows)))
     c.self.view_is
-    (none_due c.self.inside.heap c.self.inside.records.items c.self.inside.entries.items c.self.invariant.0 c.args.now
+    (none_due c.self.inside.heap c.self.inside.records.items c.self.inside.finder.entries c.self.invariant.0 c.args.now
     c.due_root.result c.due_root.ensures.none)
 
 -- of the root of the heap the row
@@ -47,5 +47,5 @@ pub returns-clause-first : goal.returns-clause-first
 returns-clause-first c =
     subst (λ (v : TableView). IfSome c.due_root.result (λ found. (k : ℕ) × (r : Row) × IsRow v.rows k r × (r.index ≡ found.0)
     × (r.timer.moment ≡ c.args.now - found.1) × (r.timer.id ≡ found.2) × IsFirstAt v.rows k)) c.self.view_is
-    (first_is c.self.inside.heap c.self.inside.records.items c.self.inside.entries.items c.self.invariant.0 c.args.now
+    (first_is c.self.inside.heap c.self.inside.records.items c.self.inside.finder.entries c.self.invariant.0 c.args.now
     c.due_root.result c.due_root.ensures.least)

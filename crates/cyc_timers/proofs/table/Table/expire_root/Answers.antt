@@ -10,7 +10,7 @@ pub index_mut-kept-requires : goal.index_mut-kept-requires
 index_mut-kept-requires c =
     let (k, r, is, at) = c.requires.here in
     let t = c.self.invariant.0 in
-    let s = standing c.self.inside.heap.slots c.self.inside.records.items c.self.inside.entries.items k r t
+    let s = standing c.self.inside.heap.slots c.self.inside.records.items c.self.inside.finder.entries k r t
     (subst (λ (v : TableView). IsRow v.rows k r) (sym c.self.view_is) is) in
     let same : s.p.index ≡ c.number.result = ap (λ (x : Row). x.index) (sym s.row) ∙ at ∙ sym c.number.ensures.value in
     let below = s.below in let long = t.long in
@@ -21,7 +21,7 @@ invariant_of-self c =
     let (k, r, is, at) = c.requires.here in
     let t = c.self.invariant.0 in
     let slots = c.self.inside.heap.slots in let records = c.self.inside.records.items in let entries =
-    c.self.inside.entries.items in
+    c.self.inside.finder.entries in
     let s = standing slots records entries k r t (subst (λ (v : TableView). IsRow v.rows k r) (sym c.self.view_is) is) in
     let same : s.p.index ≡ c.number.result = ap (λ (x : Row). x.index) (sym s.row) ∙ at ∙ sym c.number.ensures.value in
     let root = ap (λ (v : TableView). v.root) c.self.view_is ∙ c.requires.root in
@@ -46,7 +46,7 @@ pub returns-clause-rows : goal.returns-clause-rows
 returns-clause-rows c k r is at =
     let t = c.self.invariant.0 in
     let slots = c.self.inside.heap.slots in let records = c.self.inside.records.items in let entries =
-    c.self.inside.entries.items in
+    c.self.inside.finder.entries in
     let s = standing slots records entries k r t (subst (λ (v : TableView). IsRow v.rows k r) (sym c.self.view_is) is) in
     let same : s.p.index ≡ c.number.result = ap (λ (x : Row). x.index) (sym s.row) ∙ at ∙ sym c.number.ensures.value in
     let root = ap (λ (v : TableView). v.root) c.self.view_is ∙ c.requires.root in

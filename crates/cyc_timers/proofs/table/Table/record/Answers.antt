@@ -7,7 +7,7 @@ pub index-requires : goal.index-requires
 index-requires c =
     let (k, r, is, at) = c.requires in
     let t = c.self.invariant.0 in
-    let s = standing c.self.inside.heap.slots c.self.inside.records.items c.self.inside.entries.items k r t
+    let s = standing c.self.inside.heap.slots c.self.inside.records.items c.self.inside.finder.entries k r t
     (subst (λ (v : TableView). IsRow v.rows k r) (sym c.self.view_is) is) in
     let same : s.p.index ≡ c.number-number.result = ap (λ (x : Row). x.index) (sym s.row) ∙ at
     ∙ sym c.number-number.ensures.value in
@@ -17,7 +17,7 @@ index-requires c =
 pub returns : goal.returns
 returns c k r is at =
     let t = c.self.invariant.0 in
-    let s = standing c.self.inside.heap.slots c.self.inside.records.items c.self.inside.entries.items k r t
+    let s = standing c.self.inside.heap.slots c.self.inside.records.items c.self.inside.finder.entries k r t
     (subst (λ (v : TableView). IsRow v.rows k r) (sym c.self.view_is) is) in
     let same : s.p.index ≡ c.number-number.result = ap (λ (x : Row). x.index) (sym s.row) ∙ at
     ∙ sym c.number-number.ensures.value in

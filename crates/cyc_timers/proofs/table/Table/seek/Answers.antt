@@ -1,19 +1,18 @@
-use Rattle.std.proofs.Common.{subst}
-use Rattle.cyc_finder.specs.Sorted.{IsAt, IsGap}
-use Rattle.cyc_finder.specs.Indexes.{id_in}
-use Rattle.cyc_timers.specs.Rows.{TableView, HasNo}
-use Rattle.cyc_timers.proofs.Tables.{row_here, no_row}
+use Rattle.std.proofs.Common.{subst, sym}
+use Rattle.std.specs.Prelude.{IfSome, IfNone}
+use Rattle.cyc_finder.specs.Indexes.{FinderView}
+use Rattle.cyc_timers.specs.Rows.{HasNo, rows_of}
+use Rattle.cyc_timers.proofs.Finding.{IsFound, find_some, find_none}
 use Rattle.cyc_timers.proofs.table.Table.seek.Goals as goal
 
-pub returns-in-Ok-clause-some : goal.returns-in-Ok-clause-some
-returns-in-Ok-clause-some c =
-    let i = c.self.inside in let id = c.args.id in let k = c.in-Ok.position in
-    row_here i.heap.slots i.records.items i.entries.items id k
-    (subst (λ ys. IsAt id_in ys id k) c.deref.ensures.value c.in-Ok.ensures.found)
+pub returns-clause-none : goal.returns-clause-none
+returns-clause-none c = let i = c.self.inside in
+    subst (λ (f : FinderView). IfNone c.seek.result (HasNo c.args.id (rows_of i.heap.slots i.records.items f.entries)))
+    (sym c.seek.ensures.same)
+    (find_none i.heap.slots i.records.items i.finder.entries c.self.invariant.0 c.args.id c.seek.result c.seek.ensures.value)
 
-pub returns-in-Err-clause-none : goal.returns-in-Err-clause-none
-returns-in-Err-clause-none c =
-    let i = c.self.inside in let id = c.args.id in let k = c.in-Err.field-0 in
-    subst (λ (v : TableView). HasNo id v.rows) c.self.view_is
-    (no_row i.heap.slots i.records.items i.entries.items id k
-    (subst (λ ys. IsGap id_in ys id k) c.deref.ensures.value c.in-Err.ensures.absent))
+pub returns-clause-some : goal.returns-clause-some
+returns-clause-some c = let i = c.self.inside in
+    subst (λ (f : FinderView). IfSome c.seek.result (λ index. IsFound (rows_of i.heap.slots i.records.items f.entries) c.args.id index))
+    (sym c.seek.ensures.same)
+    (find_some i.heap.slots i.records.items i.finder.entries c.self.invariant.0 c.args.id c.seek.result c.seek.ensures.value)

@@ -9,7 +9,7 @@ use Rattle.cyc_timers.proofs.table.Table.widen.Goals as goal
 pub invariant_of-self : goal.invariant_of-self
 invariant_of-self c =
     let slots = c.self.inside.heap.slots in let records = c.self.inside.records.items in let entries =
-    c.self.inside.entries.items in
+    c.self.inside.finder.entries in
     let t = c.self.invariant.0 in let caps = c.self.invariant in let long = t.long in
     let room = ap (λ (v : TableView). v.room) c.self.view_is in let enough = c.requires.reserved in
     let n = c.max-length.ensures in let l = c.len.ensures in
@@ -32,7 +32,7 @@ invariant_of-self c =
 pub returns : goal.returns
 returns c =
     let slots = c.self.inside.heap.slots in let records = c.self.inside.records.items in let entries =
-    c.self.inside.entries.items in
+    c.self.inside.finder.entries in
     let t = c.self.invariant.0 in let caps = c.self.invariant in let long = t.long in
     let room = ap (λ (v : TableView). v.room) c.self.view_is in let enough = c.requires.reserved in
     let n = c.max-length.ensures in let l = c.len.ensures in

@@ -1,0 +1,290 @@
+-- What a look-up by id finds of the cyclics that are kept at their indexes, and what a change at one index leaves.
+use Rattle.std.proofs.Common.{◌≡◌, ◌≢◌, ℕ, ◌<◌, eqb, cond, Bool, true, false, List, [], ◌∷◌, length, map, get_or, set, Option}
+use Rattle.std.proofs.Common.{Some, None, IsSome, inl, inr, refl, sym, ap, ◌∙◌, subst, arith, eq-eqb, ne_eqb}
+use Rattle.std.specs.Bool.{then_some}
+use Rattle.std.specs.Option.{option_map}
+use Rattle.std.proofs.lemmas.Bool.{cases_lt, cases_eq}
+use Rattle.std.proofs.lemmas.Bool.Decides.{nat_tests}
+use Rattle.std.proofs.lemmas.List.{get_or_past, get_or_default, get_or-set_same, get_or-set_other}
+use Rattle.cyc_finder.specs.Sorted.{look_up, Rises}
+use Rattle.cyc_finder.specs.Indexes as finder
+use Rattle.cyc_finder.specs.Indexes.{Entry, index_of, index_in}
+use Rattle.cyc_core.specs.declared.admitted.Admitted.{Admitted}
+use Rattle.cyc_core.specs.declared.admitted.Kept.{Kept}
+use Rattle.cyc_core.specs.Tables.{lookup, cyclic_of, cyclics_of}
+use Rattle.cyc_core.specs.Shown.{nothing_kept, kept_id, read_as, table_of, AreKept}
+
+-- what is kept at an index
+abbrev pub there : List Kept → ℕ → Kept
+there kept i = get_or kept i nothing_kept
+
+-- the second list finds this of the id, and of all others what the first does
+abbrev pub FindsElse : List Admitted → List Admitted → ℕ → Option Admitted → Type 0
+FindsElse xs ys id o = (q : ℕ) → lookup q ys ≡ cond (eqb q id) o (lookup q xs)
+
+some_same : {X : Type 0} (x y : X) → Some x ≡ Some y → x ≡ y
+some_same x y e = cc
+
+-- the table's look-up is the finder's, and then what is kept at the index
+pub lookup_is : (kept : List Kept) (es : List Entry) (q : ℕ)
+    → lookup q (table_of kept es) ≡ option_map (λ i. read_as q i (there kept i)) (index_of q es)
+lookup_is kept [] q = refl
+lookup_is kept (x ∷ xs) q = by (eqb x.id q) refl (lookup_is kept xs q)
+  where
+    by : (b : Bool) → eqb x.id q ≡ b
+        → lookup q (table_of kept xs) ≡ option_map (λ i. read_as q i (there kept i)) (index_of q xs)
+        → cond b (Some (read_as x.id x.index (there kept x.index))) (lookup q (table_of kept xs))
+        ≡ option_map (λ i. read_as q i (there kept i)) (option_map index_in (cond b (Some x) (look_up finder.id_in q xs)))
+    by true e rest = let same : x.id ≡ q = grind (arith, nat_tests) in λ z. Some (read_as (same z) x.index (there kept x.index))
+    by false e rest = rest
+
+-- an id that is found is the finder's, and found as it is kept
+found_as : (kept : List Kept) (q : ℕ) (o : Option ℕ) (e : Admitted) → option_map (λ i. read_as q i (there kept i)) o ≡ Some e
+    → (o ≡ Some e.index) × (e ≡ read_as q e.index (there kept e.index))
+found_as kept q None e h = absurd (let no : ⊥ = cc in no)
+found_as kept q (Some i) e h =
+    let is : read_as q i (there kept i) ≡ e = some_same _ _ h in
+    let at : i ≡ e.index = ap (λ (x : Admitted). x.index) is in
+    (ap Some at, sym is ∙ ap (λ j. read_as q j (there kept j)) at)
+
+pub found_entry : (kept : List Kept) (es : List Entry) (q : ℕ) (e : Admitted) → lookup q (table_of kept es) ≡ Some e
+    → (index_of q es ≡ Some e.index) × (e ≡ read_as q e.index (there kept e.index))
+found_entry kept es q e h = found_as kept q (index_of q es) e (sym (lookup_is kept es q) ∙ h)
+
+-- what the finder names is found
+pub named_entry : (kept : List Kept) (es : List Entry) (q i : ℕ) → index_of q es ≡ Some i
+    → lookup q (table_of kept es) ≡ Some (read_as q i (there kept i))
+named_entry kept es q i h = lookup_is kept es q ∙ ap (option_map (λ i. read_as q i (there kept i))) h
+
+no_index : (kept : List Kept) (q : ℕ) (o : Option ℕ)
+    → option_map cyclic_of (option_map (λ i. read_as q i (there kept i)) o) ≡ None → o ≡ None
+no_index kept q None h = refl
+no_index kept q (Some i) h = absurd (let no : ⊥ = cc in no)
+
+-- what is not admitted has no index
+pub absent_index : (kept : List Kept) (es : List Entry) (q : ℕ) → cyclics_of (table_of kept es) q ≡ None → index_of q es ≡ None
+absent_index kept es q h = no_index kept q (index_of q es) (sym (ap (option_map cyclic_of) (lookup_is kept es q)) ∙ h)
+
+-- the index of what is found
+pub index_found : (kept : List Kept) (es : List Entry) (q : ℕ)
+    → index_of q es ≡ option_map (λ (e : Admitted). e.index) (lookup q (table_of kept es))
+index_found kept es q = by (index_of q es) ∙ ap (option_map (λ (e : Admitted). e.index)) (sym (lookup_is kept es q))
+  where
+    by : (o : Option ℕ) → o ≡ option_map (λ (e : Admitted). e.index) (option_map (λ i. read_as q i (there kept i)) o)
+    by None = refl
+    by (Some i) = refl
+
+-- where a cyclic is kept there is a place
+pub kept_low : (kept : List Kept) (i id : ℕ) → kept_id (there kept i) ≡ Some id → i < length kept
+kept_low kept i id h = elim (cases_lt i (length kept)) [
+  | inl low ↦ low
+  | inr past ↦
+      absurd (let no : None ≡ Some id = sym (ap kept_id (get_or_past kept i nothing_kept past)) ∙ h in
+      let wrong : ⊥ = cc in wrong)
+]
+
+-- places in which the same is kept
+module _ (kept more : List Kept) (es : List Entry) (same : (i : ℕ) → there more i ≡ there kept i) where
+  pub same_table : table_of more es ≡ table_of kept es
+  same_table = λ z. map (λ (e : Entry). read_as e.id e.index (same e.index z)) es
+
+  pub same_kept : AreKept kept es → AreKept more es
+  same_kept t = record {
+    ordered = t.ordered;
+    named = λ id i. (λ h. (t.named id i).0 (sym (ap kept_id (same i)) ∙ h), λ h. ap kept_id (same i) ∙ (t.named id i).1 h);
+  }
+
+chosen : (b : Bool) (x y : ℕ) → then_some b x ≡ Some y → (b ≡ true) × (x ≡ y)
+chosen true x y h = (refl, some_same x y h)
+chosen false x y h = absurd (let no : ⊥ = cc in no)
+
+-- another cyclic at one index, or none: the finder names this for the one id where a cyclic is kept there, and else nothing
+module _ (kept : List Kept) (es new : List Entry) (t : AreKept kept es) (id i : ℕ) (b : Bool) (k : Kept)
+    (told : (q : ℕ) → index_of q new ≡ cond (eqb q id) (then_some b i) (index_of q es))
+    (alone : (q : ℕ) → kept_id (there kept i) ≡ Some q → q ≡ id)
+    (only : (j : ℕ) → index_of id es ≡ Some j → j ≡ i)
+    (low : i < length kept) (is : kept_id k ≡ then_some b id) where
+  at_index : there (set kept i k) i ≡ k
+  at_index = get_or-set_same kept i k nothing_kept low
+
+  elsewhere : (j : ℕ) → j ≢ i → there (set kept i k) j ≡ there kept j
+  elsewhere j ne = get_or-set_other kept i j k nothing_kept ne
+
+  told_id : index_of id new ≡ then_some b i
+  told_id = told id ∙ ap (λ c. cond c (then_some b i) (index_of id es)) (eq-eqb id id refl)
+
+  told_other : (q : ℕ) → q ≢ id → index_of q new ≡ index_of q es
+  told_other q ne = told q ∙ ap (λ c. cond c (then_some b i) (index_of q es)) (ne_eqb q id ne)
+
+  pub finds_else : FindsElse (table_of kept es) (table_of (set kept i k) new) id (then_some b (read_as id i k))
+  finds_else q = elim (cases_eq q id) [
+    | inl same ↦ ap (λ j. lookup j (table_of (set kept i k) new)) same ∙ lookup_is (set kept i k) new id
+        ∙ ap (option_map (λ j. read_as id j (there (set kept i k) j))) told_id ∙ here b
+        ∙ sym (ap (λ c. cond c (then_some b (read_as id i k)) (lookup q (table_of kept es))) (eq-eqb q id same))
+    | inr ne ↦ lookup_is (set kept i k) new q ∙ ap (option_map (λ j. read_as q j (there (set kept i k) j))) (told_other q ne)
+        ∙ others q ne (index_of q es) refl ∙ sym (lookup_is kept es q)
+        ∙ sym (ap (λ c. cond c (then_some b (read_as id i k)) (lookup q (table_of kept es))) (ne_eqb q id ne))
+  ]
+    where
+      here : (c : Bool) → option_map (λ j. read_as id j (there (set kept i k) j)) (then_some c i)
+          ≡ then_some c (read_as id i k)
+      here true = ap (λ x. Some (read_as id i x)) at_index
+      here false = refl
+
+      others : (q : ℕ) → q ≢ id → (o : Option ℕ) → index_of q es ≡ o
+          → option_map (λ j. read_as q j (there (set kept i k) j)) o ≡ option_map (λ j. read_as q j (there kept j)) o
+      others q ne None e = refl
+      others q ne (Some j) e =
+          let far : j ≢ i = λ s. ne (alone q ((t.named q i).1 (e ∙ ap Some s))) in
+          ap (λ x. Some (read_as q j x)) (elsewhere j far)
+
+  pub still_kept : Rises finder.id_in new → AreKept (set kept i k) new
+  still_kept ordered = record {
+    ordered = ordered;
+    named = λ q j. elim (cases_eq j i) [
+      | inl same ↦ (
+        λ h.
+            let (any, named) = chosen b id q (sym is ∙ sym (ap kept_id at_index)
+            ∙ ap (λ n. kept_id (there (set kept i k) n)) (sym same) ∙ h) in
+            ap (λ n. index_of n new) (sym named) ∙ told_id ∙ ap (λ c. then_some c i) any ∙ ap Some (sym same),
+        λ h. elim (cases_eq q id) [
+          | inl own ↦
+              let (any, there_is) = chosen b i j (sym told_id ∙ ap (λ n. index_of n new) (sym own) ∙ h) in
+              ap (λ n. kept_id (there (set kept i k) n)) same ∙ ap kept_id at_index ∙ is ∙ ap (λ c. then_some c id) any
+              ∙ ap Some (sym own)
+          | inr ne ↦ absurd (ne (alone q ((t.named q i).1 (sym (told_other q ne) ∙ h ∙ ap Some same))))
+        ],
+      )
+      | inr far ↦ (
+        λ h.
+            let was : index_of q es ≡ Some j = (t.named q j).0 (sym (ap kept_id (elsewhere j far)) ∙ h) in
+            told_other q (λ own. far (only j (ap (λ n. index_of n es) (sym own) ∙ was))) ∙ was,
+        λ h. elim (cases_eq q id) [
+          | inl own ↦
+              absurd (let (any, there_is) = chosen b i j (sym told_id ∙ ap (λ n. index_of n new) (sym own) ∙ h) in
+              far (sym there_is))
+          | inr ne ↦ ap kept_id (elsewhere j far) ∙ (t.named q j).1 (sym (told_other q ne) ∙ h)
+        ],
+      )
+    ];
+  }
+
+some_index : (kept : List Kept) (q : ℕ) (o : Option ℕ)
+    → IsSome (option_map cyclic_of (option_map (λ i. read_as q i (there kept i)) o)) → ¬ (o ≡ None)
+some_index kept q None some none = let wrong : ⊥ = cc in wrong
+some_index kept q (Some i) some none = let wrong : ⊥ = cc in wrong
+
+-- an admitted id has an index
+pub named_index : (kept : List Kept) (es : List Entry) (q : ℕ) → IsSome (cyclics_of (table_of kept es) q)
+    → ¬ (index_of q es ≡ None)
+named_index kept es q some = some_index kept q (index_of q es)
+    (subst (λ (o : Option Admitted). IsSome (option_map cyclic_of o)) (lookup_is kept es q) some)
+
+-- an index has one id, and an id one index
+pub one_id : (kept : List Kept) (es : List Entry) → AreKept kept es → (id i : ℕ) → index_of id es ≡ Some i → (q : ℕ)
+    → kept_id (there kept i) ≡ Some q → q ≡ id
+one_id kept es t id i e q h = some_same q id (sym h ∙ (t.named id i).1 e)
+
+pub one_index : (es : List Entry) (id i : ℕ) → index_of id es ≡ Some i → (j : ℕ) → index_of id es ≡ Some j → j ≡ i
+one_index es id i e j h = some_same j i (sym h ∙ e)
+
+-- a cyclic that is admitted at a free index
+module _ (kept more : List Kept) (es new : List Entry) (t : AreKept kept es) (same : (i : ℕ) → there more i ≡ there kept i)
+    (id index place : ℕ) (at : place ≡ index) (k : Kept) (absent : index_of id es ≡ None)
+    (free : kept_id (there kept index) ≡ None)
+    (told : (q : ℕ) → index_of q new ≡ cond (eqb q id) (Some index) (index_of q es))
+    (low : place < length more) (is : kept_id k ≡ Some id) where
+  told_place : (q : ℕ) → index_of q new ≡ cond (eqb q id) (Some place) (index_of q es)
+  told_place q = told q ∙ ap (λ n. cond (eqb q id) (Some n) (index_of q es)) (sym at)
+
+  none_there : (q : ℕ) → kept_id (there more place) ≡ Some q → q ≡ id
+  none_there q h =
+      let no : None ≡ Some q = sym free ∙ ap (λ n. kept_id (there kept n)) (sym at) ∙ sym (ap kept_id (same place)) ∙ h in
+      absurd (let wrong : ⊥ = cc in wrong)
+
+  none_named : (j : ℕ) → index_of id es ≡ Some j → j ≡ place
+  none_named j h = let no : None ≡ Some j = sym absent ∙ h in absurd (let wrong : ⊥ = cc in wrong)
+
+  pub finds_admitted : FindsElse (table_of kept es) (table_of (set more place k) new) id (Some (read_as id index k))
+  finds_admitted q =
+      finds_else more es new (same_kept kept more es same t) id place true k told_place none_there none_named low is q
+      ∙ (λ z. cond (eqb q id) (Some (read_as id (at z) k)) (lookup q (same_table kept more es same z)))
+
+  pub admitted_kept : Rises finder.id_in new → AreKept (set more place k) new
+  admitted_kept ordered =
+      still_kept more es new (same_kept kept more es same t) id place true k told_place none_there none_named low is ordered
+
+-- a cyclic that leaves its index
+module _ (kept : List Kept) (es new : List Entry) (t : AreKept kept es) (id index place : ℕ) (at : place ≡ index) (k : Kept)
+    (named : index_of id es ≡ Some index)
+    (told : (q : ℕ) → index_of q new ≡ cond (eqb q id) None (index_of q es)) (is : kept_id k ≡ None) where
+  named_place : index_of id es ≡ Some place
+  named_place = named ∙ ap Some (sym at)
+
+  pub left_low : place < length kept
+  left_low = kept_low kept place id ((t.named id place).1 named_place)
+
+  pub finds_left : FindsElse (table_of kept es) (table_of (set kept place k) new) id None
+  finds_left = finds_else kept es new t id place false k told (one_id kept es t id place named_place)
+      (one_index es id place named_place) left_low is
+
+  pub left_kept : Rises finder.id_in new → AreKept (set kept place k) new
+  left_kept = still_kept kept es new t id place false k told (one_id kept es t id place named_place)
+      (one_index es id place named_place) left_low is
+
+-- what was found is read at its index
+module _ (kept : List Kept) (es : List Entry) (t : AreKept kept es) (id index place : ℕ) (at : place ≡ index)
+    (found : Some index ≡ option_map (λ (e : Admitted). e.index) (lookup id (table_of kept es))) where
+  found_named : index_of id es ≡ Some index
+  found_named = index_found kept es id ∙ sym found
+
+  pub found_low : place < length kept
+  found_low = kept_low kept place id ((t.named id place).1 (found_named ∙ ap Some (sym at)))
+
+  pub found_read : (k : Kept) (e : Admitted) → k ≡ get_or kept place k → e ≡ read_as id index k
+      → lookup id (table_of kept es) ≡ Some e
+  found_read k e read is = named_entry kept es id index found_named
+      ∙ ap (λ x. Some (read_as id index x)) (ap (there kept) (sym at)
+      ∙ sym (read ∙ get_or_default kept place k nothing_kept found_low)) ∙ ap Some (sym is)
+
+-- the counts of one cyclic, that is read and written at its place
+module _ (kept : List Kept) (es : List Entry) (t : AreKept kept es) (e : Admitted) (place : ℕ) (at : place ≡ e.index)
+    (found : lookup e.id (table_of kept es) ≡ Some e) where
+  entry_index : index_of e.id es ≡ Some place
+  entry_index = (found_entry kept es e.id e found).0 ∙ ap Some (sym at)
+
+  kept_here : kept_id (there kept place) ≡ Some e.id
+  kept_here = (t.named e.id place).1 entry_index
+
+  pub place_low : place < length kept
+  place_low = kept_low kept place e.id kept_here
+
+  module _ (k : Kept) (read : k ≡ get_or kept place k) where
+    read_there : k ≡ there kept place
+    read_there = read ∙ get_or_default kept place k nothing_kept place_low
+
+    -- the entry has the counts that are read
+    pub counts_read : e ≡ read_as e.id e.index k
+    counts_read = (found_entry kept es e.id e found).1
+        ∙ ap (read_as e.id e.index) (sym (read_there ∙ ap (there kept) at))
+
+    module _ (new : Kept) (same_id : new.id ≡ k.id) (same_here : new.here ≡ k.here) where
+      new_id : kept_id new ≡ Some e.id
+      new_id = (λ z. then_some (same_here z) (same_id z)) ∙ ap kept_id read_there ∙ kept_here
+
+      told_same : (q : ℕ) → index_of q es ≡ cond (eqb q e.id) (Some place) (index_of q es)
+      told_same q = elim (cases_eq q e.id) [
+        | inl same ↦ ap (λ n. index_of n es) same ∙ entry_index
+            ∙ sym (ap (λ c. cond c (Some place) (index_of q es)) (eq-eqb q e.id same))
+        | inr ne ↦ sym (ap (λ c. cond c (Some place) (index_of q es)) (ne_eqb q e.id ne))
+      ]
+
+      pub counted : FindsElse (table_of kept es) (table_of (set kept place new) es) e.id (Some (read_as e.id e.index new))
+      counted = λ q. finds_else kept es es t e.id place true new told_same
+          (one_id kept es t e.id place entry_index) (one_index es e.id place entry_index) place_low new_id q
+          ∙ ap (λ n. cond (eqb q e.id) (Some (read_as e.id n new)) (lookup q (table_of kept es))) at
+
+      pub counted_kept : AreKept (set kept place new) es
+      counted_kept = still_kept kept es es t e.id place true new told_same
+          (one_id kept es t e.id place entry_index) (one_index es e.id place entry_index) place_low new_id
+          t.ordered
