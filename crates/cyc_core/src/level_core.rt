@@ -1,6 +1,6 @@
 //! One soft level as a plain object, and the laws that hold of it at any time.
 
-ghost use Rattle.std.specs.Prelude.{◌≡◌, ℕ, ◌<◌, ◌≤◌, IfOk, IfErr, IsSome, Some, []};
+ghost use Rattle.std.specs.Prelude.{◌≡◌, ℕ, ◌<◌, ◌≤◌, IfOk, IfErr, IfSome, IsSome, Some, []};
 ghost use Rattle.std.specs.Option.{option_map};
 ghost use Rattle.cyc_types.specs.Limits.{cyclics};
 ghost use Rattle.cyc_level.specs.Level.{empty_level};
@@ -122,17 +122,40 @@ impl LevelCore {
         let _ceiling = &self.ceiling;
     }
 
-    /// The index of the id, where it is admitted. O(1) where its hint is right, as it is until another id of its low bits is admitted,
-    /// else as `Finder::find`.
+    /// The index at which the id was admitted, where its hint is right, as it is until another id of its low bits is admitted. O(1).
     #[inline(always)]
-    pub(crate) fn search(&self, id: CyclicId) -> Option<Index>
-        ensures { result ≡ option_map (λ entry. entry.index) (lookup id self.now.table) }
+    pub(crate) fn hinted(&self, id: CyclicId) -> Option<Index>
+        ensures { IfSome result (λ index. option_map (λ entry. entry.index) (lookup id self.now.table) ≡ Some index) }
     {
         let hint = self.hints[hint_of(id)];
         if is_kept_at(&self.kept, hint, id) {
             return Some(hint);
         }
-        find_apart(&self.ids, id)
+        None
+    }
+
+    /// The index of the id, where it is admitted. O(1) where its hint is right, else as `Finder::find`.
+    #[inline(always)]
+    pub(crate) fn search(&self, id: CyclicId) -> Option<Index>
+        ensures { result ≡ option_map (λ entry. entry.index) (lookup id self.now.table) }
+    {
+        match self.hinted(id) {
+            Some(index) => Some(index),
+            None => find_apart(&self.ids, id),
+        }
+    }
+
+    /// The entry of an admitted id, which has this index.
+    #[inline(always)]
+    pub(crate) fn entry_at(&self, id: CyclicId, index: Index) -> Admitted
+        requires { option_map (λ entry. entry.index) (lookup id self.now.table) ≡ Some index }
+        ensures here { lookup id self.now.table ≡ Some result }
+        ensures cyclic { (level_of self.now).cyclics id ≡ Some (cyclic_of result) }
+        ensures id { result.id ≡ id }
+        ensures lawful { Lawful (level_of self.now) }
+        ensures some_ceiling { 0 < self.now.ceiling }
+    {
+        self.kept[index.number() as usize].read(id, index)
     }
 
     /// The entry of the id, where it is admitted.
@@ -140,8 +163,10 @@ impl LevelCore {
         ensures cyclic { option_map cyclic_of result ≡ (level_of self.now).cyclics id }
         ensures lawful { Lawful (level_of self.now) }
     {
+        // Costs nothing: it tells that the level is lawful.
+        self.conservation();
         match self.search(id) {
-            Some(index) => Some(self.kept[index.number() as usize].read(id, index)),
+            Some(index) => Some(self.entry_at(id, index)),
             None => None,
         }
     }
@@ -159,6 +184,6 @@ impl LevelCore {
         let Some(index) = self.search(id) else {
             unreachable!()
         };
-        self.kept[index.number() as usize].read(id, index)
+        self.entry_at(id, index)
     }
 }

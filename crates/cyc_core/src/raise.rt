@@ -1,6 +1,9 @@
 //! The firing side of a plain level, as events of the level.
 
-ghost use Rattle.cyc_core.specs.Tables.{level_of};
+ghost use Rattle.std.specs.Prelude.{◌≡◌, Some};
+ghost use Rattle.std.specs.Option.{option_map};
+ghost use Rattle.cyc_types.specs.Firing.{Learns, MayRaise, Raises, Sound};
+ghost use Rattle.cyc_core.specs.Tables.{level_of, lookup};
 ghost use Rattle.cyc_core.specs.FiringSide.{firing_view, Fires};
 
 use crate::level_core::LevelCore;
@@ -30,22 +33,12 @@ impl Raise for LevelCore {
         entry.count
     }
 
-    // A call: its registers are then not those of a fire's loop.
-    #[inline(never)]
+    #[inline(always)]
     fn raise(&mut self, id: CyclicId) -> Raised {
-        let entry = self.entry_of(id);
-        let count = entry.count;
-        if count == self.ceiling {
-            self.lose(entry);
-            return Raised::Lost;
+        match self.hinted(id) {
+            Some(index) => self.raise_at(id, index),
+            None => self.raise_apart(id),
         }
-        if count > 0 {
-            self.expire(entry);
-            return Raised::More;
-        }
-        self.expire(entry);
-        self.publish();
-        Raised::First
     }
 
     fn mark(&mut self, id: CyclicId) -> u32 {
@@ -82,5 +75,44 @@ impl Raise for LevelCore {
             sent: entry.sent,
             lost: entry.lost,
         }
+    }
+}
+
+impl LevelCore {
+    /// `raise` of an id that has this index.
+    #[inline(always)]
+    fn raise_at(&mut self, id: CyclicId, index: Index) -> Raised
+        requires named { option_map (λ entry. entry.index) (lookup id self.old.table) ≡ Some index }
+        requires may { MayRaise id (firing_view (level_of self.old)) }
+        ensures step { Fires (level_of self.old) (Raises id result) (level_of self.new) }
+        ensures learns { Learns (firing_view (level_of self.old)) (Raises id result) (firing_view (level_of self.new)) }
+        ensures sound { Sound (firing_view (level_of self.new)) }
+    {
+        let entry = self.entry_at(id, index);
+        let count = entry.count;
+        if count == self.ceiling {
+            self.lose(entry);
+            return Raised::Lost;
+        }
+        if count > 0 {
+            self.expire(entry);
+            return Raised::More;
+        }
+        self.expire(entry);
+        self.publish();
+        Raised::First
+    }
+
+    /// `raise` of an id whose hint is wrong. By a call, so that where it is right the look-up costs no registers.
+    #[cold]
+    #[inline(never)]
+    fn raise_apart(&mut self, id: CyclicId) -> Raised
+        requires { MayRaise id (firing_view (level_of self.old)) }
+        ensures step { Fires (level_of self.old) (Raises id result) (level_of self.new) }
+        ensures learns { Learns (firing_view (level_of self.old)) (Raises id result) (firing_view (level_of self.new)) }
+        ensures sound { Sound (firing_view (level_of self.new)) }
+    {
+        let entry = self.entry_of(id);
+        self.raise_at(id, entry.index)
     }
 }

@@ -1,6 +1,6 @@
 //! The games of the tournament: which entry wins one, and how they are played.
 
-ghost use Rattle.std.specs.Prelude.{◌≡◌, ◌≢◌, ℕ, ◌+◌, ◌*◌, ◌/◌, ◌<◌, ◌≤◌, length, vec_capacity};
+ghost use Rattle.std.specs.Prelude.{◌≡◌, ◌≢◌, ℕ, ◌+◌, ◌*◌, ◌/◌, ◌<◌, ◌≤◌, length, vec_capacity, IfSome, IfNone};
 ghost use Rattle.cyc_types.specs.Limits.{cyclics};
 ghost use Rattle.cyc_heap.specs.Tournament.{entry_at, IsWinner, IsPlayed, IsPlayedBut};
 
@@ -36,40 +36,42 @@ fn play(entries: &mut [Entry], leaves: usize, position: usize) -> usize
     won
 }
 
-/// Plays the next games from this position on, at most four. The answer is where the last of their winners stands.
+/// Plays the next games from this position on, at most four. The answer is where the last of their winners stands, which has games to
+/// come or has won all. None where it has won all earlier.
 #[inline(always)]
-fn play_four(entries: &mut [Entry], leaves: usize, position: usize) -> usize
+fn play_four(entries: &mut [Entry], leaves: usize, position: usize) -> Option<usize>
     requires few { leaves ≤ cyclics }
     requires long { length entries.old + 1 ≡ 2 * leaves }
     requires position { position + 1 < 2 * leaves }
     requires played { IsPlayedBut (position / 2) leaves entries.old }
-    ensures position { result + 1 < 2 * leaves }
-    ensures nearer { (most : ℕ) → 2 * leaves ≤ position + 32 * most → 2 * leaves ≤ result + 2 * most }
+    ensures position { IfSome result (λ p. p + 1 < 2 * leaves) }
+    ensures nearer { IfSome result (λ p. (most : ℕ) → 2 * leaves ≤ position + 32 * most → 2 * leaves ≤ p + 2 * most) }
     ensures long { length entries.new ≡ length entries.old }
     ensures kept { (i : ℕ) → i < leaves → entry_at entries.new i ≡ entry_at entries.old i }
-    ensures played { IsPlayedBut (result / 2) leaves entries.new }
+    ensures won { IfNone result (IsPlayed leaves entries.new) }
+    ensures played { IfSome result (λ p. IsPlayedBut (p / 2) leaves entries.new) }
 {
     let last = 2 * leaves - 2;
     if position == last {
-        return position;
+        return None;
     }
     let position = play(entries, leaves, position);
     if position == last {
-        return position;
+        return None;
     }
     let position = play(entries, leaves, position);
     if position == last {
-        return position;
+        return None;
     }
     let position = play(entries, leaves, position);
     if position == last {
-        return position;
+        return None;
     }
-    play(entries, leaves, position)
+    Some(play(entries, leaves, position))
 }
 
 /// Puts an entry into the leaf of an index, and plays the games above it again: at most twelve. There is no loop, so that each winner
-/// is chosen with no branch.
+/// is chosen with no branch, and none is read that was just written.
 #[inline(never)]
 fn replay(entries: &mut [Entry], leaves: usize, index: usize, entry: Entry)
     requires few { leaves ≤ cyclics }
@@ -82,8 +84,12 @@ fn replay(entries: &mut [Entry], leaves: usize, index: usize, entry: Entry)
     ensures played { IsPlayed leaves entries.new }
 {
     entries[index] = entry;
-    let position = play_four(entries, leaves, index);
-    let position = play_four(entries, leaves, position);
+    let Some(position) = play_four(entries, leaves, index) else {
+        return;
+    };
+    let Some(position) = play_four(entries, leaves, position) else {
+        return;
+    };
     play_four(entries, leaves, position);
 }
 

@@ -1,14 +1,7 @@
-use Rattle.std.proofs.Common.{◌∙◌, sym}
+use Rattle.std.proofs.Common.{◌∙◌}
 use Rattle.cyc_core.proofs.Keeping.{index_found}
 use Rattle.cyc_core.proofs.level_core.LevelCore.search.Goals as goal
 
-pub returns-then-is_kept_at : goal.returns-then-is_kept_at
-returns-then-is_kept_at c =
-    let a = c.self.inside in
-    let told = rw c.deref-2.ensures.value at c.is_kept_at.ensures in
-    let named = (c.self.invariant.cyclics_kept.named c.args.id _).0 (told.0 c.if-is_kept_at.true) in
-    rw (← c.self.view_is) (sym named ∙ index_found a.kept.items a.ids.entries c.args.id)
-
-pub returns : goal.returns
-returns c = let a = c.self.inside in
+pub returns-in-None : goal.returns-in-None
+returns-in-None c = let a = c.self.inside in
     rw (← c.self.view_is) (c.find_apart.ensures ∙ index_found a.kept.items a.ids.entries c.args.id)

@@ -1,18 +1,18 @@
-use Rattle.std.proofs.Common.{ap, arith}
+use Rattle.std.proofs.Common.{ap, arith, sym}
 use Rattle.std.specs.Option.{option_map}
 use Rattle.cyc_core.specs.Tables.{cyclic_of, level_of}
 use Rattle.cyc_core.specs.Shown.{shown}
 use Rattle.cyc_core.proofs.Keeping.{found_low, found_read}
 use Rattle.cyc_core.proofs.Changes.{reached_lawful}
-use Rattle.cyc_core.proofs.level_core.LevelCore.entry_of.Goals as goal
+use Rattle.cyc_core.proofs.level_core.LevelCore.entry_at.Goals as goal
 
 pub index-requires : goal.index-requires
 index-requires c =
     let a = c.self.inside in
     let kept = a.kept.items in
     let entries = a.ids.entries in
-    let found = rw (← c.self.view_is) at c.in-Some.ensures in
-    let low = found_low kept entries c.self.invariant.cyclics_kept c.args.id c.in-Some.index c.number.result
+    let found = sym (rw (← c.self.view_is) at c.requires) in
+    let low = found_low kept entries c.self.invariant.cyclics_kept c.args.id c.args.index c.number.result
     c.number.ensures.value found in
     omega (arith, low)
 
@@ -21,8 +21,8 @@ returns-clause-here c =
     let a = c.self.inside in
     let kept = a.kept.items in
     let entries = a.ids.entries in
-    let found = rw (← c.self.view_is) at c.in-Some.ensures in
-    rw (← c.self.view_is) (found_read kept entries c.self.invariant.cyclics_kept c.args.id c.in-Some.index
+    let found = sym (rw (← c.self.view_is) at c.requires) in
+    rw (← c.self.view_is) (found_read kept entries c.self.invariant.cyclics_kept c.args.id c.args.index
     c.number.result c.number.ensures.value found c.index.result.now _ c.index.ensures c.read.ensures)
 
 pub returns-clause-cyclic : goal.returns-clause-cyclic
@@ -30,9 +30,9 @@ returns-clause-cyclic c =
     let a = c.self.inside in
     let kept = a.kept.items in
     let entries = a.ids.entries in
-    let found = rw (← c.self.view_is) at c.in-Some.ensures in
+    let found = sym (rw (← c.self.view_is) at c.requires) in
     rw (← c.self.view_is) (ap (option_map cyclic_of) (found_read kept entries c.self.invariant.cyclics_kept c.args.id
-    c.in-Some.index c.number.result c.number.ensures.value found c.index.result.now _ c.index.ensures c.read.ensures))
+    c.args.index c.number.result c.number.ensures.value found c.index.result.now _ c.index.ensures c.read.ensures))
 
 pub returns-clause-lawful : goal.returns-clause-lawful
 returns-clause-lawful c = rw (← c.self.view_is) (reached_lawful (level_of (shown c.self.inside)) c.self.invariant.reached)

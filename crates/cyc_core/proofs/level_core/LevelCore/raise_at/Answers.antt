@@ -9,37 +9,37 @@ use Rattle.cyc_core.specs.FiringSide.{firing_view}
 use Rattle.cyc_level.proofs.Keeps.{keeps_law}
 use Rattle.cyc_core.proofs.FiringLaws.{learns_lost, learns_more, learns_first, can_lose, can_expire, can_publish, hand_still}
 use Rattle.cyc_core.proofs.FiringLaws.{sound_after}
-use Rattle.cyc_core.proofs.raise.LevelCoreRaise.raise.Goals as goal
+use Rattle.cyc_core.proofs.level_core.LevelCore.raise_at.Goals as goal
 
 pub lose-requires-clause-enabled : goal.lose-requires-clause-enabled
 lose-requires-clause-enabled c =
     let l = level_of c.args.self.now in
-    let entry = c.entry_of-entry.result in
-    let facts = c.entry_of-entry.ensures in
+    let entry = c.entry_at-entry.result in
+    let facts = c.entry_at-entry.ensures in
     let ceil : c.self.inside.ceiling ≡ l.ceiling = ap (λ (t : Tables). t.ceiling) c.self.view_is in
     let full : entry.count ≡ l.ceiling = c.if-count-self.true ∙ ceil in
-    let may = can_lose l c.args.id (cyclic_of entry) facts.cyclic c.requires full in
+    let may = can_lose l c.args.id (cyclic_of entry) facts.cyclic c.requires.may full in
     subst (λ i. Enabled (Lose i) l) (sym facts.id) may
 
 pub returns-then-count-self-clause-step : goal.returns-then-count-self-clause-step
 returns-then-count-self-clause-step c =
     let l = level_of c.args.self.now in
-    let entry = c.entry_of-entry.result in
-    let facts = c.entry_of-entry.ensures in
+    let entry = c.entry_at-entry.result in
+    let facts = c.entry_at-entry.ensures in
     let ceil : c.self.inside.ceiling ≡ l.ceiling = ap (λ (t : Tables). t.ceiling) c.self.view_is in
     let full : entry.count ≡ l.ceiling = c.if-count-self.true ∙ ceil in
-    let may = can_lose l c.args.id (cyclic_of entry) facts.cyclic c.requires full in
+    let may = can_lose l c.args.id (cyclic_of entry) facts.cyclic c.requires.may full in
     let left : level_of c.lose.new.self ≡ after (Lose c.args.id) l = c.lose.ensures ∙ ap (λ i. after (Lose i) l) facts.id in
     ((level_of c.lose.new.self, (may, left), refl), ap (λ (x : SoftLevel). x.firer_hand) left ∙ may.0)
 
 pub returns-then-count-self-clause-learns : goal.returns-then-count-self-clause-learns
 returns-then-count-self-clause-learns c =
     let l = level_of c.args.self.now in
-    let entry = c.entry_of-entry.result in
-    let facts = c.entry_of-entry.ensures in
+    let entry = c.entry_at-entry.result in
+    let facts = c.entry_at-entry.ensures in
     let ceil : c.self.inside.ceiling ≡ l.ceiling = ap (λ (t : Tables). t.ceiling) c.self.view_is in
     let full : entry.count ≡ l.ceiling = c.if-count-self.true ∙ ceil in
-    let may = can_lose l c.args.id (cyclic_of entry) facts.cyclic c.requires full in
+    let may = can_lose l c.args.id (cyclic_of entry) facts.cyclic c.requires.may full in
     let left : level_of c.lose.new.self ≡ after (Lose c.args.id) l = c.lose.ensures ∙ ap (λ i. after (Lose i) l) facts.id in
     subst (λ (m : SoftLevel). Learns (firing_view l) (Raises c.args.id Lost) (firing_view m)) (sym left)
     (learns_lost l c.args.id (cyclic_of entry) facts.cyclic full)
@@ -47,11 +47,11 @@ returns-then-count-self-clause-learns c =
 pub returns-then-count-self-clause-sound : goal.returns-then-count-self-clause-sound
 returns-then-count-self-clause-sound c =
     let l = level_of c.args.self.now in
-    let entry = c.entry_of-entry.result in
-    let facts = c.entry_of-entry.ensures in
+    let entry = c.entry_at-entry.result in
+    let facts = c.entry_at-entry.ensures in
     let ceil : c.self.inside.ceiling ≡ l.ceiling = ap (λ (t : Tables). t.ceiling) c.self.view_is in
     let full : entry.count ≡ l.ceiling = c.if-count-self.true ∙ ceil in
-    let may = can_lose l c.args.id (cyclic_of entry) facts.cyclic c.requires full in
+    let may = can_lose l c.args.id (cyclic_of entry) facts.cyclic c.requires.may full in
     let left : level_of c.lose.new.self ≡ after (Lose c.args.id) l = c.lose.ensures ∙ ap (λ i. after (Lose i) l) facts.id in
     subst (λ (m : SoftLevel). Sound (firing_view m)) (sym left)
     (sound_after l (Lose c.args.id) facts.lawful facts.some_ceiling may)
@@ -59,23 +59,23 @@ returns-then-count-self-clause-sound c =
 pub expire-requires-clause-enabled : goal.expire-requires-clause-enabled
 expire-requires-clause-enabled c =
     let l = level_of c.args.self.now in
-    let entry = c.entry_of-entry.result in
-    let facts = c.entry_of-entry.ensures in
+    let entry = c.entry_at-entry.result in
+    let facts = c.entry_at-entry.ensures in
     let ceil : c.self.inside.ceiling ≡ l.ceiling = ap (λ (t : Tables). t.ceiling) c.self.view_is in
     let below : entry.count < l.ceiling = (let most = facts.lawful.below_ceiling c.args.id (cyclic_of entry) facts.cyclic in
     let apart = c.if-count-self.false in omega (arith, most, apart, ceil)) in
-    let may = can_expire l c.args.id (cyclic_of entry) facts.cyclic c.requires below in
+    let may = can_expire l c.args.id (cyclic_of entry) facts.cyclic c.requires.may below in
     subst (λ i. Enabled (Expire i) l) (sym facts.id) may
 
 pub returns-then-count-gt0-clause-step : goal.returns-then-count-gt0-clause-step
 returns-then-count-gt0-clause-step c =
     let l = level_of c.args.self.now in
-    let entry = c.entry_of-entry.result in
-    let facts = c.entry_of-entry.ensures in
+    let entry = c.entry_at-entry.result in
+    let facts = c.entry_at-entry.ensures in
     let ceil : c.self.inside.ceiling ≡ l.ceiling = ap (λ (t : Tables). t.ceiling) c.self.view_is in
     let below : entry.count < l.ceiling = (let most = facts.lawful.below_ceiling c.args.id (cyclic_of entry) facts.cyclic in
     let apart = c.if-count-self.false in omega (arith, most, apart, ceil)) in
-    let may = can_expire l c.args.id (cyclic_of entry) facts.cyclic c.requires below in
+    let may = can_expire l c.args.id (cyclic_of entry) facts.cyclic c.requires.may below in
     let raised : level_of c.expire.new.self ≡ after (Expire c.args.id) l = c.expire.ensures
     ∙ ap (λ i. after (Expire i) l) facts.id in (
       (level_of c.expire.new.self, (may, raised), refl),
@@ -86,12 +86,12 @@ returns-then-count-gt0-clause-step c =
 pub returns-then-count-gt0-clause-learns : goal.returns-then-count-gt0-clause-learns
 returns-then-count-gt0-clause-learns c =
     let l = level_of c.args.self.now in
-    let entry = c.entry_of-entry.result in
-    let facts = c.entry_of-entry.ensures in
+    let entry = c.entry_at-entry.result in
+    let facts = c.entry_at-entry.ensures in
     let ceil : c.self.inside.ceiling ≡ l.ceiling = ap (λ (t : Tables). t.ceiling) c.self.view_is in
     let below : entry.count < l.ceiling = (let most = facts.lawful.below_ceiling c.args.id (cyclic_of entry) facts.cyclic in
     let apart = c.if-count-self.false in omega (arith, most, apart, ceil)) in
-    let may = can_expire l c.args.id (cyclic_of entry) facts.cyclic c.requires below in
+    let may = can_expire l c.args.id (cyclic_of entry) facts.cyclic c.requires.may below in
     let raised : level_of c.expire.new.self ≡ after (Expire c.args.id) l = c.expire.ensures
     ∙ ap (λ i. after (Expire i) l) facts.id in
     subst (λ (m : SoftLevel). Learns (firing_view l) (Raises c.args.id More) (firing_view m)) (sym raised)
@@ -100,12 +100,12 @@ returns-then-count-gt0-clause-learns c =
 pub returns-then-count-gt0-clause-sound : goal.returns-then-count-gt0-clause-sound
 returns-then-count-gt0-clause-sound c =
     let l = level_of c.args.self.now in
-    let entry = c.entry_of-entry.result in
-    let facts = c.entry_of-entry.ensures in
+    let entry = c.entry_at-entry.result in
+    let facts = c.entry_at-entry.ensures in
     let ceil : c.self.inside.ceiling ≡ l.ceiling = ap (λ (t : Tables). t.ceiling) c.self.view_is in
     let below : entry.count < l.ceiling = (let most = facts.lawful.below_ceiling c.args.id (cyclic_of entry) facts.cyclic in
     let apart = c.if-count-self.false in omega (arith, most, apart, ceil)) in
-    let may = can_expire l c.args.id (cyclic_of entry) facts.cyclic c.requires below in
+    let may = can_expire l c.args.id (cyclic_of entry) facts.cyclic c.requires.may below in
     let raised : level_of c.expire.new.self ≡ after (Expire c.args.id) l = c.expire.ensures
     ∙ ap (λ i. after (Expire i) l) facts.id in
     subst (λ (m : SoftLevel). Sound (firing_view m)) (sym raised)
@@ -114,12 +114,12 @@ returns-then-count-gt0-clause-sound c =
 pub publish-requires : goal.publish-requires
 publish-requires c =
     let l = level_of c.args.self.now in
-    let entry = c.entry_of-entry.result in
-    let facts = c.entry_of-entry.ensures in
+    let entry = c.entry_at-entry.result in
+    let facts = c.entry_at-entry.ensures in
     let ceil : c.self.inside.ceiling ≡ l.ceiling = ap (λ (t : Tables). t.ceiling) c.self.view_is in
     let below : entry.count < l.ceiling = (let most = facts.lawful.below_ceiling c.args.id (cyclic_of entry) facts.cyclic in
     let apart = c.if-count-self.false in omega (arith, most, apart, ceil)) in
-    let may = can_expire l c.args.id (cyclic_of entry) facts.cyclic c.requires below in
+    let may = can_expire l c.args.id (cyclic_of entry) facts.cyclic c.requires.may below in
     let raised : level_of c.expire-2.new.self ≡ after (Expire c.args.id) l = c.expire-2.ensures
     ∙ ap (λ i. after (Expire i) l) facts.id in
     let none : entry.count ≡ 0 = omega (arith, c.if-count-gt0.false) in
@@ -129,12 +129,12 @@ publish-requires c =
 pub returns-clause-step : goal.returns-clause-step
 returns-clause-step c =
     let l = level_of c.args.self.now in
-    let entry = c.entry_of-entry.result in
-    let facts = c.entry_of-entry.ensures in
+    let entry = c.entry_at-entry.result in
+    let facts = c.entry_at-entry.ensures in
     let ceil : c.self.inside.ceiling ≡ l.ceiling = ap (λ (t : Tables). t.ceiling) c.self.view_is in
     let below : entry.count < l.ceiling = (let most = facts.lawful.below_ceiling c.args.id (cyclic_of entry) facts.cyclic in
     let apart = c.if-count-self.false in omega (arith, most, apart, ceil)) in
-    let may = can_expire l c.args.id (cyclic_of entry) facts.cyclic c.requires below in
+    let may = can_expire l c.args.id (cyclic_of entry) facts.cyclic c.requires.may below in
     let raised : level_of c.expire-2.new.self ≡ after (Expire c.args.id) l = c.expire-2.ensures
     ∙ ap (λ i. after (Expire i) l) facts.id in
     let none : entry.count ≡ 0 = omega (arith, c.if-count-gt0.false) in
@@ -148,12 +148,12 @@ returns-clause-step c =
 pub returns-clause-learns : goal.returns-clause-learns
 returns-clause-learns c =
     let l = level_of c.args.self.now in
-    let entry = c.entry_of-entry.result in
-    let facts = c.entry_of-entry.ensures in
+    let entry = c.entry_at-entry.result in
+    let facts = c.entry_at-entry.ensures in
     let ceil : c.self.inside.ceiling ≡ l.ceiling = ap (λ (t : Tables). t.ceiling) c.self.view_is in
     let below : entry.count < l.ceiling = (let most = facts.lawful.below_ceiling c.args.id (cyclic_of entry) facts.cyclic in
     let apart = c.if-count-self.false in omega (arith, most, apart, ceil)) in
-    let may = can_expire l c.args.id (cyclic_of entry) facts.cyclic c.requires below in
+    let may = can_expire l c.args.id (cyclic_of entry) facts.cyclic c.requires.may below in
     let raised : level_of c.expire-2.new.self ≡ after (Expire c.args.id) l = c.expire-2.ensures
     ∙ ap (λ i. after (Expire i) l) facts.id in
     let none : entry.count ≡ 0 = omega (arith, c.if-count-gt0.false) in
@@ -165,12 +165,12 @@ returns-clause-learns c =
 pub returns-clause-sound : goal.returns-clause-sound
 returns-clause-sound c =
     let l = level_of c.args.self.now in
-    let entry = c.entry_of-entry.result in
-    let facts = c.entry_of-entry.ensures in
+    let entry = c.entry_at-entry.result in
+    let facts = c.entry_at-entry.ensures in
     let ceil : c.self.inside.ceiling ≡ l.ceiling = ap (λ (t : Tables). t.ceiling) c.self.view_is in
     let below : entry.count < l.ceiling = (let most = facts.lawful.below_ceiling c.args.id (cyclic_of entry) facts.cyclic in
     let apart = c.if-count-self.false in omega (arith, most, apart, ceil)) in
-    let may = can_expire l c.args.id (cyclic_of entry) facts.cyclic c.requires below in
+    let may = can_expire l c.args.id (cyclic_of entry) facts.cyclic c.requires.may below in
     let raised : level_of c.expire-2.new.self ≡ after (Expire c.args.id) l = c.expire-2.ensures
     ∙ ap (λ i. after (Expire i) l) facts.id in
     let none : entry.count ≡ 0 = omega (arith, c.if-count-gt0.false) in
