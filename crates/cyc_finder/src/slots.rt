@@ -299,10 +299,9 @@ fn move_up(slots: &mut Vec<Slot>, position: usize, gone: usize, slot: Slot)
     slots[position] = slot;
 }
 
-/// As `put`, at any id: where its slot is if that is still there, else between two. Where the lower of these is of a cyclic that is gone it
-/// takes that over, and moves none. Else those above it move up by one, over the next that is gone, and the first `HINTS` of them get their
-/// hints: O(log n) where that is near. Where none of them is gone all of them are moved, O(n), and where they are now no hint says before
-/// they are sought.
+/// As `put`, at any id: where its slot is if that is still there, else between two. Where the lower of these is of a cyclic that is
+/// gone it takes that over, and moves none. Else those above it move up by one, over the next that is gone, all of them where none is,
+/// and the first `HINTS` of them get their hints: O(log n) where one that is gone is near, else O(n).
 #[cold]
 #[inline(never)]
 fn put_between(slots: &mut Vec<Slot>, hints: &mut Hints, id: CyclicId, index: Index) -> usize
@@ -337,7 +336,7 @@ fn put_between(slots: &mut Vec<Slot>, hints: &mut Hints, id: CyclicId, index: In
                 return position;
             }
             let _ = slots.insert(position, slot);
-            hints.set(id, position);
+            hints.set_few(slots, position, slots.len());
             position
         }
     }

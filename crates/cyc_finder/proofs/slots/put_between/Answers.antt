@@ -46,7 +46,7 @@ returns-then-gone-len-clause-entries c = let (k, none, is) = comes_in (over c) (
     (k, none, ap entries_of c.move_up.ensures.items ∙ is)
 
 -- behind all that are here, none of which is gone from there on
-module _ (c : goal.After-set-in-Err) where
+module _ (c : goal.After-set_few-in-Err) where
   behind : Comes c.args.slots.now.items c.args.id c.in-Err.gap c.way_in-position.result c.next_gone-gone.result
   behind = record {
     rises = c.requires.rises;
