@@ -19,9 +19,9 @@ use std::marker::Model;
 
 /// One soft level, with all its memory taken when it is made.
 ///
-/// Each admitted cyclic is kept at its index, and a finder says which index an id has. So one that is admitted or leaves moves no other's
-/// counts: both are `insert` and `remove` of `Finder`, O(log n) on average where ids rise. A raise and a finish find their cyclic by one
-/// look where its hint is right.
+/// Each admitted cyclic is kept at its index, and a finder says which index an id has. So one that is admitted or leaves moves no
+/// other's counts: both are `insert` and `remove` of `Finder`, O(log n) on average where ids rise. A raise and a finish find
+/// their cyclic by one look where its hint is right.
 ///
 /// Contracts see it as its tables, and `level_of` gives the level that they show.
 #[derive(Drop)]
@@ -38,8 +38,8 @@ pub struct LevelCore {
     pub(crate) old_list: VecDeque<CyclicId>,
     pub(crate) new_list: VecDeque<CyclicId>,
     pub(crate) drainer_hand: Option<CyclicId>,
-    // The index at which an id of these low bits was admitted last. Another may have these bits too, and it may have left, so each
-    // look is checked. They stand in memory of their own, so that a level that is moved copies little.
+    // The index at which an id of these low bits was admitted last. Another may have these bits too, and it may have left, so
+    // each look is checked. They stand in memory of their own, so that a level that is moved copies little.
     pub(crate) hints: Box<[Index; HINTS]>,
 }
 
@@ -75,8 +75,8 @@ fn no_ids(alloc: Global) -> Result<Finder, AllocError>
     Ok(ids)
 }
 
-/// As `find` of the finder, where a hint was wrong, which mostly is right. By a call that is lent the finder alone, so that what makes
-/// it keeps neither registers nor the level's other fields for it.
+/// As `find` of the finder, where a hint was wrong, which mostly is right. By a call that is lent the finder alone, so that what
+/// makes it keeps neither registers nor the level's other fields for it.
 #[cold]
 #[inline(never)]
 fn find_apart(ids: &Finder, id: CyclicId) -> Option<Index>
@@ -88,9 +88,9 @@ fn find_apart(ids: &Finder, id: CyclicId) -> Option<Index>
 impl LevelCore {
     /// An empty level with both banks 0 and this ceiling.
     ///
-    /// It takes room for `CYCLICS` admitted cyclics, 40 bytes each, for a finder of as many ids (`Finder::reserve`), for two lists of as
-    /// many, 8 bytes each, and for the hints; no other call takes memory. Of cyclics and lists it writes nothing yet. Refuses Memory
-    /// alone.
+    /// It takes room for `CYCLICS` admitted cyclics, 40 bytes each, for a finder of as many ids (`Finder::reserve`), for two
+    /// lists of as many, 8 bytes each, and for the hints; no other call takes memory. Of cyclics and lists it writes nothing yet.
+    /// Refuses Memory alone.
     pub fn new(alloc: Global, ceiling: Ceiling) -> Result<LevelCore, Refusal>
         ensures ok { IfOk result (λ core. level_of core ≡ empty_level ceiling) }
         ensures err { IfErr result (λ refusal. refusal ≡ Refusal.Memory) }
@@ -122,7 +122,8 @@ impl LevelCore {
         let _ceiling = &self.ceiling;
     }
 
-    /// The index at which the id was admitted, where its hint is right, as it is until another id of its low bits is admitted. O(1).
+    /// The index at which the id was admitted, where its hint is right, as it is until another id of its low bits is admitted.
+    /// O(1).
     #[inline(always)]
     pub(crate) fn hinted(&self, id: CyclicId) -> Option<Index>
         ensures { IfSome result (λ index. option_map (λ entry. entry.index) (lookup id self.now.table) ≡ Some index) }

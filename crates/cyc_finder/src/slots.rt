@@ -1,6 +1,7 @@
 //! The slots of a finder: looking an id up among them, putting one in, and dropping those that are gone.
 
-ghost use Rattle.std.specs.Prelude.{◌≡◌, ◌≢◌, ℕ, ◌+◌, ◌-◌, ◌<◌, ◌≤◌, ◌⊎◌, length, slice_index_or, None, Some, IfSome, IfNone, IfOk, IfErr};
+ghost use Rattle.std.specs.Prelude.{◌≡◌, ◌≢◌, ℕ, ◌+◌, ◌-◌, ◌<◌, ◌≤◌, ◌⊎◌, length, slice_index_or, None, Some};
+ghost use Rattle.std.specs.Prelude.{IfSome, IfNone, IfOk, IfErr};
 ghost use Rattle.std.specs.Prelude.{insert, remove, vec_capacity};
 ghost use Rattle.std.specs.List.{AllWithin, HoldsAt, SameBelow};
 ghost use Rattle.cyc_finder.specs.Sorted.{Rises, IsAt, IsGap, IsPassed, ComesAfter};
@@ -51,8 +52,8 @@ pub(crate) fn quick(slots: &[Slot], base: u64, hints: &Hints, id: CyclicId) -> O
     None
 }
 
-/// Where the slot of this id stands, or where it would stand, where `quick` did not find it: by a look where a far hint says, and then by
-/// halving. O(log n).
+/// Where the slot of this id stands, or where it would stand, where `quick` did not find it: by a look where a far hint says, and
+/// then by halving. O(log n).
 #[inline(always)]
 pub(crate) fn sought(slots: &[Slot], hints: &Hints, id: CyclicId) -> Result<usize, usize>
     requires { Rises slot_id slots.now }
@@ -218,8 +219,8 @@ fn pack_all(slots: &mut Vec<Slot>, hints: &mut Hints, first: First) -> First
     first_from(slots, 0)
 }
 
-/// Where no more slots fit, drops those whose cyclics are gone, and says which is the first that is here. More go than may be here,
-/// so that for each cyclic that came it costs O(1) on average.
+/// Where no more slots fit, drops those whose cyclics are gone, and says which is the first that is here. More go than may be
+/// here, so that for each cyclic that came it costs O(1) on average.
 #[inline(always)]
 pub(crate) fn make_way(slots: &mut Vec<Slot>, hints: &mut Hints, first: &mut First)
     requires rises { Rises slot_id slots.old.items }
@@ -236,7 +237,8 @@ pub(crate) fn make_way(slots: &mut Vec<Slot>, hints: &mut Hints, first: &mut Fir
     }
 }
 
-/// Puts in a cyclic of this id and index, and says where: behind the last where its id is above all others, else by `put_between`.
+/// Puts in a cyclic of this id and index, and says where: behind the last where its id is above all others, else by
+/// `put_between`.
 #[inline(always)]
 pub(crate) fn put(slots: &mut Vec<Slot>, hints: &mut Hints, id: CyclicId, index: Index) -> usize
     requires rises { Rises slot_id slots.old.items }
@@ -288,7 +290,8 @@ fn way_in(slots: &[Slot], gap: usize) -> usize
     gap
 }
 
-/// Puts a slot in at this position: those from there on move up by one, over that of a cyclic that is gone, and those behind that stay.
+/// Puts a slot in at this position: those from there on move up by one, over that of a cyclic that is gone, and those behind that
+/// stay.
 fn move_up(slots: &mut Vec<Slot>, position: usize, gone: usize, slot: Slot)
     requires up { position ≤ gone }
     requires within { gone < length slots.old.items }

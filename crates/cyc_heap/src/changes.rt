@@ -29,7 +29,8 @@ pub(crate) fn lower_first(entries: &mut Vec<Entry>, held: usize, leaves: usize, 
     requires some { 0 < held }
     requires tree { IsTree true held leaves entries.old.items }
     ensures tree { IsTree true held leaves entries.new.items }
-    ensures changed { IsChanged leaves (index_of (entry_at entries.old.items 0)) (record (entry_at entries.old.items 0) { moment = moment })
+    ensures changed { IsChanged leaves (index_of (entry_at entries.old.items 0))
+        (record (entry_at entries.old.items 0) { moment = moment })
         (shown true held entries.old.items) (shown true held entries.new.items) }
     ensures valid { moment ≤ never }
     ensures room { vec_capacity entries.new ≡ vec_capacity entries.old }
@@ -155,7 +156,8 @@ fn take_few(entries: &mut Vec<Entry>, held: usize, leaves: usize, index: Index)
     requires tree { IsTree true held leaves entries.old.items }
     ensures some { 0 < held }
     ensures tree { IsTree true (held - 1) leaves entries.new.items }
-    ensures changed { IsChanged leaves index free_entry (shown true held entries.old.items) (shown true (held - 1) entries.new.items) }
+    ensures changed { IsChanged leaves index free_entry (shown true held entries.old.items)
+        (shown true (held - 1) entries.new.items) }
     ensures room { vec_capacity entries.new ≡ vec_capacity entries.old }
 {
     let place = find(&entries.as_slice()[..held], index).unwrap();
@@ -181,7 +183,8 @@ pub(crate) fn take(
     requires many { is_few ≡ false → held ≡ 0 }
     requires tree { IsTree is_few held leaves entries.old.items }
     ensures tree { IsTree is_few result leaves entries.new.items }
-    ensures changed { IsChanged leaves index free_entry (shown is_few held entries.old.items) (shown is_few result entries.new.items) }
+    ensures changed { IsChanged leaves index free_entry (shown is_few held entries.old.items)
+        (shown is_few result entries.new.items) }
     ensures few { is_few ≡ true → result + 1 ≡ held }
     ensures many { is_few ≡ false → result ≡ 0 }
     ensures room { vec_capacity entries.new ≡ vec_capacity entries.old }

@@ -10,7 +10,8 @@ use cyc_types::Index;
 
 /// The place of the entry of this index, None where there is none (the walk of `cyclic_remove_here` and `cyclic_reprogram_here`).
 ///
-/// It looks at the last one first: one that is armed again and again mostly expires after all others, and then stands behind them.
+/// It looks at the last one first: one that is armed again and again mostly expires after all others, and then stands behind
+/// them.
 pub(crate) fn find(few: &[Entry], index: Index) -> Option<usize>
     ensures none { IfNone result (HasNo index few.now) }
     ensures some { IfSome result (λ p. (p < length few.now) × (index_of (entry_at few.now p) ≡ index)) }

@@ -10,8 +10,8 @@
 //! stands of the text, and what stands of the machine's levels, is said of one and the same run. It gives back the machine that
 //! the run left. `replay` lets that go, and its contract is of the text and the sink alone.
 //!
-//! What holds of every run of a script, and so of that to which `run_script` ties its machine, are laws of `cyc_model`. Their runs
-//! are over any indexes of the cyclics, and so over those that it names:
+//! What holds of every run of a script, and so of that to which `run_script` ties its machine, are laws of `cyc_model`. Their
+//! runs are over any indexes of the cyclics, and so over those that it names:
 //!
 //! - each event is enabled when it happens, and each level lawful and conserved all along: `events_are_enabled`
 //! - of each name the report's expirations are its calls, its losses and its pending calls, and the calls are those of its
