@@ -263,7 +263,7 @@ impl ExpiryHeap {
     {
         if self.is_few {
             return match find(&self.entries.as_slice()[..self.held], index) {
-                Some(place) => self.entries[place],
+                Some(position) => self.entries[position],
                 None => Entry::free(),
             };
         }
