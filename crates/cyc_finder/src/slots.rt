@@ -109,8 +109,9 @@ pub(crate) fn next_here(slots: &[Slot], from: usize) -> usize
     position
 }
 
-/// The first position to which a walk comes that has passed this id, the first of all where it has passed none. O(log n).
-pub(crate) fn after(slots: &[Slot], passed: Option<CyclicId>) -> usize
+/// The first position to which a walk comes that has passed this id, the first of all where it has passed none. O(1) where
+/// `quick` finds the id, else O(log n).
+pub(crate) fn after(slots: &[Slot], base: u64, hints: &Hints, passed: Option<CyclicId>) -> usize
     requires { Rises slot_id slots.now }
     ensures within { result ≤ length slots.now }
     ensures before { AllWithin (λ slot. IsPassed passed slot.id) slots.now 0 result }
@@ -119,6 +120,9 @@ pub(crate) fn after(slots: &[Slot], passed: Option<CyclicId>) -> usize
     let Some(id) = passed else {
         return 0;
     };
+    if let Some(position) = quick(slots, base, hints, id) {
+        return position + 1;
+    }
     match search(slots, id) {
         Ok(position) => position + 1,
         Err(position) => position,
@@ -302,9 +306,9 @@ fn move_up(slots: &mut Vec<Slot>, position: usize, gone: usize, slot: Slot)
     slots[position] = slot;
 }
 
-/// As `put`, at any id: where its slot is if that is still there, else between two. Where the lower of these is of a cyclic that is
-/// gone it takes that over, and moves none. Else those above it move up by one, over the next that is gone, all of them where none is,
-/// and the first `HINTS` of them get their hints: O(log n) where one that is gone is near, else O(n).
+/// As `put`, at any id: where its slot is if that is still there, else between two. Where the lower of these is of a cyclic that
+/// is gone it takes that over, and moves none. Else those above it move up by one, over the next that is gone, all of them where
+/// none is, and the first `HINTS` of them get their hints: O(log n) where one that is gone is near, else O(n).
 #[cold]
 #[inline(never)]
 fn put_between(slots: &mut Vec<Slot>, hints: &mut Hints, id: CyclicId, index: Index) -> usize
