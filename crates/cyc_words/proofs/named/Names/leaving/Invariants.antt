@@ -1,6 +1,6 @@
 use Rattle.std.specs.Prelude.{◌≡◌, ℕ, ◌<◌, false}
-use Rattle.cyc_threads.specs.Names.{named_at, is_leaving}
-use Rattle.cyc_threads.proofs.named.Names.leaving.Given as goal
+use Rattle.cyc_words.specs.Names.{named_at, is_leaving}
+use Rattle.cyc_words.proofs.named.Names.leaving.Given as goal
 
 abbrev pub invariant-loop-name : goal.invariant-loop-name
 invariant-loop-name l = record {

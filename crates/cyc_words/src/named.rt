@@ -1,8 +1,8 @@
 //! What each name of a script has.
 
 ghost use Rattle.std.specs.Prelude.{◌≡◌, ℕ, slice_set, replicate, length, IfOk, IfSome, IfNone, false};
-ghost use Rattle.cyc_threads.specs.declared.named.Named.TheVariants as named;
-ghost use Rattle.cyc_threads.specs.Names.{named_at, is_leaving, NoneLeaves};
+ghost use Rattle.cyc_words.specs.declared.named.Named.TheVariants as named;
+ghost use Rattle.cyc_words.specs.Names.{named_at, is_leaving, NoneLeaves};
 
 use cyc_types::{CyclicId, Receipt};
 use std::alloc::{AllocError, Global};
@@ -31,8 +31,8 @@ pub struct Names {
 
 impl Model for Names {
     ghost use Rattle.std.specs.Prelude.{◌≡◌, ◌<◌, ℕ, List, false};
-    ghost use Rattle.cyc_threads.specs.declared.named.Named.{Named as OneNamed};
-    ghost use Rattle.cyc_threads.specs.Names.{named_at, is_leaving};
+    ghost use Rattle.cyc_words.specs.declared.named.Named.{Named as OneNamed};
+    ghost use Rattle.cyc_words.specs.Names.{named_at, is_leaving};
 
     ghost Value = { List OneNamed };
 
@@ -79,8 +79,8 @@ impl Names {
     }
 
     /// The first name whose removal is open, and its id.
-    #[tactic(auto, using(crate::proofs::Telling::none_leaves))]
-    pub(crate) fn leaving(&mut self) -> Option<(usize, CyclicId)>
+    #[tactic(auto, using(crate::proofs::Leaving::none_leaves))]
+    pub fn leaving(&mut self) -> Option<(usize, CyclicId)>
         ensures same { self.new ≡ self.old }
         ensures none { IfNone result (NoneLeaves self.old) }
         ensures some { IfSome result (λ r. named_at self.old r.0 ≡ named.Leaving r.1) }

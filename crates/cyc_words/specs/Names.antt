@@ -1,9 +1,9 @@
 -- What the names of a script have while it runs (our own rule).
 use Rattle.std.specs.Prelude.{◌≡◌, ℕ, Bool, true, false, List, slice_set, slice_index_or, Option, Some, None, Ok}
-use Rattle.cyc_system_laws.specs.SystemRemoval.TheVariants.{Done, Kept}
-use Rattle.cyc_system_workers.specs.Calls.{SystemCall, Add, AddOmni, BeginRemove, PollRemove}
-use Rattle.cyc_threads.specs.declared.named.Named.{Named}
-use Rattle.cyc_threads.specs.declared.named.Named.TheVariants.{Nothing, Cyclic, Leaving, Removed}
+use Rattle.cyc_system.specs.SystemRemoval.TheVariants.{Done, Kept}
+use Rattle.cyc_system.specs.Calls.{SystemCall, Add, AddOmni, BeginRemove, PollRemove}
+use Rattle.cyc_words.specs.declared.named.Named.{Named}
+use Rattle.cyc_words.specs.declared.named.Named.TheVariants.{Nothing, Cyclic, Leaving, Removed}
 
 -- what the name of a number has
 abbrev pub named_at : List Named → ℕ → Named
