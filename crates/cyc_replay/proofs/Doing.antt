@@ -1,5 +1,5 @@
 -- A step that was done, and one that was refused.
-use Rattle.std.proofs.Common.{◌≡◌, ℕ, ◌+◌, ◌≤◌, List, [], ◌∷◌, length, map, Some, None, ap, sym, ◌∙◌, subst, arith, refl}
+use Rattle.std.proofs.Common.{◌≡◌, ℕ, ◌+◌, ◌≤◌, List, [], ◌∷◌, length, Some, None, ap, sym, ◌∙◌, subst, arith, refl}
 use Rattle.std.specs.Prelude.{Result, Ok, Err}
 use Rattle.cyc_types.specs.Tally.{tally_count}
 use Rattle.cyc_types.specs.declared.refusal.Refusal.{Refusal}
@@ -14,7 +14,7 @@ use Rattle.cyc_model.proofs.Telling.{tells_steps}
 use Rattle.cyc_replay.specs.Shown.{IsSystem, ShowsSystem}
 use Rattle.cyc_replay.specs.SystemWords.{Gives, IsDone, IsDoneWith, IsRefusedFor}
 use Rattle.cyc_replay.specs.declared.machine.Machine.{Machine}
-use Rattle.cyc_replay.specs.Machine.{Holds, Remembers, IsWide, IsReached, AllMost, number_of}
+use Rattle.cyc_replay.specs.Machine.{Holds, Remembers, IsWide, IsReached, AllMost, numbers_of}
 use Rattle.cyc_replay.specs.Words.{Comes, Accepts, AcceptsWith, Answers}
 use Rattle.cyc_core.specs.Tables.{Tables}
 use Rattle.cyc_system.specs.System.{SystemView}
@@ -59,7 +59,7 @@ pub record Leaves (x : Step) (s : State) (n : Machine) : Type 0 where
   pub suspended : (texts : List (List ℕ)) (indexes : ℕ → ℕ) (step : ℕ)
       → (does plain texts indexes step x s).state.suspended ≡ s.suspended
   pub names : (texts : List (List ℕ)) (indexes : ℕ → ℕ) (step : ℕ)
-      → (does plain texts indexes step x s).state.names ≡ map number_of n.names.items
+      → (does plain texts indexes step x s).state.names ≡ numbers_of n.names
   pub last : (texts : List (List ℕ)) (indexes : ℕ → ℕ) (step : ℕ) → s.last_id ≤ (does plain texts indexes step x s).state.last_id
 
 -- what each call of a system keeps, but that a suspend and a resume do not keep the mark
@@ -131,8 +131,9 @@ refuses s m n h kept shows clock tally same = record {
   clock = h.clock ∙ sym clock;
   suspended = kept.suspended;
   called = λ id. ap (λ t. tally_count t id) tally ∙ h.called id;
-  names = h.names ∙ sym (ap (map number_of) same.names);
-  remembers = remembers_on s s m n h.remembers same (omega arith) (λ id low gone. gone) (λ id low gone. refl);
+  names = h.names ∙ sym (ap numbers_of same.names);
+  remembers = remembers_on s s m n h.remembers same (omega arith) (λ id low gone. gone) (λ id low gone. gone)
+      (λ id low gone. refl);
   tally = subst (λ t. IsWide t) (sym tally) h.tally;
   most = kept.most;
   room = kept.room;
