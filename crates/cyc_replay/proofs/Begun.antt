@@ -35,7 +35,8 @@ use Rattle.cyc_words.specs.declared.named.Named.TheVariants.{Leaving, Removed}
 use Rattle.cyc_words.specs.Names.{news, noted}
 use Rattle.cyc_replay.proofs.Removals.{remove_forgets, receipt_removed}
 use Rattle.cyc_replay.specs.Runs.{listed}
-use Rattle.cyc_replay.specs.Words.{Accepts, Answers, TakesWord}
+use Rattle.cyc_replay.specs.Words.{TakesWord}
+use Rattle.cyc_replay.proofs.Doing.{Accepts, Answers}
 use Rattle.cyc_model.proofs.Still.{still_remove}
 use Rattle.cyc_model.proofs.Answering.{counts_removed}
 use Rattle.cyc_replay.proofs.Doing.{Keeps, Leaves, accepts, refuses}

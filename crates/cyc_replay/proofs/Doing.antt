@@ -11,11 +11,12 @@ use Rattle.cyc_model.specs.Refusals.{unless, refusal, after_refusal}
 use Rattle.cyc_model.specs.Script.{refusal_of, does, word}
 use Rattle.cyc_model.proofs.Events.{calls_append}
 use Rattle.cyc_model.proofs.Telling.{tells_steps}
+use Rattle.cyc_cpu_model.specs.Answers.{IsRefused}
 use Rattle.cyc_replay.specs.Shown.{IsSystem, ShowsSystem}
 use Rattle.cyc_replay.specs.SystemWords.{Gives, IsDone, IsDoneWith, IsRefusedFor}
 use Rattle.cyc_replay.specs.declared.machine.Machine.{Machine}
 use Rattle.cyc_replay.specs.Machine.{Holds, Remembers, IsWide, IsReached, AllMost, numbers_of}
-use Rattle.cyc_replay.specs.Words.{Comes, Accepts, AcceptsWith, Answers}
+use Rattle.cyc_replay.specs.Words.{Comes}
 use Rattle.cyc_core.specs.Tables.{Tables}
 use Rattle.cyc_system.specs.System.{SystemView}
 use Rattle.cyc_system.specs.Agreement.{most_on}
@@ -26,6 +27,28 @@ use Rattle.cyc_replay.proofs.Introduced.{introduces_does}
 use Rattle.cyc_replay.proofs.Mosts.{most_kept}
 use Rattle.cyc_replay.proofs.Named.{reached_good}
 use Rattle.cyc_replay.proofs.Remembering.{SameNames, remembers_on, remembers_does}
+
+-- the definition does not refuse the step, and comes to what the machine did, where the cyclics that it puts on CPUs get the
+-- indexes that they got there
+pub record Accepts (x : Step) (s : State) (m : Machine) : Type 0 where
+  pub accepted : refusal_of plain x s ≡ None
+  pub given : List ℕ
+  pub comes : (texts : List (List ℕ)) (indexes : ℕ → ℕ) (step : ℕ) → Gives indexes s.admissions given
+      → Comes given s (does plain texts indexes step x s) m
+
+-- the same of a step whose line tells more: this one, where the step has this number
+pub record AcceptsWith (line : ℕ → List ℕ) (x : Step) (s : State) (m : Machine) : Type 0 where
+  pub accepted : refusal_of plain x s ≡ None
+  pub given : List ℕ
+  pub comes : (texts : List (List ℕ)) (indexes : ℕ → ℕ) (step : ℕ) → Gives indexes s.admissions given
+      → Comes given s (does plain texts indexes step x s) m
+  pub said : (texts : List (List ℕ)) (indexes : ℕ → ℕ) (step : ℕ) → Gives indexes s.admissions given
+      → (does plain texts indexes step x s).line ≡ line step
+
+-- the step is done, or refused for one reason by both; want of memory comes where there is no other reason
+abbrev pub Answers : {A : Type 0} → Step → Result A Refusal → State → Machine → Type 0
+Answers x (Ok done) s m = Accepts x s m
+Answers x (Err e) s m = IsRefused e (refusal_of plain x s) × Holds s m
 
 -- the word of a step that is not refused, and of one that is
 pub word_done : (texts : List (List ℕ)) (indexes : ℕ → ℕ) (step : ℕ) (x : Step) (s : State) → refusal_of plain x s ≡ None

@@ -13,7 +13,7 @@ use Rattle.cyc_replay.specs.SystemWords.{IsDone, IsRefusedFor}
 use Rattle.cyc_replay.specs.declared.machine.Machine.{Machine}
 use Rattle.cyc_types.specs.Tally.{tally_count}
 use Rattle.cyc_replay.specs.Machine.{Holds, IsWide, AllMost, numbers_of}
-use Rattle.cyc_replay.specs.Words.{Answers}
+use Rattle.cyc_replay.proofs.Doing.{Answers}
 use Rattle.cyc_replay.proofs.Doing.{Keeps, refuses}
 use Rattle.cyc_replay.proofs.Remembering.{SameNames, remembers_on}
 

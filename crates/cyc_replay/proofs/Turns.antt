@@ -14,7 +14,8 @@ use Rattle.cyc_model.proofs.Still.{still_juggle, still_offline}
 use Rattle.cyc_replay.specs.SystemWords.{IsDoneWith, IsRefusedFor, IsAtOnce}
 use Rattle.cyc_replay.specs.declared.machine.Machine.{Machine}
 use Rattle.cyc_replay.specs.Machine.{Holds, IsReached, numbers_of}
-use Rattle.cyc_replay.specs.Words.{AcceptsWith, TakesWord}
+use Rattle.cyc_replay.specs.Words.{TakesWord}
+use Rattle.cyc_replay.proofs.Doing.{AcceptsWith}
 use Rattle.cyc_replay.proofs.Remembering.{SameNames}
 use Rattle.cyc_replay.proofs.Doing.{Keeps, Leaves, refuses, lasts_with}
 use Rattle.cyc_replay.proofs.Taking.{truly_refused, refused_takes, takes_with}

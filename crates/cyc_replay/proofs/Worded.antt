@@ -44,7 +44,8 @@ use Rattle.cyc_replay.specs.SystemWords.{IsSeries}
 use Rattle.cyc_replay.specs.declared.machine.Machine.{Machine}
 use Rattle.cyc_replay.specs.Machine.{Holds, AllMost, IsNamed, IsReached, id_at, id_in, number_of, numbers_of}
 use Rattle.cyc_replay.specs.WordLines.{name_in, named_by, why_line, word_line}
-use Rattle.cyc_replay.specs.Words.{Answers, TakesWord, answer_line}
+use Rattle.cyc_replay.specs.Words.{TakesWord, answer_line}
+use Rattle.cyc_replay.proofs.Doing.{Answers}
 use Rattle.cyc_replay.proofs.Keeping.{kept, most_kept, room_kept}
 use Rattle.cyc_replay.proofs.Suspensions.{suspended_kept}
 use Rattle.cyc_replay.proofs.Mosts.{most_kept as mosts_kept}

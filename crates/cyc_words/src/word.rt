@@ -25,7 +25,8 @@ pub(crate) fn sound<R: Raise>(system: &System<R>)
     system.fit_law();
 }
 
-/// Takes the word of a step: makes its call of the system, at the clock, and notes what the answer tells of a name.
+/// Takes the word of a step, which is no `advance` and no `softint`: makes its call of the system, at the clock, and notes what
+/// the answer tells of a name.
 ///
 /// Refuses with BadWhen where the start of a series or the moment is negative, then with BadInterval, then with NoCyclic where
 /// the name has no cyclic; the system is not called then. Else it refuses as the call does, whose memory it takes.
