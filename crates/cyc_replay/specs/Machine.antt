@@ -36,6 +36,7 @@ abbrev pub number_of : Option ℕ → ℕ
 number_of None = 0
 number_of (Some id) = id
 
+-- those of all names
 abbrev pub numbers_of : List Named → List ℕ
 numbers_of names = map (λ n. number_of (id_in n)) names
 
