@@ -82,7 +82,8 @@ module _ (held leaves position x : ℕ) (es new : List Entry) (e : Entry) (t : I
       let at = ap index_of (front held es position low) in omega (arith, f, at, here)
 
   pub position_open : IsHeapBut position (take held es)
-  position_open = let l = front_long held es t.within in hole_made position (take held es) (t.heap refl).heap (omega (arith, low, l))
+  position_open = let l = front_long held es t.within in
+      hole_made position (take held es) (t.heap refl).heap (omega (arith, low, l))
 
   module _ (same : length new ≡ length es) (heap : IsHeap (take held new))
       (f : IsFilled position (take held es) e (take held new))

@@ -41,7 +41,8 @@ as_running (SuspendCall answer) t v w did = (did, refl)
 as_running (ResumeCall answer) t v w did = (did, refl)
 
 -- no name hears of a reprogram
-pub no_news : (cpu : Option ℕ) (id moment : ℕ) (answer : Result (Unit {0}) Refusal) → news (reprograms cpu id moment answer) ≡ None
+pub no_news : (cpu : Option ℕ) (id moment : ℕ) (answer : Result (Unit {0}) Refusal)
+    → news (reprograms cpu id moment answer) ≡ None
 no_news None id moment answer = refl
 no_news (Some n) id moment answer = refl
 

@@ -254,7 +254,8 @@ module _ (texts : List (List ℕ)) (step : ℕ) (s : State) (m n : Machine) (r :
     takes_suspend (answer, (told, c)) named said =
         plainly steps.Suspend answer (λ ts f k t. refl) refl (λ e. refl) told said
         (answers_marked steps.Suspend true s m n h (λ ts f k. refl) (system_kept 0 (Suspend answer) c)
-        (all_most 0 (Suspend answer) c) (roomy 0 (Suspend answer) c) clock tally (record { names = c.told; named = not_named steps.Suspend answer told named })
+        (all_most 0 (Suspend answer) c) (roomy 0 (Suspend answer) c) clock tally
+        (record { names = c.told; named = not_named steps.Suspend answer told named })
         answer
         (λ ok. suspend_accepted s m.system n.system h.system h.shows h.suspended
         (subst (λ a. Changes raise_tables m.system (Suspend a) n.system) ok c.did))
@@ -268,7 +269,8 @@ module _ (texts : List (List ℕ)) (step : ℕ) (s : State) (m n : Machine) (r :
     takes_resume (answer, (told, c)) named said =
         plainly steps.Resume answer (λ ts f k t. refl) refl (λ e. refl) told said
         (answers_marked steps.Resume false s m n h (λ ts f k. refl) (system_kept 0 (Resume answer) c)
-        (all_most 0 (Resume answer) c) (roomy 0 (Resume answer) c) clock tally (record { names = c.told; named = not_named steps.Resume answer told named })
+        (all_most 0 (Resume answer) c) (roomy 0 (Resume answer) c) clock tally
+        (record { names = c.told; named = not_named steps.Resume answer told named })
         answer
         (λ ok. resume_accepted s m.system n.system h.system h.shows h.suspended
         (subst (λ a. Changes raise_tables m.system (Resume a) n.system) ok c.did))

@@ -11,7 +11,8 @@ returns-in-Some-quick-clause-before c k d from low = let at = c.in-Some-quick.en
 
 pub returns-in-Some-quick-clause-from : goal.returns-in-Some-quick-clause-from
 returns-in-Some-quick-clause-from c k d from low = let at = c.in-Some-quick.ensures.some in
-    let f = far c.args.slots.now c.requires (k - c.in-Some-quick.position) c.in-Some-quick.position k d (omega (arith, from)) low in
+    let f = far c.args.slots.now c.requires (k - c.in-Some-quick.position) c.in-Some-quick.position k d (omega (arith, from))
+    low in
     let i = at.has_id d in
     subst (λ o. ComesAfter o (get_or c.args.slots.now k d).id) (sym c.in-Some.is) (omega (arith, f, i, from))
 
