@@ -8,6 +8,8 @@
  *     calls between N same|last|turn|random [ROUNDS]   such a one goes, and a new one comes whose id is between those of its neighbours
  *     calls fire N PEAK [ROUNDS]                       N that are left of PEAK, of one interval
  *     calls soft N PEAK [ROUNDS]                       the same at low level: each expiration is taken and finished too
+ *     calls grow N add|go [ROUNDS]                     the longest single add on the way to N; the longest removal or add of 4N where in
+ *                                                      turn the oldest goes and a new one comes
  *
  * It prints the nanoseconds of a call, the least of the rounds: 15 where no number is given. */
 #include "cyclic.h"
@@ -171,13 +173,49 @@ static long soft(void)
     return expired;
 }
 
+static double timed(int is_add, uint64_t id)
+{
+    double begin = now();
+    if (is_add)
+        check(cyclic_add(&cpu, id, level, START + (int64_t)id, 1000, 0, NULL));
+    else
+        remove_now(id);
+    double took = now() - begin;
+    uint64_t hand;
+    cyclic_take(&cpu, CYCLIC_LOCK, &hand);
+    cyclic_take(&cpu, CYCLIC_LOW, &hand);
+    return took;
+}
+
+static double longer(double one, double other)
+{
+    return one > other ? one : other;
+}
+
+/* A CPU of its own each round. */
+static double grow(uint64_t count, int goes)
+{
+    double longest = 0;
+    check(cyclic_cpu_close(&cpu));
+    check(cyclic_cpu_open(UINT32_MAX, UINT64_MAX, &cpu));
+    for (uint64_t id = 1; id <= count; id++) {
+        double took = timed(1, id);
+        longest = goes ? 0 : longer(longest, took);
+    }
+    for (uint64_t id = 1; goes && id <= 2 * count; id++) {
+        longest = longer(longest, timed(0, id));
+        longest = longer(longest, timed(1, id + count));
+    }
+    return longest;
+}
+
 int main(int count, char **words)
 {
     if (count < 4)
         return 2;
     const char *job = words[1];
     int is_swing = strcmp(job, "swing") == 0, is_fire = strcmp(job, "fire") == 0, is_low = strcmp(job, "low") == 0;
-    int is_soft = strcmp(job, "soft") == 0;
+    int is_soft = strcmp(job, "soft") == 0, is_grow = strcmp(job, "grow") == 0;
     int is_between = strcmp(job, "between") == 0, is_churn = is_low || is_between || strcmp(job, "churn") == 0;
     uint64_t first = strtoull(words[2], NULL, 10), peak = strtoull(words[is_swing ? 4 : 3], NULL, 10);
     int rounds = count > 4 + is_swing ? atoi(words[4 + is_swing]) : 15;
@@ -185,9 +223,14 @@ int main(int count, char **words)
     gap = strcmp(job, "apart") == 0 ? 7 : is_between ? 1 << 20 : 1;
     level = is_low || is_soft ? CYCLIC_LOW : CYCLIC_HIGH;
     check(cyclic_cpu_open(UINT32_MAX, UINT64_MAX, &cpu));
-    fill(first, is_swing || is_fire || is_soft ? peak : 0);
+    fill(is_grow ? 0 : first, is_swing || is_fire || is_soft ? peak : 0);
     for (int round = 0; round < rounds; round++) {
         double begin = now();
+        if (is_grow) {
+            double longest = grow(first, words[3][0] == 'g');
+            least = longest < least ? longest : least;
+            continue;
+        }
         long calls = is_swing ? swing(first, strtoull(words[3], NULL, 10)) : is_fire ? fire() : is_soft ? soft()
             : is_churn ? churn(first, words[3][0], is_between) : again(first, words[3][0]);
         double each = (now() - begin) / calls;
