@@ -11,7 +11,7 @@ ghost use Rattle.cyc_core.specs.Tables.{cyclic_of, level_of, lookup};
 ghost use Rattle.cyc_core.specs.Reached.{IsReached};
 
 use crate::admitted::{Admitted, Kept, is_kept_at};
-use cyc_finder::{Finder, HINTS, hint_of};
+use cyc_finder::Finder;
 use cyc_types::{CYCLICS, Ceiling, CyclicId, Index, Refusal};
 use std::alloc::{AllocError, Global};
 use std::collections::VecDeque;
@@ -40,7 +40,7 @@ pub struct LevelCore {
     pub(crate) drainer_hand: Option<CyclicId>,
     // The index at which an id of these low bits was admitted last. Another may have these bits too, and it may have left, so
     // each look is checked. They stand in memory of their own, so that a level that is moved copies little.
-    pub(crate) hints: Box<[Index; HINTS]>,
+    pub(crate) hints: Vec<Index>,
 }
 
 impl Model for LevelCore {
@@ -55,12 +55,30 @@ impl Model for LevelCore {
     ghost invariant = { IsSound };
 }
 
-/// Hints that say nothing yet. By a call, so that what makes a level has no room for them on its stack.
+/// Where the hint of an id stands: at its low bits, with those above them added, so that ids that are 4,096 apart have hints of
+/// their own too.
+#[inline(always)]
+fn hint_of(id: CyclicId) -> usize {
+    let number = id.number();
+    let hints = u64::from(CYCLICS);
+    (number.wrapping_add(number / hints) % hints) as usize
+}
+
+/// The id was admitted at this index.
+#[inline(always)]
+pub(crate) fn set_hint(hints: &mut [Index], id: CyclicId, index: Index) {
+    if let Some(hint) = hints.get_mut(hint_of(id)) {
+        *hint = index;
+    }
+}
+
+/// As many hints as there may be cyclics, which say nothing yet.
 #[cold]
 #[inline(never)]
-fn no_hints(alloc: Global) -> Result<Box<[Index; HINTS]>, AllocError> {
+fn no_hints(alloc: Global) -> Result<Vec<Index>, AllocError> {
     let first = Index::new(0).unwrap();
-    let hints = Box::new(alloc, [first; HINTS])?;
+    let mut hints = Vec::new(alloc);
+    hints.resize(usize::from(CYCLICS), first)?;
     Ok(hints)
 }
 
@@ -128,7 +146,7 @@ impl LevelCore {
     pub(crate) fn hinted(&self, id: CyclicId) -> Option<Index>
         ensures { IfSome result (λ index. option_map (λ entry. entry.index) (lookup id self.now.table) ≡ Some index) }
     {
-        let hint = self.hints[hint_of(id)];
+        let hint = *self.hints.get(hint_of(id))?;
         if is_kept_at(&self.kept, hint, id) {
             return Some(hint);
         }
