@@ -22,8 +22,8 @@ fn granted(called: Option<CyclicId>) -> Granted
     }
 }
 
-/// What stays handed out behind a fire that was refused, but not in front of a high cyclic: what was handed out before, where it was
-/// refused at once. A call, so that LLVM takes it for rare, and a fire that stops in front of a high cyclic goes straight on.
+/// What stays handed out behind a fire that was refused, but not in front of a high cyclic: what was handed out before, where it
+/// was refused at once. A call, so that LLVM takes it for rare, and a fire that stops in front of a high cyclic goes straight on.
 #[cold]
 #[inline(never)]
 fn stays_out(high: Option<CyclicId>, refused: &FireRefused) -> Option<CyclicId>

@@ -79,7 +79,8 @@ pub(crate) fn is_free_at(kept: &[Kept], index: Index) -> bool
     }
 }
 
-/// Adds the places up to this one, where it is not there yet: nothing is kept at them. It writes these alone, and takes no memory.
+/// Adds the places up to this one, where it is not there yet: nothing is kept at them. It writes these alone, and takes no
+/// memory.
 pub(crate) fn reach(kept: &mut Vec<Kept>, place: usize)
     requires { place < vec_capacity kept.old }
     ensures within { place < length kept.new.items }

@@ -11,8 +11,7 @@ ghost use Rattle.cyc_core.specs.Tables.{level_of, lookup};
 ghost use Rattle.cyc_core.specs.Reached.{Happens};
 
 use crate::admitted::{Admitted, Kept, is_free_at, reach};
-use crate::level_core::LevelCore;
-use cyc_finder::hint_of;
+use crate::level_core::{LevelCore, set_hint};
 use cyc_level::Event;
 use cyc_types::{CyclicId, GREATEST_BANK, Index};
 use thiserror::Error;
@@ -44,7 +43,7 @@ impl LevelCore {
             count: 0,
             here: true,
         };
-        self.hints[hint_of(id)] = index;
+        set_hint(&mut self.hints, id, index);
     }
 
     pub(crate) fn expire(&mut self, entry: Admitted)

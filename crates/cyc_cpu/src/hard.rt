@@ -168,12 +168,12 @@ impl<R: Raise> Hard<R> {
     /// Makes every expiration that is due at `now`, in the order of their moments and ids (`cyclic_fire`). At high level the
     /// handler is called, at a soft level the pend is raised.
     ///
-    /// Refuses with Suspended while the CPU is suspended, then with BadNow where `now` is never. An expiration of a cyclic that has
-    /// expired `most` times is refused with CountSpent, and one whose handler refuses with HandlerRefused; those before it were made.
-    /// Takes no memory.
+    /// Refuses with Suspended while the CPU is suspended, then with BadNow where `now` is never. An expiration of a cyclic that
+    /// has expired `most` times is refused with CountSpent, and one whose handler refuses with HandlerRefused; those before it
+    /// were made. Takes no memory.
     pub fn fire<C: Calls>(&mut self, now: Moment, calls: &mut C) -> Result<Fired, FireRefused>
-        // The whole list was made, or it was made up to an expiration that was refused; while the CPU is suspended, or at the moment
-        // that is never, nothing.
+        // The whole list was made, or it was made up to an expiration that was refused; while the CPU is suspended, or at the
+        // moment that is never, nothing.
         ensures { Does C.Calls R.Raise no_interrupts (running calls.old self.old) (Fire now result)
             (running calls.new self.new) }
     {
@@ -209,7 +209,8 @@ impl<R: Raise> Hard<R> {
         self.reprogram_anew(id, moment)
     }
 
-    /// As `reprogram`, of a cyclic whose removal is not open and that two looks did not find: out of the way of one that they find.
+    /// As `reprogram`, of a cyclic whose removal is not open and that two looks did not find: out of the way of one that they
+    /// find.
     #[cold]
     #[inline(never)]
     fn reprogram_anew(&mut self, id: CyclicId, moment: Moment) -> Result<(), Refusal>

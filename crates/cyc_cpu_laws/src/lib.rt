@@ -1,5 +1,5 @@
-//! Laws of one CPU over any calls: what they add up to for each id, what stays of a CPU that has settled or is suspended, what follows
-//! where an id has left, and what a receipt says of the calls.
+//! Laws of one CPU over any calls: what they add up to for each id, what stays of a CPU that has settled or is suspended, what
+//! follows where an id has left, and what a receipt says of the calls.
 //!
 //! A run is any list of calls of `cyc_cpu`'s relation `Does`, each on what the one before it left. The functions here do
 //! nothing when they run. Their clauses are the laws, so that they are proved.

@@ -1,5 +1,7 @@
--- A cyclic that comes between others: the slot of one that is gone is dropped, and its own comes in where its id stands among the rest.
-use Rattle.std.proofs.Common.{◌≡◌, ◌≢◌, ℕ, suc, ◌+◌, ◌-◌, ◌<◌, ◌≤◌, ◌⊎◌, inl, inr, List, ◌∷◌, ◌++◌, length, get_or, set, take, drop}
+-- A cyclic that comes between others: the slot of one that is gone is dropped, and its own comes in where its id stands among
+-- the rest.
+use Rattle.std.proofs.Common.{◌≡◌, ◌≢◌, ℕ, suc, ◌+◌, ◌-◌, ◌<◌, ◌≤◌, ◌⊎◌, inl, inr, List, ◌∷◌, ◌++◌}
+use Rattle.std.proofs.Common.{length, get_or, set, take, drop}
 use Rattle.std.proofs.Common.{Some, None, sym, ap, ◌∙◌, subst, arith}
 use Rattle.std.specs.List.{insert, remove, AllWithin, HoldsAt, CopiedTo, SameBelow, SameFrom}
 use Rattle.std.proofs.lemmas.Bool.{cases_lt}
@@ -116,7 +118,8 @@ module _ {xs : List Slot} {id gap p g : ℕ} (c : Comes xs id gap p g) where
     gap_left = let l = length-remove xs g low in record {
       in_range = omega (arith, l, c.up, low);
       smaller_before = λ j d less.
-          subst (λ (s : Slot). s.id < id) (sym (get_or-remove_below xs g d j (omega (arith, less, c.up)) low)) (before_way j d less);
+          subst (λ (s : Slot). s.id < id) (sym (get_or-remove_below xs g d j (omega (arith, less, c.up)) low))
+          (before_way j d less);
       greater_after = λ j d from small. elim (cases_lt j g) [
         | inl less ↦
             subst (λ (s : Slot). id < s.id) (sym (get_or-remove_below xs g d j less low))
@@ -132,7 +135,8 @@ module _ {xs : List Slot} {id gap p g : ℕ} (c : Comes xs id gap p g) where
 
     rest_entries : entries_of (remove xs g) ≡ entries_of xs
     rest_entries = filter_map-append entry_of (take g xs) (drop (suc g) xs)
-        ∙ ap (λ (s : Slot). entries_of (take g xs) ++ entries_of (s ∷ drop (suc g) xs)) (sym gone_slot) ∙ sym (split xs g some_slot low)
+        ∙ ap (λ (s : Slot). entries_of (take g xs) ++ entries_of (s ∷ drop (suc g) xs)) (sym gone_slot)
+        ∙ sym (split xs g some_slot low)
       where
         gone_slot : get_or xs g some_slot ≡ record { id = (get_or xs g some_slot).id; index = None }
         gone_slot = λ y. record { id = (get_or xs g some_slot).id; index = gone some_slot y }
@@ -144,6 +148,7 @@ module _ {xs : List Slot} {id gap p g : ℕ} (c : Comes xs id gap p g) where
         × (entries_of (insert (remove xs g) p (record { id = id; index = Some i }))
         ≡ insert (entries_of xs) k (record { id = id; index = i }))
     comes_in i = subst (λ (es : List Entry). (k : ℕ) × IsGap id_in es id k
-        × (entries_of (insert (remove xs g) p (record { id = id; index = Some i })) ≡ insert es k (record { id = id; index = i })))
+        × (entries_of (insert (remove xs g) p (record { id = id; index = Some i }))
+        ≡ insert es k (record { id = id; index = i })))
         rest_entries
         (rank (remove xs g) p, gap_is (remove xs g) rest_rises id p gap_left, come (remove xs g) p id i)

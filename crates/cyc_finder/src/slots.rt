@@ -1,6 +1,7 @@
 //! The slots of a finder: looking an id up among them, putting one in, and dropping those that are gone.
 
-ghost use Rattle.std.specs.Prelude.{◌≡◌, ◌≢◌, ℕ, ◌+◌, ◌-◌, ◌<◌, ◌≤◌, ◌⊎◌, length, slice_index_or, None, Some, IfSome, IfNone, IfOk, IfErr};
+ghost use Rattle.std.specs.Prelude.{◌≡◌, ◌≢◌, ℕ, ◌+◌, ◌-◌, ◌<◌, ◌≤◌, ◌⊎◌, length, slice_index_or, None, Some};
+ghost use Rattle.std.specs.Prelude.{IfSome, IfNone, IfOk, IfErr};
 ghost use Rattle.std.specs.Prelude.{insert, remove, vec_capacity};
 ghost use Rattle.std.specs.List.{AllWithin, HoldsAt, SameBelow};
 ghost use Rattle.cyc_finder.specs.Sorted.{Rises, IsAt, IsGap, IsPassed, ComesAfter};
@@ -51,8 +52,8 @@ pub(crate) fn quick(slots: &[Slot], base: u64, hints: &Hints, id: CyclicId) -> O
     None
 }
 
-/// Where the slot of this id stands, or where it would stand, where `quick` did not find it: by a look where a far hint says, and then by
-/// halving. O(log n).
+/// Where the slot of this id stands, or where it would stand, where `quick` did not find it: by a look where a far hint says, and
+/// then by halving. O(log n).
 #[inline(always)]
 pub(crate) fn sought(slots: &[Slot], hints: &Hints, id: CyclicId) -> Result<usize, usize>
     requires { Rises slot_id slots.now }
@@ -108,8 +109,9 @@ pub(crate) fn next_here(slots: &[Slot], from: usize) -> usize
     position
 }
 
-/// The first position to which a walk comes that has passed this id, the first of all where it has passed none. O(log n).
-pub(crate) fn after(slots: &[Slot], passed: Option<CyclicId>) -> usize
+/// The first position to which a walk comes that has passed this id, the first of all where it has passed none. O(1) where
+/// `quick` finds the id, else O(log n).
+pub(crate) fn after(slots: &[Slot], base: u64, hints: &Hints, passed: Option<CyclicId>) -> usize
     requires { Rises slot_id slots.now }
     ensures within { result ≤ length slots.now }
     ensures before { AllWithin (λ slot. IsPassed passed slot.id) slots.now 0 result }
@@ -118,6 +120,9 @@ pub(crate) fn after(slots: &[Slot], passed: Option<CyclicId>) -> usize
     let Some(id) = passed else {
         return 0;
     };
+    if let Some(position) = quick(slots, base, hints, id) {
+        return position + 1;
+    }
     match search(slots, id) {
         Ok(position) => position + 1,
         Err(position) => position,
@@ -218,8 +223,8 @@ fn pack_all(slots: &mut Vec<Slot>, hints: &mut Hints, first: First) -> First
     first_from(slots, 0)
 }
 
-/// Where no more slots fit, drops those whose cyclics are gone, and says which is the first that is here. More go than may be here,
-/// so that for each cyclic that came it costs O(1) on average.
+/// Where no more slots fit, drops those whose cyclics are gone, and says which is the first that is here. More go than may be
+/// here, so that for each cyclic that came it costs O(1) on average.
 #[inline(always)]
 pub(crate) fn make_way(slots: &mut Vec<Slot>, hints: &mut Hints, first: &mut First)
     requires rises { Rises slot_id slots.old.items }
@@ -236,7 +241,8 @@ pub(crate) fn make_way(slots: &mut Vec<Slot>, hints: &mut Hints, first: &mut Fir
     }
 }
 
-/// Puts in a cyclic of this id and index, and says where: behind the last where its id is above all others, else by `put_between`.
+/// Puts in a cyclic of this id and index, and says where: behind the last where its id is above all others, else by
+/// `put_between`.
 #[inline(always)]
 pub(crate) fn put(slots: &mut Vec<Slot>, hints: &mut Hints, id: CyclicId, index: Index) -> usize
     requires rises { Rises slot_id slots.old.items }
@@ -288,7 +294,8 @@ fn way_in(slots: &[Slot], gap: usize) -> usize
     gap
 }
 
-/// Puts a slot in at this position: those from there on move up by one, over that of a cyclic that is gone, and those behind that stay.
+/// Puts a slot in at this position: those from there on move up by one, over that of a cyclic that is gone, and those behind that
+/// stay.
 fn move_up(slots: &mut Vec<Slot>, position: usize, gone: usize, slot: Slot)
     requires up { position ≤ gone }
     requires within { gone < length slots.old.items }
@@ -299,9 +306,9 @@ fn move_up(slots: &mut Vec<Slot>, position: usize, gone: usize, slot: Slot)
     slots[position] = slot;
 }
 
-/// As `put`, at any id: where its slot is if that is still there, else between two. Where the lower of these is of a cyclic that is
-/// gone it takes that over, and moves none. Else those above it move up by one, over the next that is gone, all of them where none is,
-/// and the first `HINTS` of them get their hints: O(log n) where one that is gone is near, else O(n).
+/// As `put`, at any id: where its slot is if that is still there, else between two. Where the lower of these is of a cyclic that
+/// is gone it takes that over, and moves none. Else those above it move up by one, over the next that is gone, all of them where
+/// none is, and the first `HINTS` of them get their hints: O(log n) where one that is gone is near, else O(n).
 #[cold]
 #[inline(never)]
 fn put_between(slots: &mut Vec<Slot>, hints: &mut Hints, id: CyclicId, index: Index) -> usize

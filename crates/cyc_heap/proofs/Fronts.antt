@@ -13,7 +13,7 @@ use Rattle.cyc_heap.proofs.Views.{winner_none, few_none, top_least, winner_top, 
 use Rattle.cyc_heap.proofs.Views.{winner_free}
 use Rattle.cyc_heap.proofs.Spreading.{length-shown, free_else}
 use Rattle.cyc_heap.proofs.Changing.{changed, changed_slots}
-use Rattle.cyc_heap.proofs.Sifting.{front, front_long, place_shown}
+use Rattle.cyc_heap.proofs.Sifting.{front, front_long, position_shown}
 
 -- what all leaves have where they are many
 pub shown_many : (b : Bool) (held : ℕ) (es : List Entry) → b ≡ false → shown b held es ≡ es
@@ -202,18 +202,18 @@ module _ (is_few : Bool) (held root leaves size given : ℕ) (es : List Entry) (
     ]
 
     -- and one that one of them has
-    pub place_held : is_few ≡ true → (i place : ℕ) → place < held → index_of (entry_at es place) ≡ i
-        → expiration_at v i ≡ Some (key (entry_at es place))
-    place_held small i place low here =
+    pub position_held : is_few ≡ true → (i position : ℕ) → position < held → index_of (entry_at es position) ≡ i
+        → expiration_at v i ≡ Some (key (entry_at es position))
+    position_held small i position low here =
         let t = tree_few is_few held leaves es small tree in
-        let at : entry_at (shown is_few held es) i ≡ entry_at es place
-        = ap (λ b. entry_at (shown b held es) i) small ∙ place_shown held leaves place i es t low here in
+        let at : entry_at (shown is_few held es) i ≡ entry_at es position
+        = ap (λ b. entry_at (shown b held es) i) small ∙ position_shown held leaves position i es t low here in
         let n = long small in
         let m = ap (λ (e : Entry). e.moment) at in
-        let k = ap (λ (e : Entry). e.moment) (front held es place low) in
-        let u = (h.heap small).used place (omega (arith, low, n)) in
-        let q = ap index_of (front held es place low) in
-        let g = (h.heap small).low place (omega (arith, low, n)) in
+        let k = ap (λ (e : Entry). e.moment) (front held es position low) in
+        let u = (h.heap small).used position (omega (arith, low, n)) in
+        let q = ap index_of (front held es position low) in
+        let g = (h.heap small).low position (omega (arith, low, n)) in
         let mine = leaf_given is_few (take held es) leaves size given (shown is_few held es) free room v h is i
         (omega (arith, g, q, here)) (omega (arith, m, k, u)) in
         let known = h.known in

@@ -73,18 +73,20 @@ module _ (held after leaves : ℕ) (es new : List Entry) (x : ℕ) (e : Entry) (
     pub left_changed : IsChanged leaves x free_entry (shown true held es) (shown true after new)
     left_changed = changed_free held after leaves es new x e t low_x same within heap bare to low_left used_left off from
 
--- another entry for the index of the one at this place
-module _ (held leaves place x : ℕ) (es new : List Entry) (e : Entry) (t : IsTree true held leaves es) (low : place < held)
-    (here : index_of (entry_at es place) ≡ x) where
-  pub place_low : x < leaves
-  place_low = let l = front_long held es t.within in
-      let f = (t.heap refl).low place (omega (arith, low, l)) in
-      let at = ap index_of (front held es place low) in omega (arith, f, at, here)
+-- another entry for the index of the one at this position
+module _ (held leaves position x : ℕ) (es new : List Entry) (e : Entry) (t : IsTree true held leaves es) (low : position < held)
+    (here : index_of (entry_at es position) ≡ x) where
+  pub position_low : x < leaves
+  position_low = let l = front_long held es t.within in
+      let f = (t.heap refl).low position (omega (arith, low, l)) in
+      let at = ap index_of (front held es position low) in omega (arith, f, at, here)
 
-  pub place_open : IsHeapBut place (take held es)
-  place_open = let l = front_long held es t.within in hole_made place (take held es) (t.heap refl).heap (omega (arith, low, l))
+  pub position_open : IsHeapBut position (take held es)
+  position_open = let l = front_long held es t.within in
+      hole_made position (take held es) (t.heap refl).heap (omega (arith, low, l))
 
-  module _ (same : length new ≡ length es) (heap : IsHeap (take held new)) (f : IsFilled place (take held es) e (take held new))
+  module _ (same : length new ≡ length es) (heap : IsHeap (take held new))
+      (f : IsFilled position (take held es) e (take held new))
       (mine : index_of e ≡ x) (valid : e.moment ≤ never) where
     inside : held ≤ length new
     inside = let w = t.within in omega (arith, w, same)
@@ -93,7 +95,7 @@ module _ (held leaves place x : ℕ) (es new : List Entry) (e : Entry) (t : IsTr
         → (p : ℕ) × (p < held) × (entry_at (take held new) p ≡ entry_at (take held es) q)
     to q less off = let l = front_long held es t.within in let n = front_long held new inside in
         let (p, at, is) = f.to q (omega (arith, less, l))
-        (λ e. off (ap (λ q. index_of (entry_at (take held es) q)) e ∙ ap index_of (front held es place low) ∙ here)) in
+        (λ e. off (ap (λ q. index_of (entry_at (take held es) q)) e ∙ ap index_of (front held es position low) ∙ here)) in
         (p, omega (arith, at, n), is)
 
     from : (p : ℕ) → p < held → (entry_at (take held new) p ≡ e)
@@ -111,10 +113,10 @@ module _ (held leaves place x : ℕ) (es new : List Entry) (e : Entry) (t : IsTr
     some_held none = absurd (omega (arith, none, low))
 
     pub changed_tree : IsTree true held leaves new
-    changed_tree = put_tree held held leaves es new x e t place_low same inside heap some_held to mine valid from there
+    changed_tree = put_tree held held leaves es new x e t position_low same inside heap some_held to mine valid from there
 
     pub changed_leaf : IsChanged leaves x e (shown true held es) (shown true held new)
-    changed_leaf = put_changed held held leaves es new x e t place_low same inside heap some_held to mine valid from there
+    changed_leaf = put_changed held held leaves es new x e t position_low same inside heap some_held to mine valid from there
 
 -- one more, of an index that none has
 module _ (held leaves x : ℕ) (es new : List Entry) (e : Entry) (t : IsTree true held leaves es) (low_x : x < leaves)
@@ -152,9 +154,9 @@ module _ (held leaves x : ℕ) (es new : List Entry) (e : Entry) (t : IsTree tru
   added_leaf = put_changed held (held + 1) leaves es new x e t low_x same more heap some_added add_to mine valid add_from
       add_there
 
--- the one at this place is taken out
-module _ (held leaves place x : ℕ) (es : List Entry) (t : IsTree true held leaves es) (low : place < held)
-    (here : index_of (entry_at es place) ≡ x) where
+-- the one at this position is taken out
+module _ (held leaves position x : ℕ) (es : List Entry) (t : IsTree true held leaves es) (low : position < held)
+    (here : index_of (entry_at es position) ≡ x) where
   abbrev pub cut : List Entry
   cut = set es (held - 1) free_entry
 
@@ -176,8 +178,8 @@ module _ (held leaves place x : ℕ) (es : List Entry) (t : IsTree true held lea
   apart : (p q : ℕ) → p < held → q < held → p ≢ q → index_of (entry_at (take held es) p) ≢ index_of (entry_at (take held es) q)
   apart p q a b ne = let l = held_long in (t.heap refl).heap.apart p q (omega (arith, a, l)) (omega (arith, b, l)) ne
 
-  here_front : index_of (entry_at (take held es) place) ≡ x
-  here_front = ap index_of (front held es place low) ∙ here
+  here_front : index_of (entry_at (take held es) position) ≡ x
+  here_front = ap index_of (front held es position low) ∙ here
 
   pub cut_heap : IsHeap (take (held - 1) cut)
   cut_heap = let n = front_long (held - 1) cut cut_inside in let l = held_long in record {
@@ -188,9 +190,9 @@ module _ (held leaves place x : ℕ) (es : List Entry) (t : IsTree true held lea
         (sym (before q (omega (arith, b, n)))) (apart p q (omega (arith, a, n)) (omega (arith, b, n)) ne);
   }
 
-  pub cut_open : place < held - 1 → IsHeapBut place (take (held - 1) cut)
+  pub cut_open : position < held - 1 → IsHeapBut position (take (held - 1) cut)
   cut_open less = let n = front_long (held - 1) cut cut_inside in
-      hole_made place (take (held - 1) cut) cut_heap (omega (arith, less, n))
+      hole_made position (take (held - 1) cut) cut_heap (omega (arith, less, n))
 
   pub cut_apart : (p : ℕ) → p < held - 1 → index_of (entry_at cut p) ≢ index_of (entry_at es (held - 1))
   cut_apart p less = subst₂ (λ a b. index_of a ≢ index_of b) (sym (before p less) ∙ front (held - 1) cut p less)
@@ -202,20 +204,20 @@ module _ (held leaves place x : ℕ) (es : List Entry) (t : IsTree true held lea
       ∙ get_or-set_same es (held - 1) free_entry nowhere (let w = t.within in omega (arith, w, low))
 
   taken_low : x < leaves
-  taken_low = place_low held leaves place x es es free_entry t low here
+  taken_low = position_low held leaves position x es es free_entry t low here
 
   -- it was the last
-  module _ (last : held - 1 ≤ place) where
+  module _ (last : held - 1 ≤ position) where
     last_to : (q : ℕ) → q < held → index_of (entry_at (take held es) q) ≢ x
         → (p : ℕ) × (p < held - 1) × (entry_at (take (held - 1) cut) p ≡ entry_at (take held es) q)
     last_to q less off = elim (cases_lt q (held - 1)) [
       | inl inside ↦ (q, inside, before q inside)
-      | inr past ↦ absurd (off (ap (λ q. index_of (entry_at (take held es) q)) (let e : q ≡ place = omega
+      | inr past ↦ absurd (off (ap (λ q. index_of (entry_at (take held es) q)) (let e : q ≡ position = omega
           (arith, less, past, last, low) in e) ∙ here_front))
     ]
 
     last_off : (p : ℕ) → p < held - 1 → index_of (entry_at (take (held - 1) cut) p) ≢ x
-    last_off p less e = apart p place (omega (arith, less)) low (λ e. absurd (omega (arith, e, less, last)))
+    last_off p less e = apart p position (omega (arith, less)) low (λ e. absurd (omega (arith, e, less, last)))
         (sym (ap index_of (before p less)) ∙ e ∙ sym here_front)
 
     last_from : (p : ℕ) → p < held - 1 → (q : ℕ) × (q < held) × (entry_at (take (held - 1) cut) p ≡ entry_at (take held es) q)
@@ -229,9 +231,9 @@ module _ (held leaves place x : ℕ) (es : List Entry) (t : IsTree true held lea
     last_changed = left_changed held (held - 1) leaves es cut x free_entry t taken_low cut_long cut_inside cut_heap cut_bare
         last_to last_off last_from
 
-  -- the last fills its place
-  module _ (new : List Entry) (less : place < held - 1) (same : length new ≡ length cut) (heap : IsHeap (take (held - 1) new))
-      (f : IsFilled place (take (held - 1) cut) (entry_at es (held - 1)) (take (held - 1) new)) where
+  -- the last fills its position
+  module _ (new : List Entry) (less : position < held - 1) (same : length new ≡ length cut) (heap : IsHeap (take (held - 1) new))
+      (f : IsFilled position (take (held - 1) cut) (entry_at es (held - 1)) (take (held - 1) new)) where
     new_inside : held - 1 ≤ length new
     new_inside = let i = cut_inside in omega (arith, i, same)
 
@@ -256,7 +258,7 @@ module _ (held leaves place x : ℕ) (es : List Entry) (t : IsTree true held lea
         ]
 
     moved_from : (p : ℕ) → p < held - 1
-        → (q : ℕ) × (q < held) × (q ≢ place) × (entry_at (take (held - 1) new) p ≡ entry_at (take held es) q)
+        → (q : ℕ) × (q < held) × (q ≢ position) × (entry_at (take (held - 1) new) p ≡ entry_at (take held es) q)
     moved_from p inside =
         let n = front_long (held - 1) new new_inside in
         let m = front_long (held - 1) cut cut_inside in
@@ -273,7 +275,7 @@ module _ (held leaves place x : ℕ) (es : List Entry) (t : IsTree true held lea
 
     moved_off : (p : ℕ) → p < held - 1 → index_of (entry_at (take (held - 1) new) p) ≢ x
     moved_off p inside e = (let (q, at, off, is) = moved_from p inside in
-        apart q place at low off (sym (ap index_of is) ∙ e ∙ sym here_front))
+        apart q position at low off (sym (ap index_of is) ∙ e ∙ sym here_front))
 
     old_from : (p : ℕ) → p < held - 1 → (q : ℕ) × (q < held) × (entry_at (take (held - 1) new) p ≡ entry_at (take held es) q)
     old_from p inside = let (q, at, _, is) = moved_from p inside in (q, at, is)
@@ -289,20 +291,20 @@ module _ (held leaves place x : ℕ) (es : List Entry) (t : IsTree true held lea
     moved_changed = left_changed held (held - 1) leaves es new x free_entry t taken_low new_long new_inside heap some_left
         moved_to moved_off old_from
 
--- the place of an index that one of the few has
-pub found : (held : ℕ) (es l : List Entry) (o : Option ℕ) (place i : ℕ) → held ≤ length es → l ≡ es → o ≡ Some place
+-- the position of an index that one of the few has
+pub found : (held : ℕ) (es l : List Entry) (o : Option ℕ) (position i : ℕ) → held ≤ length es → l ≡ es → o ≡ Some position
     → IfSome o (λ p. (p < length (take held l)) × (index_of (entry_at (take held l) p) ≡ i))
-    → (place < held) × (index_of (entry_at es place) ≡ i)
-found held es l o place i within is some has =
-    let (low, at) = subst (λ l. (place < length (take held l)) × (index_of (entry_at (take held l) place) ≡ i)) is
+    → (position < held) × (index_of (entry_at es position) ≡ i)
+found held es l o position i within is some has =
+    let (low, at) = subst (λ l. (position < length (take held l)) × (index_of (entry_at (take held l) position) ≡ i)) is
     (subst (λ o. IfSome o (λ p. (p < length (take held l)) × (index_of (entry_at (take held l) p) ≡ i))) some has) in
     let n = front_long held es within in
-    let less : place < held = omega (arith, low, n) in (less, sym (ap index_of (front held es place less)) ∙ at)
+    let less : position < held = omega (arith, low, n) in (less, sym (ap index_of (front held es position less)) ∙ at)
 
 -- what its leaf is shown to have
-pub place_shown : (held leaves place x : ℕ) (es : List Entry) → IsTree true held leaves es → place < held
-    → index_of (entry_at es place) ≡ x → entry_at (shown true held es) x ≡ entry_at es place
-place_shown held leaves place x es t low here =
+pub position_shown : (held leaves position x : ℕ) (es : List Entry) → IsTree true held leaves es → position < held
+    → index_of (entry_at es position) ≡ x → entry_at (shown true held es) x ≡ entry_at es position
+position_shown held leaves position x es t low here =
     let l = front_long held es t.within in
-    ap (entry_at (shown true held es)) (sym here ∙ sym (ap index_of (front held es place low)))
-    ∙ (t.heap refl).own place (omega (arith, low, l)) ∙ front held es place low
+    ap (entry_at (shown true held es)) (sym here ∙ sym (ap index_of (front held es position low)))
+    ∙ (t.heap refl).own position (omega (arith, low, l)) ∙ front held es position low

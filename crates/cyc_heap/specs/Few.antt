@@ -12,7 +12,7 @@ use Rattle.cyc_heap.specs.Tournament.{IsListed}
 abbrev pub most_few : ℕ → ℕ
 most_few leaves = leaves / 2 + 16
 
--- c is one of the two places below a (`CYC_HEAP_LEFT` and `CYC_HEAP_RIGHT` of sys/cyclic_impl.h)
+-- c is one of the two positions below a (`CYC_HEAP_LEFT` and `CYC_HEAP_RIGHT` of sys/cyclic_impl.h)
 abbrev pub IsChild : ℕ → ℕ → Type 0
 IsChild a c = (c ≡ 2 * a + 1) ⊎ (c ≡ 2 * a + 2)
 
@@ -21,30 +21,30 @@ pub record IsHeap (few : List Entry) : Type 0 where
   pub rising : (a c : ℕ) → IsChild a c → c < length few → comes (entry_at few a) (entry_at few c) ≡ true
   pub apart : (p q : ℕ) → p < length few → q < length few → p ≢ q → index_of (entry_at few p) ≢ index_of (entry_at few q)
 
--- the same, but for this place, above and below which they are in order too
+-- the same, but for this position, above and below which they are in order too
 pub record IsHeapBut (hole : ℕ) (few : List Entry) : Type 0 where
   pub rising : (a c : ℕ) → IsChild a c → c < length few → a ≢ hole → c ≢ hole → comes (entry_at few a) (entry_at few c) ≡ true
   pub bridge : (a c : ℕ) → IsChild a hole → IsChild hole c → c < length few → comes (entry_at few a) (entry_at few c) ≡ true
   pub apart : (p q : ℕ) → p < length few → q < length few → p ≢ hole → q ≢ hole → p ≢ q
       → index_of (entry_at few p) ≢ index_of (entry_at few q)
 
--- the entry above this place doesn't come after this one
+-- the entry above this position doesn't come after this one
 abbrev pub IsBelow : Entry → ℕ → List Entry → Type 0
-IsBelow e place few = (a : ℕ) → IsChild a place → comes (entry_at few a) e ≡ true
+IsBelow e position few = (a : ℕ) → IsChild a position → comes (entry_at few a) e ≡ true
 
--- the entries but for the hole are the old ones but for that of this place
-pub record IsSame (place : ℕ) (old : List Entry) (hole : ℕ) (few : List Entry) : Type 0 where
+-- the entries but for the hole are the old ones but for that of this position
+pub record IsSame (position : ℕ) (old : List Entry) (hole : ℕ) (few : List Entry) : Type 0 where
   pub long : length few ≡ length old
-  pub from : (p : ℕ) → p < length few → p ≢ hole → (q : ℕ) × (q < length old) × (q ≢ place) × (entry_at few p ≡ entry_at old q)
-  pub to : (q : ℕ) → q < length old → q ≢ place → (p : ℕ) × (p < length few) × (p ≢ hole) × (entry_at few p ≡ entry_at old q)
+  pub from : (p : ℕ) → p < length few → p ≢ hole → (q : ℕ) × (q < length old) × (q ≢ position) × (entry_at few p ≡ entry_at old q)
+  pub to : (q : ℕ) → q < length old → q ≢ position → (p : ℕ) × (p < length few) × (p ≢ hole) × (entry_at few p ≡ entry_at old q)
 
--- the entries are this one, and the old ones but for that of this place
-pub record IsFilled (place : ℕ) (old : List Entry) (e : Entry) (few : List Entry) : Type 0 where
+-- the entries are this one, and the old ones but for that of this position
+pub record IsFilled (position : ℕ) (old : List Entry) (e : Entry) (few : List Entry) : Type 0 where
   pub long : length few ≡ length old
   pub here : (p : ℕ) × (p < length few) × (entry_at few p ≡ e)
   pub from : (p : ℕ) → p < length few
-      → (entry_at few p ≡ e) ⊎ ((q : ℕ) × (q < length old) × (q ≢ place) × (entry_at few p ≡ entry_at old q))
-  pub to : (q : ℕ) → q < length old → q ≢ place → (p : ℕ) × (p < length few) × (entry_at few p ≡ entry_at old q)
+      → (entry_at few p ≡ e) ⊎ ((q : ℕ) × (q < length old) × (q ≢ position) × (entry_at few p ≡ entry_at old q))
+  pub to : (q : ℕ) → q < length old → q ≢ position → (p : ℕ) × (p < length few) × (entry_at few p ≡ entry_at old q)
 
 -- none of them has this index
 abbrev pub HasNo : ℕ → List Entry → Type 0

@@ -48,7 +48,8 @@ fn leave_front(leaves: &mut [Entry], behind: &mut [Entry], held: usize)
     requires within { held ≤ length leaves.old }
     requires space { held ≤ length behind.old }
     requires heap { IsHeap (take held leaves.old) }
-    requires low { (p : ℕ) → p < length (take held leaves.old) → index_of (entry_at (take held leaves.old) p) < length leaves.old }
+    requires low { (p : ℕ) → p < length (take held leaves.old)
+        → index_of (entry_at (take held leaves.old) p) < length leaves.old }
     ensures here { StandsIn leaves.new (take held leaves.old) }
     ensures free { (i : ℕ) → i < length leaves.old → HasNo i (take held leaves.old) → entry_at leaves.new i ≡ free_entry }
     ensures long { length leaves.new ≡ length leaves.old }
@@ -90,7 +91,8 @@ pub(crate) fn play_few(entries: &mut Vec<Entry>, held: usize, leaves: usize)
 pub(crate) fn gather(entries: &mut Vec<Entry>, leaves: usize) -> usize
     requires some { 0 < leaves }
     requires leaves { leaves ≤ cyclics }
-    requires own { (i : ℕ) → i < leaves → (entry_at entries.old.items i).moment ≤ never → index_of (entry_at entries.old.items i) ≡ i }
+    requires own { (i : ℕ) → i < leaves → (entry_at entries.old.items i).moment ≤ never
+        → index_of (entry_at entries.old.items i) ≡ i }
     requires tree { IsTree false 0 leaves entries.old.items }
     ensures tree { IsTree true result leaves entries.new.items }
     ensures kept { (i : ℕ) → i < leaves → entry_at (shown true result entries.new.items) i ≡ entry_at entries.old.items i }

@@ -79,7 +79,8 @@ impl Word {
 /// The moment at which a free index has its turn: it comes after every moment.
 const FREE: u64 = u64::MAX;
 
-/// An expiration and the index of its cyclic. Where the index is free, its moment is after every other, and the word means nothing.
+/// An expiration and the index of its cyclic. Where the index is free, its moment is after every other, and the word means
+/// nothing.
 #[derive(Clone, Copy)]
 pub(crate) struct Entry {
     pub moment: u64,

@@ -1,6 +1,7 @@
 //! The heap of expirations, with a look-up by index.
 
-ghost use Rattle.std.specs.Prelude.{◌≡◌, ℕ, ◌+◌, ◌-◌, ◌*◌, ◌/◌, ◌<◌, ◌≤◌, ◌⊎◌, ◌↔◌, ◌++◌, [], ◌∷◌, true, false, max, length, replicate, slice_set};
+ghost use Rattle.std.specs.Prelude.{◌≡◌, ℕ, ◌+◌, ◌-◌, ◌*◌, ◌/◌, ◌<◌, ◌≤◌, ◌⊎◌, ◌↔◌, ◌++◌, [], ◌∷◌, true, false};
+ghost use Rattle.std.specs.Prelude.{max, length, replicate, slice_set};
 ghost use Rattle.std.specs.Prelude.{option_map, Some, None, IsSome, IfSome, IfNone, IfOk, IfErr, OnOk, OnErr, vec_len};
 ghost use Rattle.std.specs.Prelude.{vec_capacity, is_some, count_by};
 ghost use Rattle.cyc_types.specs.Limits.{cyclics};
@@ -25,11 +26,12 @@ use std::marker::Model;
 ///
 /// Few expirations are a heap in an array, as the kernel's, and many are a tournament (our own): a change of any expiration sifts
 /// it among the few, or plays the games above its index again, at most twelve. An insertion that leads from few to many plays all
-/// games, and a removal that leads back sifts all that are left; of the same leaves at least 16 others lie between two such calls.
+/// games, and a removal that leads back sifts all that are left; of the same leaves at least 16 others lie between two such
+/// calls.
 #[derive(Drop)]
 pub struct ExpiryHeap {
-    /// Few expirations as a heap in front, where what stands behind means nothing; or the leaves, and after them the winner of each
-    /// game.
+    /// Few expirations as a heap in front, where what stands behind means nothing; or the leaves, and after them the winner of
+    /// each game.
     entries: Vec<Entry>,
     /// Where the least expiration stands: in front, or as the last winner.
     root: usize,
@@ -66,7 +68,8 @@ impl Model for ExpiryHeap {
     } };
 
     ghost invariant = { λ h. IsTournament h.is_few (take h.held h.entries.items) h.leaves h.size h.given
-        (shown h.is_few h.held h.entries.items) h.free.items × IsFront h.is_few h.held h.root h.leaves h.given h.entries.items h.free.items
+        (shown h.is_few h.held h.entries.items) h.free.items
+        × IsFront h.is_few h.held h.root h.leaves h.given h.entries.items h.free.items
         × (h.size ≤ h.room) × (2 * h.room ≤ suc (vec_capacity h.entries)) × (h.room ≤ vec_capacity h.free) };
 }
 
@@ -111,8 +114,9 @@ impl ExpiryHeap {
         Ok(())
     }
 
-    /// Adds free indexes up to this size (`cyclic_expand`). Takes no memory. O(1), but for a call that lays out more leaves, twice as
-    /// many where the memory is there: it writes fewer than twice `CYCLICS` entries, and where many play it plays all games.
+    /// Adds free indexes up to this size (`cyclic_expand`). Takes no memory. O(1), but for a call that lays out more leaves,
+    /// twice as many where the memory is there: it writes fewer than twice `CYCLICS` entries, and where many play it plays all
+    /// games.
     pub fn widen(&mut self, size: usize)
         requires few { size ≤ cyclics }
         requires reserved { size ≤ self.old.room }
@@ -163,8 +167,8 @@ impl ExpiryHeap {
     }
 
     /// The root where its moment has come: its index, how long ago that was, in nanoseconds, and its id. None where the moment is
-    /// later than `now`, and where no index is in use: one subtraction tells both, since the entry of a free index comes after every
-    /// moment.
+    /// later than `now`, and where no index is in use: one subtraction tells both, since the entry of a free index comes after
+    /// every moment.
     pub fn due_root(&self, now: Moment) -> Option<(Index, u64, CyclicId)>
         ensures none { IfNone result (IsEmpty self.now ⊎ ((i : ℕ) × (e : Expiration) × IsLeast self.now i e × (now < e.moment))) }
         ensures due { IfSome result (λ found. found.1 ≤ now) }
@@ -259,7 +263,7 @@ impl ExpiryHeap {
     {
         if self.is_few {
             return match find(&self.entries.as_slice()[..self.held], index) {
-                Some(place) => self.entries[place],
+                Some(position) => self.entries[position],
                 None => Entry::free(),
             };
         }

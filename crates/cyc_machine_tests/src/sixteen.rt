@@ -7,8 +7,8 @@ use std::fmt::Write;
 /// Its CPUs.
 const CPUS: u32 = 16;
 
-/// Whether all levels of all CPUs follow after the add of this number, counted from 1: then each CPU has filled a bank, the last of
-/// them that of 128.
+/// Whether all levels of all CPUs follow after the add of this number, counted from 1: then each CPU has filled a bank, the last
+/// of them that of 128.
 fn all_follow(number: u32) -> bool {
     CPUS < number && number < MOST && number & (number - 1) == 0
 }

@@ -163,8 +163,8 @@ fn each_script_gives_its_text(rt: HostRuntime) {
 /// The cyclics that a CPU can hold.
 pub(crate) const MOST: u32 = CYCLICS as u32;
 
-/// Whether both soft interrupts follow the add of this number, counted from 1: after each power of two up to 2,048, so that the levels
-/// have followed to the bank that it filled.
+/// Whether both soft interrupts follow the add of this number, counted from 1: after each power of two up to 2,048, so that the
+/// levels have followed to the bank that it filled.
 fn is_drained(number: u32) -> bool {
     1 < number && number < MOST && number & (number - 1) == 0
 }
@@ -209,8 +209,8 @@ pub(crate) fn push_report(text: &mut String, k: u32, calls: u32) -> Result<(), A
     )
 }
 
-/// The text of that script, with these lines of its last steps, and the calls of the first cyclic and of each other that filled the CPU.
-/// The last never expired.
+/// The text of that script, with these lines of its last steps, and the calls of the first cyclic and of each other that filled
+/// the CPU. The last never expired.
 fn filled_text(alloc: Global, lines: &str, first: u32, others: u32) -> Result<String, AllocError> {
     let mut text = String::new(alloc);
     let mut step = 1;

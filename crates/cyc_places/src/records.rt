@@ -156,8 +156,8 @@ impl Records {
         place < self.ids.len() && self.ids[place].id.number() == id.number()
     }
 
-    /// As `find`, by two looks: as far from the first record as the id is above its id, and where `seek` found it last. None unless
-    /// it is at one of them. O(1).
+    /// As `find`, by two looks: as far from the first record as the id is above its id, and where `seek` found it last. None
+    /// unless it is at one of them. O(1).
     #[inline(always)]
     pub fn soon(&self, id: CyclicId) -> Option<usize>
         ensures none { IfNone result ((first r : Record) → IsRecord self.now.list 0 first → first.id ≤ id

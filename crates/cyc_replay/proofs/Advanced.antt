@@ -44,8 +44,8 @@ holds_at now s m h = record {
   called = h.called;
   names = h.names;
   remembers = remembers_on s (at_clock now s) m (record m { clock = now }) h.remembers
-      (record { names = refl; counted = refl; named = refl }) (let same : s.last_id ≤ s.last_id = omega arith in same)
-      (λ id low gone. gone) (λ id low gone. refl);
+      (record { names = refl; named = refl }) (let same : s.last_id ≤ s.last_id = omega arith in same)
+      (λ id low gone. gone) (λ id low gone. gone) (λ id low gone. refl);
   tally = h.tally;
   most = h.most;
   room = h.room;
@@ -66,9 +66,9 @@ begins step now s m few r h before awake fired = record {
   called = h.called;
   system = h.system;
   names = h.names;
-  remembers = remembers_on s s m (record m { clock = now }) h.remembers (record { names = refl; counted = refl; named = refl })
+  remembers = remembers_on s s m (record m { clock = now }) h.remembers (record { names = refl; named = refl })
       (omega arith)
-      (λ id low gone. gone) (λ id low gone. refl);
+      (λ id low gone. gone) (λ id low gone. gone) (λ id low gone. refl);
   tally = h.tally;
   most = h.most;
   room = h.room;
@@ -102,7 +102,7 @@ advanced step k n expired lost now s first t a clock before d =
         names = still.names ∙ a.names;
         remembers = remembers_does [] (λ j. j) k (Advance now) s t t tt (reached_good step s a.reached)
             (in_time now s before a.awake) a.remembers
-            (record { names = refl; counted = refl; named = refl }) (let last = still.last in omega (arith, last));
+            (record { names = refl; named = refl }) (let last = still.last in omega (arith, last));
         tally = a.tally;
         most = a.most;
         room = subst (λ j. HaveRoomFor j t.system.cpus) (sym (ap length still.names)) a.room;

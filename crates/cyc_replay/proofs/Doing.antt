@@ -1,5 +1,5 @@
 -- A step that was done, and one that was refused.
-use Rattle.std.proofs.Common.{◌≡◌, ℕ, ◌+◌, ◌≤◌, List, [], ◌∷◌, length, map, Some, None, ap, sym, ◌∙◌, subst, arith, refl}
+use Rattle.std.proofs.Common.{◌≡◌, ℕ, ◌+◌, ◌≤◌, List, [], ◌∷◌, length, Some, None, ap, sym, ◌∙◌, subst, arith, refl}
 use Rattle.std.specs.Prelude.{Result, Ok, Err}
 use Rattle.cyc_types.specs.Tally.{tally_count}
 use Rattle.cyc_types.specs.declared.refusal.Refusal.{Refusal}
@@ -11,11 +11,12 @@ use Rattle.cyc_model.specs.Refusals.{unless, refusal, after_refusal}
 use Rattle.cyc_model.specs.Script.{refusal_of, does, word}
 use Rattle.cyc_model.proofs.Events.{calls_append}
 use Rattle.cyc_model.proofs.Telling.{tells_steps}
+use Rattle.cyc_cpu_model.specs.Answers.{IsRefused}
 use Rattle.cyc_replay.specs.Shown.{IsSystem, ShowsSystem}
 use Rattle.cyc_replay.specs.SystemWords.{Gives, IsDone, IsDoneWith, IsRefusedFor}
 use Rattle.cyc_replay.specs.declared.machine.Machine.{Machine}
-use Rattle.cyc_replay.specs.Machine.{Holds, Remembers, IsWide, IsReached, AllMost, number_of}
-use Rattle.cyc_replay.specs.Words.{Comes, Accepts, AcceptsWith, Answers}
+use Rattle.cyc_replay.specs.Machine.{Holds, Remembers, IsWide, IsReached, AllMost, numbers_of}
+use Rattle.cyc_replay.specs.Words.{Comes}
 use Rattle.cyc_core.specs.Tables.{Tables}
 use Rattle.cyc_system.specs.System.{SystemView}
 use Rattle.cyc_system.specs.Agreement.{most_on}
@@ -26,6 +27,28 @@ use Rattle.cyc_replay.proofs.Introduced.{introduces_does}
 use Rattle.cyc_replay.proofs.Mosts.{most_kept}
 use Rattle.cyc_replay.proofs.Named.{reached_good}
 use Rattle.cyc_replay.proofs.Remembering.{SameNames, remembers_on, remembers_does}
+
+-- the definition does not refuse the step, and comes to what the machine did, where the cyclics that it puts on CPUs get the
+-- indexes that they got there
+pub record Accepts (x : Step) (s : State) (m : Machine) : Type 0 where
+  pub accepted : refusal_of plain x s ≡ None
+  pub given : List ℕ
+  pub comes : (texts : List (List ℕ)) (indexes : ℕ → ℕ) (step : ℕ) → Gives indexes s.admissions given
+      → Comes given s (does plain texts indexes step x s) m
+
+-- the same of a step whose line tells more: this one, where the step has this number
+pub record AcceptsWith (line : ℕ → List ℕ) (x : Step) (s : State) (m : Machine) : Type 0 where
+  pub accepted : refusal_of plain x s ≡ None
+  pub given : List ℕ
+  pub comes : (texts : List (List ℕ)) (indexes : ℕ → ℕ) (step : ℕ) → Gives indexes s.admissions given
+      → Comes given s (does plain texts indexes step x s) m
+  pub said : (texts : List (List ℕ)) (indexes : ℕ → ℕ) (step : ℕ) → Gives indexes s.admissions given
+      → (does plain texts indexes step x s).line ≡ line step
+
+-- the step is done, or refused for one reason by both; want of memory comes where there is no other reason
+abbrev pub Answers : {A : Type 0} → Step → Result A Refusal → State → Machine → Type 0
+Answers x (Ok done) s m = Accepts x s m
+Answers x (Err e) s m = IsRefused e (refusal_of plain x s) × Holds s m
 
 -- the word of a step that is not refused, and of one that is
 pub word_done : (texts : List (List ℕ)) (indexes : ℕ → ℕ) (step : ℕ) (x : Step) (s : State) → refusal_of plain x s ≡ None
@@ -59,7 +82,7 @@ pub record Leaves (x : Step) (s : State) (n : Machine) : Type 0 where
   pub suspended : (texts : List (List ℕ)) (indexes : ℕ → ℕ) (step : ℕ)
       → (does plain texts indexes step x s).state.suspended ≡ s.suspended
   pub names : (texts : List (List ℕ)) (indexes : ℕ → ℕ) (step : ℕ)
-      → (does plain texts indexes step x s).state.names ≡ map number_of n.names.items
+      → (does plain texts indexes step x s).state.names ≡ numbers_of n.names
   pub last : (texts : List (List ℕ)) (indexes : ℕ → ℕ) (step : ℕ) → s.last_id ≤ (does plain texts indexes step x s).state.last_id
 
 -- what each call of a system keeps, but that a suspend and a resume do not keep the mark
@@ -131,8 +154,9 @@ refuses s m n h kept shows clock tally same = record {
   clock = h.clock ∙ sym clock;
   suspended = kept.suspended;
   called = λ id. ap (λ t. tally_count t id) tally ∙ h.called id;
-  names = h.names ∙ sym (ap (map number_of) same.names);
-  remembers = remembers_on s s m n h.remembers same (omega arith) (λ id low gone. gone) (λ id low gone. refl);
+  names = h.names ∙ sym (ap numbers_of same.names);
+  remembers = remembers_on s s m n h.remembers same (omega arith) (λ id low gone. gone) (λ id low gone. gone)
+      (λ id low gone. refl);
   tally = subst (λ t. IsWide t) (sym tally) h.tally;
   most = kept.most;
   room = kept.room;

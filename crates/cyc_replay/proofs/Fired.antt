@@ -42,7 +42,7 @@ use Rattle.cyc_cpu_model.specs.Shown.{shown}
 use Rattle.cyc_replay.specs.SystemAdvancing.{at_clock, online_below, fired_and_lost, HasFired}
 use Rattle.cyc_replay.specs.Shown.{shown_list, IsSystem}
 use Rattle.cyc_replay.specs.declared.machine.Machine.{Machine}
-use Rattle.cyc_replay.specs.Machine.{IsWide, AllMost, number_of}
+use Rattle.cyc_replay.specs.Machine.{IsWide, AllMost, numbers_of}
 use Rattle.cyc_replay.specs.Advancing.{IsAdvancing}
 use Rattle.cyc_replay.proofs.Mosts.{most_changed}
 use Rattle.cyc_replay.proofs.SystemSuspending.{mark_at}
@@ -284,8 +284,9 @@ passed_on step n expired lost s first m t a same clock names next =
           (sym same) next)));
       called = a.called;
       system = subst (λ v. IsSystem v) (sym system) a.system;
-      names = a.names ∙ sym (ap (map number_of) names.names);
-      remembers = remembers_on s s m t a.remembers names (omega arith) (λ id low gone. gone) (λ id low gone. refl);
+      names = a.names ∙ sym (ap numbers_of names.names);
+      remembers = remembers_on s s m t a.remembers names (omega arith) (λ id low gone. gone) (λ id low gone. gone)
+          (λ id low gone. refl);
       room = subst (λ (v : SystemView Tables). HaveRoomFor (length s.names) v.cpus) (sym system) a.room;
       tally = subst (λ x. IsWide x) (sym tally) a.tally;
       most = subst (λ (v : SystemView Tables). AllMost v.cpus) (sym system) a.most;

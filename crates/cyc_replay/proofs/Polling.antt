@@ -1,7 +1,7 @@
 -- A poll of an open removal on all CPUs, and the polls of several.
 use Rattle.std.proofs.Common.{◌≡◌, ◌≢◌, ℕ, ◌-◌, ◌==◌, inl, inr, eqb-true, Bool, true, false, cond, List, [], ◌∷◌, ◌++◌, map}
 use Rattle.std.proofs.Common.{filter, Option, Some, None, refl, ap, sym, ◌∙◌, subst, arith}
-use Rattle.std.specs.Prelude.{Ok, Err}
+use Rattle.std.specs.Prelude.{Ok, Err, not, is_some}
 use Rattle.std.specs.Option.{option_map_or}
 use Rattle.std.proofs.lemmas.List.{append-nil}
 use Rattle.cyc_types.specs.declared.receipt.Receipt.{Receipt}
@@ -17,7 +17,8 @@ use Rattle.cyc_model.specs.Acts.{calls_of}
 use Rattle.cyc_model.specs.Cpu.{Cpu, cyclic_of}
 use Rattle.cyc_model.specs.Questions.{plain, outstanding_here}
 use Rattle.cyc_model.specs.State.{State, Outcome, Placed, cpu_of, nothing, before, numbers, cpus_with, each}
-use Rattle.cyc_model.specs.Places.{is_leaving, keep_counts}
+use Rattle.cyc_model.specs.Places.{is_leaving, is_unknown, keep_counts}
+use Rattle.cyc_model.proofs.Placing.{place_forgotten}
 use Rattle.cyc_model.specs.Remove.{poll, clear_if, answered}
 use Rattle.cyc_model.specs.Report.{counts_of}
 use Rattle.cyc_model.specs.Softint.{interrupt, is_open, text_of_id, polled, poll_id, leaving_ids}
@@ -144,6 +145,20 @@ module _ (texts : List (List ℕ)) (step id : ℕ) (m : State) (v w : SystemView
       ap (λ ks. counts_of id (polled step text id ks parts).state) (nowhere id receipt parts.state u w c.shows c.half answers)
       ∙ counts_left id receipt parts.state u w c.shows c.half answers ∙ ap (told_by receipt) (c.called id)
 
+  -- it is known no more, and the receipt is its own
+  pub polled_unknown : (receipt : Receipt) → PollsRemoval raise_tables id (Ok (Some receipt)) v w
+      → is_unknown id (poll_id plain texts step id m).state ≡ true
+  polled_unknown receipt (inl (e, some, said, same)) = absurd (let isnt : Ok (Some receipt) ≡ Err e = said in cc)
+  polled_unknown receipt (inr (none, (way, u, ns, did, answers))) =
+      let c = (comes_all way u ns did).came in
+      ap (λ ks. is_unknown id (polled step text id ks parts).state) (nowhere id receipt parts.state u w c.shows c.half answers)
+      ∙ ap (λ o. not (is_some o)) (place_forgotten id parts.state)
+
+pub receipt_polled : (id : ℕ) (receipt : Receipt) (v w : SystemView Tables) → PollsRemoval raise_tables id (Ok (Some receipt)) v w
+    → receipt.id ≡ id
+receipt_polled id receipt v w (inl (e, some, said, same)) = absurd (let isnt : Ok (Some receipt) ≡ Err e = said in cc)
+receipt_polled id receipt v w (inr (none, (way, u, ns, did, answers))) = answers.counts.id ∙ answers.named
+
 -- ---- several
 
 module _ (texts : List (List ℕ)) (step : ℕ) (m : State) where
@@ -200,6 +215,15 @@ module _ (texts : List (List ℕ)) (step : ℕ) (m : State) where
   polls_tell ids lines id receipt v w sys h did =
       ap (λ (x : Outcome). counts_of id x.state) (one_more ids id)
       ∙ polled_counts texts step id (polls ids).state v w sys h.comes.shows receipt did ∙ ap (told_by receipt) (h.called id)
+
+  -- the definition knows the cyclic no more
+  pub polls_forget : (ids lines : List ℕ) (id : ℕ) (receipt : Receipt) (v w : SystemView Tables) → IsSystem v
+      → HavePolled texts step ids lines m v
+      → PollsRemoval raise_tables id (Ok (Some receipt)) v w
+      → is_unknown id (polls (ids ++ id ∷ [])).state ≡ true
+  polls_forget ids lines id receipt v w sys h did =
+      ap (λ (x : Outcome). is_unknown id x.state) (one_more ids id)
+      ∙ polled_unknown texts step id (polls ids).state v w sys h.comes.shows receipt did
 
 -- ---- all of them
 

@@ -1,7 +1,7 @@
 -- A removal is the word remove.
 use Rattle.std.proofs.Common.{◌≡◌, ◌≢◌, ℕ, zero, suc, ◌+◌, ◌-◌, ◌<◌, inl, inr, Bool, true, false, List, [], ◌∷◌, length, map}
 use Rattle.std.proofs.Common.{sum_by, get_or, Option, Some, None, refl, ap, sym, ◌∙◌, subst, arith}
-use Rattle.std.specs.Prelude.{is_some, Ok, Err}
+use Rattle.std.specs.Prelude.{not, is_some, Ok, Err}
 use Rattle.std.specs.List.{slice_get}
 use Rattle.std.specs.Option.{option_and_then}
 use Rattle.cyc_types.specs.declared.receipt.Receipt.{Receipt}
@@ -26,6 +26,7 @@ use Rattle.cyc_model.specs.Places.{id_of, is_unknown}
 use Rattle.cyc_types.specs.Reasons.{first_refusal, when, busy}
 use Rattle.cyc_model.specs.Remove.{busy_on_each, remove_id_refusal, begin, answered, begun, with_answer, kept_on}
 use Rattle.cyc_model.specs.Script.{text_in}
+use Rattle.cyc_model.proofs.Placing.{place_forgotten}
 use Rattle.cyc_model.proofs.Numbers.{Has, RiseFrom, numbers_rise, numbers_pass}
 use Rattle.cyc_model.proofs.Rising.{found, any_found}
 use Rattle.cyc_cpu_model.proofs.Free.{none_admitted}
@@ -177,6 +178,19 @@ module _ (name : ℕ) (m : State) (v w : SystemView Tables) (sys : IsSystem v) (
             ∙ counts_left own_id receipt o.state u w c.shows c.half answers ∙ ap (told_by receipt) (c.called own_id);
       }
 
+  -- the definition knows the cyclic no more, and the receipt is its own
+  pub remove_forgets : (receipt : Receipt) → BeginsRemoval raise_tables (id_of name m) (Ok (system.Done receipt)) v w
+      → (step : ℕ) (text : List ℕ) → is_unknown own_id (with_answer plain step text own_id
+      (each (begin plain own_id) (cpus_with own_id m) m)).state ≡ true
+  remove_forgets receipt (inl (e, some, answer, same)) step text =
+      absurd (let isnt : Ok (system.Done receipt) ≡ Err e = answer in cc)
+  remove_forgets receipt (inr (none, (way, u, ns, begins, answers))) step text =
+      let o = parts own_id way m v u h (half v sys) ns begins in
+      let c = came own_id way m v u h (half v sys) ns begins in
+      ap (λ ks. is_unknown own_id (begun plain step text own_id ks o).state)
+      (nowhere own_id receipt o.state u w c.shows c.half answers)
+      ∙ ap (λ p. not (is_some p)) (place_forgotten own_id o.state)
+
   pub remove_kept : (waits : ℕ) → BeginsRemoval raise_tables (id_of name m) (Ok (system.Kept waits)) v w → IsKept name waits m w
   remove_kept waits (inl (e, some, answer, same)) = absurd (let isnt : Ok (system.Kept waits) ≡ Err e = answer in cc)
   remove_kept waits (inr (none, (way, ns, begins, some, is_kept))) =
@@ -212,3 +226,9 @@ module _ (name : ℕ) (m : State) (v w : SystemView Tables) (sys : IsSystem v) (
     subst (ShowsSystem m) (sym same) h,
   )
   remove_refused e (inr (none, did)) = absurd did
+
+pub receipt_removed : (id : ℕ) (receipt : Receipt) (v w : SystemView Tables)
+    → BeginsRemoval raise_tables id (Ok (system.Done receipt)) v w → receipt.id ≡ id
+receipt_removed id receipt v w (inl (e, some, answer, same)) =
+    absurd (let isnt : Ok (system.Done receipt) ≡ Err e = answer in cc)
+receipt_removed id receipt v w (inr (none, (way, u, ns, begins, answers))) = answers.counts.id ∙ answers.named

@@ -249,8 +249,8 @@ served_holds step i made s m t g h served kept wide = record {
       omega (arith, a, b, c);
   names = h.names;
   remembers = remembers_on s (interrupt step i s).state m (record m { system = t.system; tally = t.calls }) h.remembers
-      (record { names = refl; counted = refl; named = refl }) (let same : s.last_id ≤ s.last_id = omega arith in same)
-      (λ id low gone. gone)
+      (record { names = refl; named = refl }) (let same : s.last_id ≤ s.last_id = omega arith in same)
+      (λ id low gone. gone) (λ id low gone. gone)
       (λ id low gone. gone_interrupt step i id s g (low, unknown_gone id s gone) served.accepted);
   tally = wide;
   most = kept.most;

@@ -1,6 +1,6 @@
 -- The machine before the first step.
 use Rattle.std.proofs.Common.{◌≡◌, ℕ, zero, suc, ◌+◌, ◌-◌, ◌^◌, ◌<◌, ◌≤◌, inl, inr, List, [], ◌∷◌, ◌++◌, length, map, Bool, true}
-use Rattle.std.proofs.Common.{false, cond, nat_lt, get_or, pow_pos, All, Some, None, refl, ap, sym, ◌∙◌, subst, arith}
+use Rattle.std.proofs.Common.{false, cond, nat_lt, get_or, pow_pos, All, Some, refl, ap, sym, ◌∙◌, subst, arith}
 use Rattle.std.specs.Prelude.{replicate, max, min}
 use Rattle.std.proofs.lemmas.List.{get_or-replicate, length-replicate}
 use Rattle.std.proofs.lemmas.List.Elements.{All-append}
@@ -20,7 +20,8 @@ use Rattle.cyc_replay.specs.Kept.{AreNew, new_system}
 use Rattle.cyc_agreement.specs.Suspending.{is_suspended}
 use Rattle.std.specs.Option.{option_map, option_map_or}
 use Rattle.cyc_replay.specs.declared.machine.Machine.{Machine}
-use Rattle.cyc_replay.specs.Machine.{Holds, IsWide, AllMost, number_of, id_at}
+use Rattle.cyc_words.specs.declared.named.Named.TheVariants.{Nothing}
+use Rattle.cyc_replay.specs.Machine.{Holds, IsWide, AllMost, numbers_of, id_in, id_at}
 use Rattle.cyc_replay.specs.Beginning.{IsEmpty, HasReserved}
 use Rattle.std.specs.Prelude.{slice_set, Ok, Err}
 use Rattle.std.specs.List.{slice_get}
@@ -91,27 +92,27 @@ wide t is = subst IsWide (sym is) (record { first = refl; len = length-replicate
 
 -- ---- the whole
 
-no_ids : (n : ℕ) → replicate n 0 ≡ map number_of (replicate n None)
+no_ids : (n : ℕ) → replicate n 0 ≡ numbers_of (replicate n Nothing)
 no_ids zero = refl
 no_ids (suc n) = ap (λ ns. 0 ∷ ns) (no_ids n)
 
 pub held_new : (cpus ceiling names : ℕ) (m : Machine) → m.clock ≡ 0 → m.tally ≡ tally_made 1 65536 (2 ^ 64 - 1)
-    → m.names.items ≡ replicate names None → length m.counted.items ≡ names → length m.named.items ≡ 65536 → AllMost m.system.cpus
+    → m.names ≡ replicate names Nothing → length m.named.items ≡ 65536 → AllMost m.system.cpus
     → HaveRoomFor names m.system.cpus → is_suspended m.system ≡ false
     → IsSystem m.system × ShowsSystem (start cpus ceiling names) m.system
     → Holds (start cpus ceiling names) m
-held_new cpus ceiling names m clock tally ids counted named most room awake shown = record {
+held_new cpus ceiling names m clock tally ids named most room awake shown = record {
   system = shown.0;
   shows = shown.1;
   clock = sym clock;
   suspended = sym awake;
   called = λ id. ap (λ t. tally_count t id) tally ∙ none_counted (nat_lt id 1) (id - 1) 65536;
-  names = no_ids names ∙ sym (ap (map number_of) ids);
+  names = no_ids names ∙ sym (ap numbers_of ids);
   remembers = record {
     given = λ name id is. absurd (nobody name id is);
     named = λ name id is. absurd (nobody name id is);
+    removed = λ name receipt is. absurd (nobody name receipt.id (ap id_in is));
     counted = λ name id is. absurd (nobody name id is);
-    names = counted ∙ sym (ap length ids ∙ length-replicate names None);
     ids = named;
   };
   tally = wide m.tally tally;
@@ -119,12 +120,12 @@ held_new cpus ceiling names m clock tally ids counted named most room awake show
   room = subst (λ k. HaveRoomFor k m.system.cpus) (sym (length-replicate names 0)) room;
 }
   where
-    none_in : (k n id : ℕ) → id_at (replicate n None) k ≡ Some id → ⊥
+    none_in : (k n id : ℕ) → id_at (replicate n Nothing) k ≡ Some id → ⊥
     none_in k zero id is = none_some is
     none_in zero (suc n) id is = none_some is
     none_in (suc k) (suc n) id is = none_in k n id is
 
-    nobody : (name id : ℕ) → id_at m.names.items name ≡ Some id → ⊥
+    nobody : (name id : ℕ) → id_at m.names name ≡ Some id → ⊥
     nobody name id is = none_in name names id (sym (ap (λ xs. id_at xs name) ids) ∙ is)
 
 -- ---- memory for cyclics

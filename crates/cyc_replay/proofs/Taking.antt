@@ -12,7 +12,8 @@ use Rattle.cyc_model.specs.Script.{refusal_of, does}
 use Rattle.cyc_cpu_model.specs.Answers.{IsRefused}
 use Rattle.cyc_replay.specs.declared.machine.Machine.{Machine}
 use Rattle.cyc_replay.specs.Machine.{Holds}
-use Rattle.cyc_replay.specs.Words.{Comes, Accepts, AcceptsWith, Answers, TakesWord, answer_line}
+use Rattle.cyc_replay.specs.Words.{Comes, TakesWord, answer_line}
+use Rattle.cyc_replay.proofs.Doing.{Accepts, AcceptsWith, Answers}
 use Rattle.cyc_replay.proofs.Doing.{word_done, word_refused}
 
 -- the word says nothing else where it is done

@@ -5,12 +5,16 @@ ghost use Rattle.cyc_types.specs.Tally.{tally_count};
 ghost use Rattle.cyc_model.specs.State.{State};
 ghost use Rattle.cyc_model.specs.Places.{id_of};
 ghost use Rattle.cyc_model.specs.Report.{counts_of};
+ghost use Rattle.cyc_types.specs.declared.receipt.Receipt.{Receipt};
+ghost use Rattle.cyc_words.specs.declared.named.Named.TheVariants.{Removed};
+ghost use Rattle.cyc_replay.specs.Removal.{told_by};
 ghost use Rattle.cyc_replay.specs.Machine.{Holds, IsReached};
 
-use crate::machine::{Machine, counted_of, id_of};
+use crate::machine::{Machine, id_in};
 use crate::system_laws::{kept_law, report_law};
 use cyc_text::Counts;
 use cyc_types::{CyclicId, Tally};
+use cyc_words::Named;
 
 /// The calls of an id's handler.
 fn called_by(tally: &Tally, id: CyclicId) -> u64
@@ -31,6 +35,21 @@ fn no_counts() -> Counts
     }
 }
 
+/// What the receipt of a name's cyclic leaves to be told, whose handler was called so often.
+fn counts_left(named: Named, called: u128) -> Counts
+    ensures { (receipt : Receipt) → named ≡ Removed receipt → result ≡ told_by receipt called }
+{
+    match named {
+        Named::Removed(receipt) => Counts {
+            expired: receipt.sent,
+            called,
+            lost: receipt.lost,
+            pending: 0,
+        },
+        _ => no_counts(),
+    }
+}
+
 /// The counts of a name's cyclic over all CPUs and all of its stays, with the calls of its handler, also once its removal has
 /// answered. All are 0 where no add of the name was accepted.
 pub fn name_counts(machine: &mut Machine, name: usize) -> Counts
@@ -39,20 +58,14 @@ pub fn name_counts(machine: &mut Machine, name: usize) -> Counts
 {
     report_law();
     kept_law::<Tally>();
-    let Some(id) = id_of(&machine.names, name) else {
+    let Some(id) = id_in(machine.names.at(name)) else {
         return no_counts();
     };
     let called = u128::from(called_by(&machine.tally, id));
     let answer = machine.system.totals(id);
     machine.system.law();
     let Some(totals) = answer else {
-        let counted = counted_of(&machine.counted, name);
-        return Counts {
-            expired: counted.expired,
-            called,
-            lost: counted.lost,
-            pending: 0,
-        };
+        return counts_left(machine.names.at(name), called);
     };
     Counts {
         expired: totals.expired,

@@ -16,8 +16,8 @@ use ring_rule::Setting;
 use ring_steps::{FiringSide, INDEXES, SoftSide};
 use std::alloc::{AllocError, Global};
 
-/// For each index the id of its cyclic, 0 where it is free, and the counts of its stay; and its pend word, once the ring is closed. They
-/// stand in memory of their own, so that a seat or a closed ring that is moved copies little.
+/// For each index the id of its cyclic, 0 where it is free, and the counts of its stay; and its pend word, once the ring is
+/// closed. They stand in memory of their own, so that a seat or a closed ring that is moved copies little.
 #[derive(Drop)]
 pub struct Stays {
     pub(crate) ids: [u64; INDEXES],

@@ -40,8 +40,8 @@ impl<R: Raise> System<R> {
 
     /// Makes every expiration of one CPU that is due at `now` (`cyclic_fire`).
     ///
-    /// Refuses with NoCpu where there is no such CPU, then with Offline, and then as `Hard::fire`: with Suspended, BadNow, CountSpent
-    /// or HandlerRefused. Takes no memory.
+    /// Refuses with NoCpu where there is no such CPU, then with Offline, and then as `Hard::fire`: with Suspended, BadNow,
+    /// CountSpent or HandlerRefused. Takes no memory.
     pub fn fire_one<C: Calls>(
         &mut self,
         cpu: u32,

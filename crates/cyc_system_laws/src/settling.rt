@@ -44,8 +44,8 @@ pub fn settled_law<R: Raise>()
     ensures counted { (n : ℕ) (report : Report) (s t : SystemView R) → (moves : MovesAway R.Raise n report s t)
         → (length (refused_turns R.Raise n (single_ids n s) report s t moves) ≡ report.refused)
         × All (IsRefusedTurn R.Raise n) (refused_turns R.Raise n (single_ids n s) report s t moves) }
-    // It refuses with Busy or Pending only where it had not settled when the step began, and with Expanding only there or where an
-    // earlier turn of the same step has made it grow.
+    // It refuses with Busy or Pending only where it had not settled when the step began, and with Expanding only there or where
+    // an earlier turn of the same step has made it grow.
     ensures stopped { (n : ℕ) (report : Report) (s t : SystemView R) → (moves : MovesAway R.Raise n report s t)
         → All (λ turn. IsUntil turn.why → IsUnsettledOrGrown R.view s turn)
         (refused_turns R.Raise n (single_ids n s) report s t moves) }

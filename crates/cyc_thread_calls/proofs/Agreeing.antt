@@ -22,12 +22,13 @@ use Rattle.cyc_threads.specs.System.{SystemView}
 use Rattle.cyc_threads.specs.Calls.{Changes, Online, reprograms}
 use Rattle.cyc_threads.specs.Sound.{IsSound}
 use Rattle.cyc_system_rings.specs.Leading.{LeadCall, Make, FireAll, AskAll}
-use Rattle.cyc_threads.specs.declared.named.Named.{Named}
-use Rattle.cyc_threads.specs.declared.named.Named.TheVariants.{Nothing, Cyclic, Leaving, Removed}
+use Rattle.cyc_words.specs.declared.named.Named.{Named}
+use Rattle.cyc_words.specs.declared.named.Named.TheVariants.{Nothing, Cyclic, Leaving, Removed}
 use Rattle.cyc_threads.specs.declared.progress.Progress.{Progress}
 use Rattle.cyc_threads.specs.StepCalls.{CallsFor}
-use Rattle.cyc_threads.specs.Names.{named_at, id_of, is_leaving, NoneLeaves}
-use Rattle.cyc_threads.specs.Words.{Does, WithId}
+use Rattle.cyc_words.specs.Names.{named_at, id_of, is_leaving, NoneLeaves}
+use Rattle.cyc_words.specs.Words.{WithId}
+use Rattle.cyc_threads.specs.Words.{Does}
 use Rattle.cyc_thread_calls.specs.Leading.{call_with}
 use Rattle.cyc_thread_calls.specs.Meeting.{accepted, is_taken as is_done}
 use Rattle.cyc_thread_calls.specs.Way.{Standing, Absent, OnOne, OnAll, may_reprogram, is_taken, after_step}

@@ -18,10 +18,10 @@ use Rattle.cyc_threads.proofs.Spots.{none_some, same_some}
 use Rattle.cyc_threads.specs.Lead.{Lead}
 use Rattle.cyc_threads.specs.Seated.{Seated}
 use Rattle.cyc_threads.specs.Rings.{seats_of_ends, firing_seats}
-use Rattle.cyc_threads.specs.declared.named.Named.{Named}
-use Rattle.cyc_threads.specs.declared.named.Named.TheVariants.{Nothing}
+use Rattle.cyc_words.specs.declared.named.Named.{Named}
+use Rattle.cyc_words.specs.declared.named.Named.TheVariants.{Nothing}
 use Rattle.cyc_threads.specs.declared.progress.Progress.{Progress}
-use Rattle.cyc_threads.specs.Names.{named_at, id_of, is_leaving}
+use Rattle.cyc_words.specs.Names.{named_at, id_of, is_leaving}
 use Rattle.cyc_threads.specs.Running.{IsAtFirst, most}
 use Rattle.cyc_thread_calls.specs.Way.{Absent}
 use Rattle.cyc_thread_calls.proofs.Fitting.{Is, Fits}

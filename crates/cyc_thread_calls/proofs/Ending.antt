@@ -26,12 +26,12 @@ use Rattle.cyc_threads.specs.Calls.{Changes, BeginRemove}
 use Rattle.cyc_threads.specs.SystemSide.{SystemSide}
 use Rattle.cyc_threads.specs.Advanced.{Advanced}
 use Rattle.cyc_threads.specs.Advancing.{AllFire, moment_asked, FiresIf}
-use Rattle.cyc_threads.specs.declared.named.Named.{Named}
-use Rattle.cyc_threads.specs.declared.named.Named.TheVariants.{Nothing, Cyclic, Leaving, Removed}
+use Rattle.cyc_words.specs.declared.named.Named.{Named}
+use Rattle.cyc_words.specs.declared.named.Named.TheVariants.{Nothing, Cyclic, Leaving, Removed}
 use Rattle.cyc_threads.specs.declared.progress.Progress.{Progress}
 use Rattle.cyc_threads.specs.StepCalls.{CallsFor, Fires}
-use Rattle.cyc_threads.specs.Names.{named_at, id_of, is_leaving, NoneLeaves}
-use Rattle.cyc_threads.specs.Words.{WithId}
+use Rattle.cyc_words.specs.Names.{named_at, id_of, is_leaving, NoneLeaves}
+use Rattle.cyc_words.specs.Words.{WithId}
 use Rattle.cyc_thread_calls.specs.Leading.{call_with}
 use Rattle.cyc_thread_calls.specs.Meeting.{is_taken as is_done}
 use Rattle.cyc_thread_calls.specs.Way.{Standing, Absent, OnOne, OnAll, is_here, with_standing}

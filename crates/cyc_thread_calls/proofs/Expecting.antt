@@ -8,7 +8,7 @@ use Rattle.cyc_script.specs.WellFormed.{IsWellFormed}
 use Rattle.cyc_expected.specs.Course.{Told, untold, told_by}
 use Rattle.cyc_expected.specs.Expected.{events_of, expected}
 use Rattle.cyc_threads.specs.Sound.{IsSound}
-use Rattle.cyc_threads.specs.declared.named.Named.TheVariants.{Nothing}
+use Rattle.cyc_words.specs.declared.named.Named.TheVariants.{Nothing}
 use Rattle.cyc_threads.specs.declared.progress.Progress.{Progress}
 use Rattle.cyc_threads.specs.declared.counting.Line.{Line}
 use Rattle.cyc_threads.specs.Steps.{Runs}

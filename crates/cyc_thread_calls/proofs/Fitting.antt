@@ -23,11 +23,11 @@ use Rattle.cyc_threads.proofs.Pieces.{made_of}
 use Rattle.cyc_threads.specs.Keeping.{TouchesRecord}
 use Rattle.cyc_threads.proofs.Looked.{look_kept}
 use Rattle.cyc_system_rings.proofs.Raising.{changes_long}
-use Rattle.cyc_threads.specs.declared.named.Named.{Named}
-use Rattle.cyc_threads.specs.declared.named.Named.TheVariants.{Nothing, Cyclic, Leaving, Removed}
+use Rattle.cyc_words.specs.declared.named.Named.{Named}
+use Rattle.cyc_words.specs.declared.named.Named.TheVariants.{Nothing, Cyclic, Leaving, Removed}
 use Rattle.cyc_threads.specs.declared.progress.Progress.{Progress}
 use Rattle.cyc_threads.specs.StepCalls.{CallsFor, IsReady}
-use Rattle.cyc_threads.specs.Names.{named_at, id_of}
+use Rattle.cyc_words.specs.Names.{named_at, id_of}
 use Rattle.cyc_thread_calls.specs.Way.{Standing, Absent, OnOne, OnAll, with_standing}
 
 -- ---- the names

@@ -9,9 +9,9 @@ use Rattle.cyc_types.specs.declared.receipt.Receipt.{Receipt}
 use Rattle.cyc_threads.proofs.Spots.{same_some, none_some}
 use Rattle.cyc_system_rings.specs.Leading.{LeadCall}
 use Rattle.cyc_system_rings.specs.Rings.{receipt_of, receipt_in, first_of}
-use Rattle.cyc_threads.specs.declared.named.Named.{Named}
-use Rattle.cyc_threads.specs.declared.named.Named.TheVariants.{Nothing, Cyclic, Leaving, Removed}
-use Rattle.cyc_threads.specs.Names.{named_at, id_of}
+use Rattle.cyc_words.specs.declared.named.Named.{Named}
+use Rattle.cyc_words.specs.declared.named.Named.TheVariants.{Nothing, Cyclic, Leaving, Removed}
+use Rattle.cyc_words.specs.Names.{named_at, id_of}
 
 -- receipts of two runs of calls
 pub receipt_on : (id : ℕ) (xs ys : List LeadCall) → receipt_in id (xs ++ ys) ≡ first_of (receipt_in id xs) (receipt_in id ys)

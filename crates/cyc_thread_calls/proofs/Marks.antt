@@ -21,9 +21,9 @@ use Rattle.cyc_threads.specs.SystemSide.{SystemSide}
 use Rattle.cyc_threads.specs.Advancing.{moment_asked, FiresIf}
 use Rattle.cyc_threads.specs.declared.progress.Progress.{Progress}
 use Rattle.cyc_threads.specs.StepCalls.{CallsFor, Poll, Polls, Settles, Fires, IsReady}
-use Rattle.cyc_threads.specs.Names.{named_at, id_of}
+use Rattle.cyc_words.specs.Names.{named_at, id_of}
 use Rattle.cyc_threads.specs.Words.{Does, Begins, waits_first}
-use Rattle.cyc_threads.proofs.Within.{with_series, with_moment, with_id}
+use Rattle.cyc_words.proofs.Within.{with_series, with_moment, with_id}
 use Rattle.cyc_threads.proofs.Spots.{get_some}
 use Rattle.cyc_system_rings.proofs.Suspending.{marks_each}
 use Rattle.cyc_threads.proofs.Pieces.{LeavesMarks, marks_same}

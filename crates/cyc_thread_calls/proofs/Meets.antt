@@ -21,9 +21,10 @@ use Rattle.cyc_threads.specs.Calls.{reprograms}
 use Rattle.cyc_system_rings.specs.Leading.{LeadCall, Make, AskAll}
 use Rattle.cyc_system_rings.specs.Events.{event_in, events_in}
 use Rattle.cyc_threads.specs.declared.progress.Progress.{Progress}
-use Rattle.cyc_threads.specs.Names.{named_at, id_of}
+use Rattle.cyc_words.specs.Names.{named_at, id_of}
 use Rattle.cyc_threads.specs.StepCalls.{CallsFor, Poll, Polls, Waits}
-use Rattle.cyc_threads.specs.Words.{WithId, Does, Begins, waits_first}
+use Rattle.cyc_words.specs.Words.{WithId}
+use Rattle.cyc_threads.specs.Words.{Does, Begins, waits_first}
 use Rattle.cyc_threads.specs.Steps.{TakesSteps}
 use Rattle.cyc_thread_calls.specs.Leading.{calls_in, poll_calls, wait_calls, begin_calls, call_with, call_of, steps_calls}
 use Rattle.cyc_thread_calls.specs.Meeting.{is_taken, accepted, steps_met}

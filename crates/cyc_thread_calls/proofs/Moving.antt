@@ -29,8 +29,8 @@ use Rattle.cyc_threads.specs.Keeping.{TouchesRecord}
 use Rattle.cyc_threads.specs.Sound.{IsSound}
 use Rattle.cyc_threads.specs.declared.progress.Progress.{Progress}
 use Rattle.cyc_threads.specs.StepCalls.{CallsFor}
-use Rattle.cyc_threads.specs.Names.{NoneLeaves}
-use Rattle.cyc_threads.specs.Words.{WithId}
+use Rattle.cyc_words.specs.Names.{NoneLeaves}
+use Rattle.cyc_words.specs.Words.{WithId}
 use Rattle.cyc_thread_calls.specs.Way.{Standing}
 use Rattle.cyc_thread_calls.proofs.Keeping.{AllStill, IsMove, keeps_call, last_move, quiet_move}
 use Rattle.cyc_thread_calls.proofs.Fitting.{IsThere, Fits, fits_same}

@@ -20,12 +20,13 @@ use Rattle.cyc_threads.specs.Calls.{SystemCall, Changes, Add, AddOmni, Bind, Beg
 use Rattle.cyc_threads.proofs.Pieces.{made_of}
 use Rattle.cyc_system_rings.specs.Leading.{LeadCall, Make, FireAll, AskAll}
 use Rattle.cyc_system_rings.specs.Rings.{receipt_of, first_of}
-use Rattle.cyc_threads.specs.declared.named.Named.{Named}
-use Rattle.cyc_threads.specs.declared.named.Named.TheVariants.{Nothing, Cyclic, Leaving, Removed}
+use Rattle.cyc_words.specs.declared.named.Named.{Named}
+use Rattle.cyc_words.specs.declared.named.Named.TheVariants.{Nothing, Cyclic, Leaving, Removed}
 use Rattle.cyc_threads.specs.declared.progress.Progress.{Progress}
-use Rattle.cyc_threads.specs.Names.{named_at, id_of, news, noted}
+use Rattle.cyc_words.specs.Names.{named_at, id_of, news, noted}
 use Rattle.cyc_threads.specs.StepCalls.{CallsFor, Poll, Polls, Waits}
-use Rattle.cyc_threads.specs.Words.{WithId, Does, Begins, waits_first}
+use Rattle.cyc_words.specs.Words.{WithId}
+use Rattle.cyc_threads.specs.Words.{Does, Begins, waits_first}
 use Rattle.cyc_threads.specs.Steps.{TakesSteps, Runs}
 use Rattle.cyc_thread_calls.specs.Leading.{calls_in, poll_calls, wait_calls, begin_calls, call_with, call_of}
 use Rattle.cyc_thread_calls.specs.Leading.{steps_calls, run_calls}

@@ -5,9 +5,9 @@ use Rattle.cyc_thread_calls.proofs.Polled.{set_at}
 use Rattle.cyc_threads.proofs.Spots.{same_some, none_some}
 use Rattle.cyc_threads.specs.SystemRemoval.TheVariants.{Done, Kept}
 use Rattle.cyc_threads.specs.Calls.{SystemCall, Add, AddOmni, BeginRemove, PollRemove}
-use Rattle.cyc_threads.specs.declared.named.Named.{Named}
-use Rattle.cyc_threads.specs.declared.named.Named.TheVariants.{Nothing, Cyclic, Leaving, Removed}
-use Rattle.cyc_threads.specs.Names.{named_at, id_of, news, noted}
+use Rattle.cyc_words.specs.declared.named.Named.{Named}
+use Rattle.cyc_words.specs.declared.named.Named.TheVariants.{Nothing, Cyclic, Leaving, Removed}
+use Rattle.cyc_words.specs.Names.{named_at, id_of, news, noted}
 
 -- the ids that a call is about
 abbrev pub IsFor : ℕ → SystemCall → Type 0

@@ -19,8 +19,9 @@ use Rattle.cyc_system_rings.specs.Rings.{first_of}
 use Rattle.cyc_system_rings.specs.ByLevel.{level_given, level_in}
 use Rattle.cyc_threads.specs.declared.progress.Progress.{Progress}
 use Rattle.cyc_threads.specs.StepCalls.{CallsFor}
-use Rattle.cyc_threads.specs.Names.{named_at, id_of}
-use Rattle.cyc_threads.specs.Words.{WithId, Does, waits_first}
+use Rattle.cyc_words.specs.Names.{named_at, id_of}
+use Rattle.cyc_words.specs.Words.{WithId}
+use Rattle.cyc_threads.specs.Words.{Does, waits_first}
 use Rattle.cyc_threads.specs.Steps.{TakesSteps}
 use Rattle.cyc_thread_calls.specs.Leading.{calls_in, begin_calls, call_with, call_of, steps_calls}
 use Rattle.cyc_thread_calls.specs.Giving.{given_by, given_in, later_id, id_in_steps}

@@ -29,14 +29,15 @@ use Rattle.cyc_threads.specs.SystemRemoval.{SystemRemoval}
 use Rattle.cyc_threads.specs.SystemRemoval.TheVariants.{Done, Kept}
 use Rattle.cyc_threads.specs.SystemSide.{SystemSide}
 use Rattle.cyc_threads.specs.Calls.{SystemCall, Bind, BeginRemove, PollRemove, reprograms}
-use Rattle.cyc_threads.specs.declared.named.Named.{Named}
-use Rattle.cyc_threads.specs.declared.named.Named.TheVariants.{Nothing, Cyclic, Leaving, Removed}
+use Rattle.cyc_words.specs.declared.named.Named.{Named}
+use Rattle.cyc_words.specs.declared.named.Named.TheVariants.{Nothing, Cyclic, Leaving, Removed}
 use Rattle.cyc_threads.specs.declared.progress.Progress.{Progress}
 use Rattle.cyc_threads.specs.StepCalls.{CallsFor, Poll, Polls, Waits, Fires}
-use Rattle.cyc_threads.specs.Names.{named_at, id_of, is_leaving as leaves, NoneLeaves, news, noted}
+use Rattle.cyc_words.specs.Names.{named_at, id_of, is_leaving as leaves, NoneLeaves, news, noted}
 use Rattle.cyc_threads.specs.Counting.{Told, Tells, TellsOf, Reports}
 use Rattle.cyc_threads.specs.declared.counting.Line.{Line}
-use Rattle.cyc_threads.specs.Words.{WithId, Does, Begins, waits_first}
+use Rattle.cyc_words.specs.Words.{WithId}
+use Rattle.cyc_threads.specs.Words.{Does, Begins, waits_first}
 use Rattle.cyc_threads.specs.Steps.{TakesSteps, Runs}
 use Rattle.cyc_threads.specs.declared.running.Ended.{Ended}
 use Rattle.cyc_threads.specs.Running.{HasRun}

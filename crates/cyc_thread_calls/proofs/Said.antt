@@ -8,11 +8,11 @@ use Rattle.cyc_script.specs.WellFormed.{IsWellFormed}
 use Rattle.cyc_expected.specs.Course.{Told, untold, told_by}
 use Rattle.cyc_expected.specs.Expected.{events_of, expected}
 use Rattle.cyc_system_rings.specs.Events.{events_in}
-use Rattle.cyc_threads.specs.declared.named.Named.{Named}
-use Rattle.cyc_threads.specs.declared.named.Named.TheVariants.{Nothing, Cyclic, Leaving, Removed}
+use Rattle.cyc_words.specs.declared.named.Named.{Named}
+use Rattle.cyc_words.specs.declared.named.Named.TheVariants.{Nothing, Cyclic, Leaving, Removed}
 use Rattle.cyc_threads.specs.declared.progress.Progress.{Progress}
 use Rattle.cyc_threads.specs.declared.counting.Line.{Line}
-use Rattle.cyc_threads.specs.Names.{named_at}
+use Rattle.cyc_words.specs.Names.{named_at}
 use Rattle.cyc_threads.specs.Steps.{Runs}
 use Rattle.cyc_threads.specs.Counting.{Told as Reported, Tells, TellsOf, Reports}
 use Rattle.cyc_thread_calls.specs.Leading.{wait_calls, steps_calls, told_calls_of, told_calls, report_calls, all_calls}

@@ -22,11 +22,11 @@ use Rattle.cyc_places.specs.declared.record.Placement.TheVariants.{On, Everywher
 use Rattle.cyc_threads.proofs.Spots.{same_some}
 use Rattle.cyc_threads.specs.Calls.{SystemCall, Changes, Add, AddOmni}
 use Rattle.cyc_threads.specs.Keeping.{TouchesRecord}
-use Rattle.cyc_threads.specs.declared.named.Named.{Named}
-use Rattle.cyc_threads.specs.declared.named.Named.TheVariants.{Cyclic}
+use Rattle.cyc_words.specs.declared.named.Named.{Named}
+use Rattle.cyc_words.specs.declared.named.Named.TheVariants.{Cyclic}
 use Rattle.cyc_threads.specs.declared.progress.Progress.{Progress}
 use Rattle.cyc_threads.specs.StepCalls.{CallsFor}
-use Rattle.cyc_threads.specs.Names.{named_at, is_leaving, NoneLeaves}
+use Rattle.cyc_words.specs.Names.{named_at, is_leaving, NoneLeaves}
 use Rattle.cyc_threads.specs.Words.{Does}
 use Rattle.cyc_thread_calls.specs.Leading.{call_of, calls_in}
 use Rattle.cyc_thread_calls.specs.Meeting.{accepted}

@@ -23,8 +23,8 @@ use Rattle.cyc_threads.specs.Calls.{Changes, AskTotals}
 use Rattle.cyc_threads.specs.Sound.{IsSound}
 use Rattle.cyc_threads.specs.Keeping.{SameCounts}
 use Rattle.cyc_threads.proofs.Counts.{counts_same}
-use Rattle.cyc_threads.specs.declared.named.Named.{Named}
-use Rattle.cyc_threads.specs.declared.named.Named.TheVariants.{Nothing, Cyclic as Here, Leaving, Removed}
+use Rattle.cyc_words.specs.declared.named.Named.{Named}
+use Rattle.cyc_words.specs.declared.named.Named.TheVariants.{Nothing, Cyclic as Here, Leaving, Removed}
 use Rattle.cyc_threads.specs.declared.progress.Progress.{Progress}
 use Rattle.cyc_threads.specs.declared.counting.Line.{Line}
 use Rattle.cyc_threads.specs.Counting.{Told, Tells, TellsOf, Asks, Reports, no_line, receipt_line, totals_line}

@@ -12,11 +12,11 @@ use Rattle.cyc_threads.specs.Settled.{AllSettled}
 use Rattle.cyc_threads.specs.System.{SystemView}
 use Rattle.cyc_threads.specs.Calls.{PollRemove}
 use Rattle.cyc_threads.specs.Sound.{IsSound}
-use Rattle.cyc_threads.specs.declared.named.Named.{Named}
-use Rattle.cyc_threads.specs.declared.named.Named.TheVariants.{Leaving, Removed}
+use Rattle.cyc_words.specs.declared.named.Named.{Named}
+use Rattle.cyc_words.specs.declared.named.Named.TheVariants.{Leaving, Removed}
 use Rattle.cyc_threads.specs.declared.progress.Progress.{Progress}
 use Rattle.cyc_threads.specs.StepCalls.{CallsFor, Poll, Polls, Settles, Waits}
-use Rattle.cyc_threads.specs.Names.{named_at, id_of, NoneLeaves}
+use Rattle.cyc_words.specs.Names.{named_at, id_of, NoneLeaves}
 use Rattle.cyc_thread_calls.specs.Way.{Standing, Absent, OnOne, OnAll}
 use Rattle.cyc_thread_calls.proofs.Keeping.{AllStill, polled_given}
 use Rattle.cyc_thread_calls.proofs.Room.{few_cyclics, AllHaveRoom}

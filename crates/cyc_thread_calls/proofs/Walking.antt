@@ -19,7 +19,7 @@ use Rattle.cyc_script.specs.WellFormed.{names_fit, names_after_all, moments_fit}
 use Rattle.cyc_expected.specs.Calm.{AgreeButMoves}
 use Rattle.cyc_threads.proofs.Lists.{eq_true}
 use Rattle.cyc_threads.specs.declared.progress.Progress.{Progress}
-use Rattle.cyc_threads.specs.Names.{named_at, id_of}
+use Rattle.cyc_words.specs.Names.{named_at, id_of}
 use Rattle.cyc_threads.specs.Words.{Does}
 use Rattle.cyc_threads.specs.Steps.{TakesSteps, Runs}
 use Rattle.cyc_thread_calls.specs.Leading.{call_of, calls_in, wait_calls, step_calls, steps_calls, run_calls}

@@ -6,7 +6,7 @@ ghost use Rattle.cyc_script.specs.WellFormed.{IsWellFormed};
 ghost use Rattle.cyc_expected.specs.Course.{Told, told_by};
 ghost use Rattle.cyc_expected.specs.Expected.{events_of, expected};
 ghost use Rattle.cyc_system_rings.specs.Events.{events_in};
-ghost use Rattle.cyc_threads.specs.declared.named.Named.TheVariants.{Nothing};
+ghost use Rattle.cyc_words.specs.declared.named.Named.TheVariants.{Nothing};
 ghost use Rattle.cyc_threads.specs.declared.progress.Progress.{Progress};
 ghost use Rattle.cyc_threads.specs.declared.counting.Line.{Line};
 ghost use Rattle.cyc_threads.specs.Steps.{Runs};

@@ -24,7 +24,7 @@ use Rattle.cyc_thread_calls.specs.Named.TheVariants.{Nothing, Cyclic, Leaving, R
 use Rattle.cyc_thread_calls.specs.Progress.{Progress}
 use Rattle.cyc_thread_calls.specs.StepCalls.{CallsFor}
 use Rattle.cyc_thread_calls.specs.Names.{named_at, id_of, is_leaving}
-use Rattle.cyc_thread_calls.specs.Words.{WithId}
+use Rattle.cyc_words.specs.Words.{WithId}
 use Rattle.cyc_thread_calls.specs.SystemRingsLeading.{Make}
 use Rattle.cyc_thread_calls.specs.Leading.{call_with}
 use Rattle.cyc_thread_calls.specs.Way.{is_moment}

@@ -19,8 +19,8 @@ use Rattle.cyc_system_workers.specs.System.{SystemView}
 use Rattle.cyc_system_laws.specs.SystemTotals.{SystemTotals}
 use Rattle.cyc_system_laws.specs.Counting.{Counted, asked}
 use Rattle.cyc_system_workers.specs.Calls.{Changes, AskTotals}
-use Rattle.cyc_threads.specs.declared.named.Named.{Named}
-use Rattle.cyc_threads.specs.declared.named.Named.TheVariants.{Nothing, Cyclic, Leaving, Removed}
+use Rattle.cyc_words.specs.declared.named.Named.{Named}
+use Rattle.cyc_words.specs.declared.named.Named.TheVariants.{Nothing, Cyclic, Leaving, Removed}
 use Rattle.cyc_threads.specs.declared.progress.Progress.{Progress}
 use Rattle.cyc_threads.specs.declared.counting.Line.{Line}
 use Rattle.cyc_threads.proofs.Telling.{Begun}

@@ -114,11 +114,6 @@ module _ {C R : Type 0} (handler : Calls C) (firing : Raise R) where
   told_halts xs i s u (Ok t) far q w = tt
   told_halts xs i s u (Err h) far q w = inl (u, steps_all xs i s u far q.taken, w)
 
-  -- what a word did, where the step is that word and it left this
-  pub does_same : (x y : Step) (s t u : Progress R C) → x ≡ y → u ≡ t → Does handler firing y s t → Does handler firing x s u
-  does_same x y s t u e f d = subst (λ (z : Step). Does handler firing z s u) (sym e)
-      (subst (λ (z : Progress R C). Does handler firing y s z) (sym f) d)
-
   -- a step whose call came after what begins it
   pub then_taken : (s u : Progress R C) (x : Step) (r : Result (Progress R C) Halt) → Begins firing (waits_first x) s u
       → IfOk r (λ t. Does handler firing x u t) → IfOk r (λ t. TakesStep handler firing s x t)

@@ -1,20 +1,19 @@
 -- Polls and lines, one after another.
-use Rattle.std.proofs.Common.{◌≡◌, ℕ, ◌+◌, ◌<◌, ◌≤◌, ◌⊎◌, inl, inr, List, [], ◌∷◌, ◌++◌, Option, length, map, refl}
+use Rattle.std.proofs.Common.{◌≡◌, ℕ, ◌+◌, ◌<◌, ◌≤◌, List, [], ◌∷◌, ◌++◌, Option, length, map, refl}
 use Rattle.std.proofs.Common.{sym, ap, ◌∙◌, arith}
-use Rattle.std.specs.Prelude.{false, Result, take}
+use Rattle.std.specs.Prelude.{Result, take}
 use Rattle.std.specs.List.{FoldsTo}
-use Rattle.std.proofs.lemmas.Bool.{cases_lt}
-use Rattle.std.proofs.lemmas.List.{get_or_past, take_more, take_all, map-append}
+use Rattle.std.proofs.lemmas.List.{take_more, take_all, map-append}
 use Rattle.cyc_types.specs.declared.Raise.{Ghosts as Raise}
 use Rattle.cyc_types.specs.declared.receipt.Receipt.{Receipt}
 use Rattle.cyc_types.specs.declared.refusal.Refusal.{Refusal}
 use Rattle.cyc_types.proofs.Runs.{folds_more}
 use Rattle.cyc_system_workers.specs.Calls.{PollRemove}
-use Rattle.cyc_threads.specs.declared.named.Named.{Named}
-use Rattle.cyc_threads.specs.declared.named.Named.TheVariants.{Leaving, Nothing}
+use Rattle.cyc_words.specs.declared.named.Named.{Named}
+use Rattle.cyc_words.specs.declared.named.Named.TheVariants.{Leaving, Nothing}
 use Rattle.cyc_threads.specs.declared.progress.Progress.{Progress}
 use Rattle.cyc_threads.specs.declared.counting.Line.{Line}
-use Rattle.cyc_threads.specs.Names.{named_at, is_leaving, NoneLeaves, news, noted}
+use Rattle.cyc_words.specs.Names.{named_at, NoneLeaves, news, noted}
 use Rattle.cyc_system_workers.specs.Settled.{AllSettled}
 use Rattle.cyc_system_workers.specs.declared.side.SystemSide.{SystemSide}
 use Rattle.cyc_system_workers.specs.Settling.{OnlyAsked}
@@ -22,20 +21,9 @@ use Rattle.cyc_system_laws.specs.Sound.{IsSound}
 use Rattle.cyc_threads.specs.StepCalls.{CallsFor, Poll, Polls, Settles, Waits}
 use Rattle.cyc_threads.specs.Counting.{Told, Tells, TellsOf, Reports}
 
-leaves_by : (names : List Named) (k name : ℕ) → length names ≤ k → ((j : ℕ) → j < k → is_leaving (named_at names j) ≡ false)
-    → (name < k) ⊎ (k ≤ name) → is_leaving (named_at names name) ≡ false
-leaves_by names k name far each (inl low) = each name low
-leaves_by names k name far each (inr high) = ap is_leaving (get_or_past names name Nothing (omega (arith, far, high)))
-
 -- there is room for one element more
 pub room_left : (long place all room : ℕ) → long ≡ place → place < all → all ≤ room → long < room
 room_left long place all room e f g = omega (arith, e, f, g)
-
--- no name leaves where none does up to the last one
-pub none_leaves : (names : List Named) (k : ℕ) → length names ≤ k
-    → ((name : ℕ) → name < k → is_leaving (named_at names name) ≡ false)
-    → NoneLeaves names
-none_leaves names k far each name = leaves_by names k name far each (cases_lt name k)
 
 module _ {C R : Type 0} (firing : Raise R) where
   -- a run of polls, and one more

@@ -5,8 +5,8 @@ use Rattle.cyc_types.specs.declared.Raise.{Ghosts as Raise}
 use Rattle.cyc_types.specs.declared.receipt.Receipt.{Receipt}
 use Rattle.cyc_system_laws.specs.SystemTotals.{SystemTotals}
 use Rattle.cyc_system_workers.specs.Calls.{AskTotals}
-use Rattle.cyc_threads.specs.declared.named.Named.{Named}
-use Rattle.cyc_threads.specs.declared.named.Named.TheVariants.{Nothing, Cyclic, Leaving, Removed}
+use Rattle.cyc_words.specs.declared.named.Named.{Named}
+use Rattle.cyc_words.specs.declared.named.Named.TheVariants.{Nothing, Cyclic, Leaving, Removed}
 use Rattle.cyc_threads.specs.declared.progress.Progress.{Progress}
 use Rattle.cyc_threads.specs.declared.counting.Line.{Line}
 use Rattle.cyc_threads.specs.StepCalls.{CallsFor}

@@ -15,7 +15,7 @@ use Rattle.cyc_thread_rings.specs.declared.levels.Levels.{Levels}
 use Rattle.cyc_thread_rings.specs.declared.levels.Seated.{Seated}
 use Rattle.cyc_thread_rings.specs.Laid.{three, two}
 use Rattle.cyc_thread_rings.specs.Rings.{AreNew, AreClosed, seats_of_ends, firing_seats, seats_on}
-use Rattle.cyc_threads.specs.declared.named.Named.TheVariants.{Nothing}
+use Rattle.cyc_words.specs.declared.named.Named.TheVariants.{Nothing}
 use Rattle.cyc_threads.specs.declared.progress.Progress.{Progress}
 use Rattle.cyc_threads.specs.declared.counting.Line.{Line}
 use Rattle.cyc_threads.specs.Steps.{Runs}

@@ -14,9 +14,9 @@ use Rattle.cyc_system_laws.specs.Sound.{IsSound}
 use Rattle.cyc_system_workers.specs.declared.advancing.Advanced.{Advanced}
 use Rattle.cyc_system_workers.specs.Advancing.{AllFire}
 use Rattle.cyc_system_workers.specs.Settling.{OnlyAsked}
-use Rattle.cyc_threads.specs.declared.named.Named.TheVariants.{Leaving}
+use Rattle.cyc_words.specs.declared.named.Named.TheVariants.{Leaving}
 use Rattle.cyc_threads.specs.declared.progress.Progress.{Progress}
-use Rattle.cyc_threads.specs.Names.{named_at, news, noted, NoneLeaves}
+use Rattle.cyc_words.specs.Names.{named_at, news, noted, NoneLeaves}
 
 -- there is something to lead each CPU
 abbrev pub IsReady : {C R : Type 0} → Progress R C → Type 0

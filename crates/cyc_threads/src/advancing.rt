@@ -58,8 +58,8 @@ fn moment_of(nanoseconds: u64) -> Moment
     Moment::new(nanoseconds as i64).unwrap_or(Moment::NEVER)
 }
 
-/// The word `advance`: sets the clock, and all online CPUs fire, each in a thread of its own. It ends when these have ended. While the
-/// system is suspended the clock alone is set.
+/// The word `advance`: sets the clock, and all online CPUs fire, each in a thread of its own. It ends when these have ended.
+/// While the system is suspended the clock alone is set.
 ///
 /// Refuses with Memory where memory or a thread was refused, and then with the refusal of the smallest CPU whose fire was.
 pub(crate) fn advance_clock<W: Threads + Wait, R: Raise + Send + Drop, C: Calls + Send + Drop>(

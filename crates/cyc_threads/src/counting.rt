@@ -2,13 +2,13 @@
 
 ghost use Rattle.std.specs.Prelude.{◌≡◌, All, IfOk};
 ghost use Rattle.cyc_system_workers.specs.Settled.{AllSettled};
-ghost use Rattle.cyc_threads.specs.Names.{named_at};
+ghost use Rattle.cyc_words.specs.Names.{named_at};
 ghost use Rattle.cyc_threads.specs.Counting.{Asks, TellsOf, Reports, no_line, receipt_line, totals_line};
 
-use crate::named::Named;
 use crate::progress::{Progress, sound};
 use cyc_system_workers::SystemTotals;
 use cyc_types::{CyclicId, Raise, Receipt};
+use cyc_words::Named;
 use std::alloc::{AllocError, Global};
 
 /// The counts of one name's cyclic, over all CPUs and all of its stays.

@@ -6,7 +6,7 @@ ghost use Rattle.cyc_cpu.specs.Cpu.{IsFresh};
 ghost use Rattle.cyc_agreement.specs.Cpus.{new_cpus};
 ghost use Rattle.cyc_system_laws.specs.Sound.{IsSound};
 ghost use Rattle.cyc_threads.specs.StepCalls.{IsReady};
-ghost use Rattle.cyc_threads.specs.declared.named.Named.TheVariants.{Nothing};
+ghost use Rattle.cyc_words.specs.declared.named.Named.TheVariants.{Nothing};
 ghost use Rattle.cyc_threads.specs.Running.{most};
 
 use crate::progress::{Progress, begin};

@@ -100,8 +100,8 @@ impl Words {
         BothSides { seat }
     }
 
-    /// Ends the words, and puts the pend word of each index into `pends`, so that no such array stands on the stack. There is one order
-    /// of all steps that the two sides made, which left them, and a lawful level stood before and after each of its steps.
+    /// Ends the words, and puts the pend word of each index into `pends`, so that no such array stands on the stack. There is one
+    /// order of all steps that the two sides made, which left them, and a lawful level stood before and after each of its steps.
     pub fn close(self, both: BothSides, pends: &mut [u64; INDEXES])
         requires { both.seat.table_id ≡ self.table.shared.table_id }
         ensures { (log : List RingStep) × HasItsTrail log both.seat.me.0 Joint × AllStood self.setting log

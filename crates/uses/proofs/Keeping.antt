@@ -83,7 +83,8 @@ module _ {C : Type 0} (handler : Calls C) (n budget : ℕ) (level : Soft) (answe
     everywhere = ap (λ rs. is_omnipresent id (record s.system { records = rs })) e;
   }
 
-  pub served_keeps : ((id : ℕ) → all_expired id t.system ≡ all_expired id s.system + expirations_along one_step id s one_call t run)
+  pub served_keeps : ((id : ℕ) → all_expired id t.system
+      ≡ all_expired id s.system + expirations_along one_step id s one_call t run)
       → ((id : ℕ) → all_lost id t.system
       ≡ all_lost id s.system + losses_along handler raise_tables (Interrupts handler) id s one_call t run)
       → ((id : ℕ) → SameStays id s.system t.system) → KeepsCyclics n s.system t.system

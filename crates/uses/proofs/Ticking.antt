@@ -76,7 +76,8 @@ module _ (law : HighLaw) (now : ℕ) (s t : Running Tasks Tables) where
     f.made,
     f.last ∷ f.rest,
     f.listed,
-    (λ id. let a = law now f.made s.cpu.cyclics t.cpu.cyclics (sides s.calls s.cpu) (sides f.at t.cpu) e.lost f.makes id in let b = f.counted id in omega (arith, a, b)),
+    (λ id. let a = law now f.made s.cpu.cyclics t.cpu.cyclics (sides s.calls s.cpu) (sides f.at t.cpu) e.lost f.makes id in
+    let b = f.counted id in omega (arith, a, b)),
   )
 
   -- where an id was called, the last call asks for a switch
@@ -106,7 +107,8 @@ share_front : (level : Level) (ts : List Timer) (made rest : List Expiration) (i
 share_front level ts made rest id = by (is_of level (timer_of id ts))
   where
     by : (b : Bool) → cond b (times_of id made) 0 ≤ cond b (times_of id (made ++ rest)) 0
-    by true = let e : times_of id (made ++ rest) ≡ times_of id made + times_of id rest = sum_by-append _ made rest in omega (arith, e)
+    by true = let e : times_of id (made ++ rest) ≡ times_of id made + times_of id rest = sum_by-append _ made rest in
+        omega (arith, e)
     by false = omega arith
 
 -- an id that no cyclic of high level has, has no share there

@@ -41,7 +41,8 @@ impl Calls for Tasks {
 /// Refuses as `Hard::fire`, also where the tally refuses a call. Takes no memory.
 pub fn tick(cpu: &mut Hard<LevelCore>, tasks: &mut Tasks, now: Moment) -> Result<Fired, FireRefused>
     // All that `Hard::fire` says.
-    ensures did { Does tasks_calls raise_tables no_interrupts (running tasks.old cpu.old) (Fire now result) (running tasks.new cpu.new) }
+    ensures did { Does tasks_calls raise_tables no_interrupts (running tasks.old cpu.old) (Fire now result)
+        (running tasks.new cpu.new) }
 
     // Each cyclic of high level was called exactly as often as it was due, and no other id was called.
     ensures high { OnOk result (All (λ c. c.timer.level ≡ High → calls_of tasks.new c.timer.id

@@ -24,7 +24,8 @@ module _ {R : Type 0} (firing : Raise R) where
 
   -- calls that are outstanding are seen
   some_seen : (own : Level) (id n : ℕ) (lock low lock' low' : R) → (own ≡ High → n ≡ 0)
-      → (own ≡ Lock → MayAsk id (firing.view lock)) → (own ≡ Low → MayAsk id (firing.view low)) → Goes firing lock (asks_at Lock own id n) lock'
+      → (own ≡ Lock → MayAsk id (firing.view lock)) → (own ≡ Low → MayAsk id (firing.view low))
+      → Goes firing lock (asks_at Lock own id n) lock'
       → Goes firing low (asks_at Low own id n) low' → 0 < n → 0 < seen_of id (firing.view lock') + seen_of id (firing.view low')
   some_seen High id n lock low lock' low' high may may' goes goes' some = absurd (let z = high refl in omega (arith, z, some))
   some_seen Lock id n lock low lock' low' high may may' goes goes' some =

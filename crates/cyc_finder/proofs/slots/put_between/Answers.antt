@@ -34,7 +34,8 @@ module _ (c : goal.After-set_few) where
       let len = c.deref-in-Err-2.ensures.len in omega (arith, t, long, len))
 
   gone : HoldsAt IsGone c.args.slots.now.items c.next_gone-gone.result
-  gone = subst (λ ys. c.next_gone-gone.result < length ys → HoldsAt IsGone ys c.next_gone-gone.result) c.deref-in-Err-2.ensures.value
+  gone = subst (λ ys. c.next_gone-gone.result < length ys → HoldsAt IsGone ys c.next_gone-gone.result)
+    c.deref-in-Err-2.ensures.value
       c.next_gone-gone.ensures.gone low
 
 pub returns-then-gone-len-clause-rises : goal.returns-then-gone-len-clause-rises

@@ -43,7 +43,7 @@ returns-clause-holds c =
     let empty = subst (λ (x : SystemView Tables). All IsEmpty x.cpus.cpus) (sym is)
     (new_empty 18446744073709551615 c.args.ceiling ends c.in_ok-levels.ensures.new) in
     held_new c.args.cpus c.args.ceiling c.args.names _ refl
-    c.in_ok-tally.ensures.tally c.in_ok-tally.ensures.ids c.in_ok-tally.ensures.counted c.in_ok-tally.ensures.named
+    c.in_ok-tally.ensures.tally c.in_ok-tally.ensures.names c.in_ok-tally.ensures.named
     (still_most k v w two.0 two.1 rest.0 rest.1 most) (now_room k v w two.0 two.1 rest.0 rest.1 c.args.names refl empty)
     (still_awake k v w two.0 two.1 rest.0 rest.1 (ap is_suspended is ∙ awake_new 18446744073709551615 ends)) (
       still_system k v w two.0 two.1 rest.0 rest.1 here.0 c.law-2.ensures,

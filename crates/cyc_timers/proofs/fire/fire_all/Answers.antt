@@ -35,7 +35,8 @@ loop-root-init g c =
 pub loop-root-smaller : goal.loop-root-smaller
 loop-root-smaller g c =
     let (k, r, is, at, moment, named, first) = c.in-Some.ensures.first in
-    less_left c.args.now c.loop-root.table.rows c.expire_root.new.self.rows c.in-Ok.more c.following.result k (c.args.now - c.in-Some.root.1) r
+    less_left c.args.now c.loop-root.table.rows c.expire_root.new.self.rows c.in-Ok.more c.following.result k
+    (c.args.now - c.in-Some.root.1) r
     c.record-kept.result is first moment (c.record-kept.ensures k r is at)
     (record {
       due_is = c.following.ensures.due;
@@ -117,7 +118,8 @@ returns-then-count-most-clause-refused g c =
     let (k, r, is, at, moment, named, first) = c.in-Some.ensures.first in
     let i = c.loop-root.invariant in
     let (made, long, f, makes, few) = i.made in
-    let (rest, whole) = front c.args.now made (timers_of c.args.table.now.rows) c.loop-root.table.rows k (c.args.now - c.in-Some.root.1) r f is
+    let (rest, whole) = front c.args.now made (timers_of c.args.table.now.rows) c.loop-root.table.rows k
+        (c.args.now - c.in-Some.root.1) r f is
     first moment (omega arith) in
     let kept = c.record-found.ensures k r is at in
     let spent = c.if-count-most.true in (
@@ -139,7 +141,8 @@ returns-in-Err-clause-refused g c =
     let (k, r, is, at, moment, named, first) = c.in-Some.ensures.first in
     let i = c.loop-root.invariant in
     let (made, long, f, makes, few) = i.made in
-    let (rest, whole) = front c.args.now made (timers_of c.args.table.now.rows) c.loop-root.table.rows k (c.args.now - c.in-Some.root.1) r f is
+    let (rest, whole) = front c.args.now made (timers_of c.args.table.now.rows) c.loop-root.table.rows k
+        (c.args.now - c.in-Some.root.1) r f is
     first moment (omega arith) in
     let kept = c.record-found.ensures k r is at in
     let h = c.in-Err.ensures in

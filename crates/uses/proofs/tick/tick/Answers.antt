@@ -19,7 +19,8 @@ returns-clause-high c = IfOk-weaker c.fire.result _ _
 pub returns-clause-others : goal.returns-clause-others
 returns-clause-others c = IfOk-weaker c.fire.result _ _
     (λ r adds id none. let a = adds id in
-    let b = no_share c.args.cpu.now.cyclics (expirations c.args.now (timers c.args.cpu.now.cyclics)) id none in omega (arith, a, b))
+    let b = no_share c.args.cpu.now.cyclics (expirations c.args.now (timers c.args.cpu.now.cyclics)) id none in
+    omega (arith, a, b))
     (made_whole c.share_law.ensures.high c.args.now (running c.args.tasks.now c.args.cpu.now)
     (running c.fire.new.calls c.fire.new.self) c.fire.result c.fire.ensures)
 

@@ -11,7 +11,7 @@ use Rattle.cyc_finder.proofs.finder.Finder.next_after.Goals as goal
 pub returns-then-position-len-clause-none : goal.returns-then-position-len-clause-none
 returns-then-position-len-clause-none c =
     let i = c.self.inside in let xs = i.slots.items in let n = c.args.passed in let a = c.after.result in
-    let e = c.deref.ensures.value in let e2 = c.deref-2.ensures.value in
+    let e = c.deref.ensures.value in let e2 = c.deref-3.ensures.value in
     subst (λ (v : FinderView). (k : ℕ) (d : Entry) → k < length v.entries → IsPassed n (get_or v.entries k d).id) c.self.view_is
     (none_after xs i.first c.self.invariant.first n a c.max-from.result c.next_here-position.result
     (subst (λ ys. AllWithin (λ (s : Slot). IsPassed n s.id) ys 0 a) e c.after.ensures.before)
@@ -23,7 +23,7 @@ returns-then-position-len-clause-none c =
 pub returns-clause-some : goal.returns-clause-some
 returns-clause-some c =
     let i = c.self.inside in let xs = i.slots.items in let n = c.args.passed in let a = c.after.result in
-    let e = c.deref.ensures.value in let e2 = c.deref-2.ensures.value in let p = c.next_here-position.result in
+    let e = c.deref.ensures.value in let e2 = c.deref-3.ensures.value in let p = c.next_here-position.result in
     let within : p < length xs = (let l = c.if-position-len.false in let m = c.len.ensures in omega (arith, l, m)) in
     let s = c.index-slot.result.now in let j : ℕ = c.in-Some.index in
     let slot : (d : Slot) → get_or xs p d ≡ record { id = s.id; index = Some j } =

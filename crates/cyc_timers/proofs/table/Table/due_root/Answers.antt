@@ -1,4 +1,5 @@
-use Rattle.std.proofs.Common.{◌≡◌, ℕ, ◌-◌, ◌<◌, ◌⊎◌, inl, inr, List, length, get_or, Option, Some, None, All, IfNone, IfSome, sym, ◌∙◌}
+use Rattle.std.proofs.Common.{◌≡◌, ℕ, ◌-◌, ◌<◌, ◌⊎◌, inl, inr, List, length, get_or, Option, Some, None}
+use Rattle.std.proofs.Common.{All, IfNone, IfSome, sym, ◌∙◌}
 use Rattle.std.proofs.Common.{subst, arith}
 use Rattle.cyc_types.specs.Expirations.{Expiration}
 use Rattle.cyc_types.specs.Timers.{Timer}
