@@ -31,8 +31,8 @@ use Rattle.cyc_system.specs.Cpus.{IsCpu}
 use Rattle.cyc_system.specs.System.{SystemView, RunningSystem, running_system}
 use Rattle.cyc_system.proofs.Spots.{same_some, none_some}
 use Rattle.cyc_system.specs.Calls.{Does, SoftInterrupt}
-use Rattle.cyc_system.specs.declared.interrupting.SoftFault.{SoftFault}
-use Rattle.cyc_system.specs.declared.interrupting.SoftFault.TheVariants as fault
+use Rattle.cyc_system.specs.declared.system.SoftFault.{SoftFault}
+use Rattle.cyc_system.specs.declared.system.SoftFault.TheVariants as fault
 use Rattle.cyc_types.specs.Levels.{as_level}
 use Rattle.cyc_model.specs.Cpu.{Cyclic, Cpu, is_of, cyclic_of, handler_level_of}
 use Rattle.cyc_model.specs.Acts.{calls_of}

@@ -13,8 +13,8 @@ use Rattle.cyc_cpu.specs.Soft.{raise_tables, Interrupts}
 use Rattle.cyc_cpu.specs.Cpu.{CpuView, Running, running}
 use Rattle.cyc_cpu.specs.Calls.{Fire, SoftInterrupt as CpuSoftInterrupt, WhyNoFire, no_interrupts, Does as CpuDoes}
 use Rattle.cyc_system.specs.Cpus.{running_cpus}
-use Rattle.cyc_system.specs.declared.interrupting.SoftFault.{SoftFault}
-use Rattle.cyc_system.specs.declared.interrupting.SoftFault.TheVariants as fault
+use Rattle.cyc_system.specs.declared.system.SoftFault.{SoftFault}
+use Rattle.cyc_system.specs.declared.system.SoftFault.TheVariants as fault
 use Rattle.cyc_system.specs.System.{SystemView, RunningSystem}
 use Rattle.cyc_system.specs.Refusals as why
 use Rattle.cyc_system.specs.Calls.{Does, FireOne, SoftInterrupt, no_fire}

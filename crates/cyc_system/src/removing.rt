@@ -1,11 +1,11 @@
 //! A cyclic is removed from all CPUs.
 
 use crate::system::System;
-use cyc_agreement::{SystemRemoval, SystemTotals};
+use cyc_agreement::SystemRemoval;
 use cyc_types::{CyclicId, Raise, Receipt, Refusal};
 
 impl<R: Raise> System<R> {
-    ghost use Rattle.cyc_system.specs.Calls.{Changes, BeginRemove, PollRemove, AskTotals};
+    ghost use Rattle.cyc_system.specs.Calls.{Changes, BeginRemove, PollRemove};
 
     /// Begins the removal of a cyclic on every CPU that has it (`cyclic_remove`): from now on it never expires. It is done at
     /// once where no call of it is outstanding, and the receipt adds up all its stays on all CPUs. Else it stays open, with so
@@ -27,13 +27,5 @@ impl<R: Raise> System<R> {
         ensures { Changes R.Raise self.old (PollRemove id result) self.new }
     {
         cyc_agreement::poll_remove(&mut self.cpus, &mut self.records, id)
-    }
-
-    /// The counts of a cyclic over all CPUs, with those of its stays that have ended, and its calls that are outstanding. None
-    /// where no cyclic has the id, and once its removal has answered. Takes no memory.
-    pub fn totals(&mut self, id: CyclicId) -> Option<SystemTotals>
-        ensures { Changes R.Raise self.old (AskTotals id result) self.new }
-    {
-        cyc_agreement::agreed_totals(&mut self.cpus, &self.records, id)
     }
 }

@@ -22,5 +22,5 @@ pub use Rattle.cyc_system.specs.Counts
 pub use Rattle.cyc_system.specs.Removing
 pub use Rattle.cyc_system.specs.Polling
 pub use Rattle.cyc_system.specs.Counting
-pub use Rattle.cyc_system.specs.declared.interrupting.SoftFault
+pub use Rattle.cyc_system.specs.declared.system.SoftFault
 pub use Rattle.cyc_system.specs.SystemTotals

@@ -1,6 +1,6 @@
 use Rattle.cyc_agreement.proofs.Who.{same_changed, same_served}
 use Rattle.cyc_agreement.proofs.Holding.{holds_same}
-use Rattle.cyc_system.proofs.interrupting.System+LevelCore.softint.Goals as goal
+use Rattle.cyc_system.proofs.system.System+LevelCore.softint.Goals as goal
 
 pub invariant_of-self : goal.invariant_of-self
 invariant_of-self g c = (
