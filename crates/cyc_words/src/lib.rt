@@ -5,7 +5,6 @@
 //! there is none, and what the word answers: `DoesWord`. What a run does between two words, and what it writes, is its own.
 #![tactic(auto)]
 
-mod adding;
 mod answer;
 mod changing;
 mod named;

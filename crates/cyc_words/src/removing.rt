@@ -33,15 +33,15 @@ pub(crate) fn remove<R: Raise>(
     ensures { (clock : ℕ) → DoesWord R.Raise clock (steps.Remove name) result
         (word_state system.old names.old) (word_state system.new names.new) }
 {
-    let place = name.number();
-    let Some(id) = id_of(names.at(place)) else {
+    let number = name.number();
+    let Some(id) = id_of(names.at(number)) else {
         return Err(Refusal::NoCyclic);
     };
     let answer = system.begin_remove(id);
     sound(system);
     let begun = answer?;
     let told = begun;
-    note(names, place, id, begun);
+    note(names, number, id, begun);
     Ok(WordAnswer::Removing(told))
 }
 
