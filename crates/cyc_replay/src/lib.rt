@@ -24,15 +24,12 @@
 
 mod advancing;
 mod beginning;
-mod counting;
 mod interrupting;
 mod laws;
 mod lines;
 mod machine;
 mod report;
-mod run;
 mod script;
-mod steps;
 mod system_laws;
 mod words;
 
@@ -41,8 +38,7 @@ pub use cyc_system::System;
 pub use cyc_text::RunFault;
 pub use laws::runs_are_sound;
 pub use report::put_reports;
-pub use run::put_steps;
-pub use script::{replay, run_script};
+pub use script::{put_steps, replay, run_script};
 pub use system_laws::{
     add_law, advance_law, begin_law, bind_law, fire_law, juggle_law, kept_law, offline_law,
     omni_law, online_law, poll_law, remove_law, report_law, reprogram_law, resume_law, softint_law,

@@ -1,4 +1,4 @@
-//! The words that make a call of the system, with their lines.
+//! The steps of a script, with their lines, and the words that make a call of the system.
 
 ghost use Rattle.std.specs.Prelude.{◌≡◌, ◌≢◌, ◌≤◌, ℕ, map, string_bytes, OnOk, IfErr, Err};
 ghost use Rattle.cyc_types.specs.declared.refusal.Refusal.TheVariants.{Memory};
@@ -11,8 +11,10 @@ ghost use Rattle.cyc_words.specs.Words.{MakesCall};
 ghost use Rattle.cyc_words.specs.Doing.{DoesWord, word_state};
 ghost use Rattle.cyc_replay.specs.Machine.{Holds, IsNamed, IsReached};
 ghost use Rattle.cyc_replay.specs.WordLines.{begun_line, name_in, named_by, why_line, word_line};
-ghost use Rattle.cyc_replay.specs.Words.{TakesWord};
+ghost use Rattle.cyc_replay.specs.Words.{SetsBelowNever, TakesWord};
 
+use crate::advancing::take_advance;
+use crate::interrupting::take_softint;
 use crate::lines::name_text;
 use crate::machine::{Machine, set_name};
 use cyc_script::Step;
@@ -120,7 +122,7 @@ fn write_word(
 }
 
 /// A word that makes at most one call of the system, with its line. It refuses as `take_word` of `cyc_words`.
-pub(crate) fn take_call(
+fn take_call(
     machine: &mut Machine,
     names: &[String],
     line: &mut String,
@@ -135,4 +137,26 @@ pub(crate) fn take_call(
 {
     let answer = do_word(machine, word);
     write_word(line, names, step, word, answer)
+}
+
+/// Takes a step, and writes its line, or its lines where removals were answered.
+pub(crate) fn take_step(
+    machine: &mut Machine,
+    names: &[String],
+    line: &mut String,
+    step: u32,
+    taken: &Step,
+) -> Result<(), RunFault>
+    requires few { step ≤ most_steps }
+    requires before { SetsBelowNever taken.now }
+    requires reached { (s : State) × IsReached step s × Holds s machine.old }
+    ensures takes { OnOk result ((s : State) → IsReached step s → IsNamed s → Holds s machine.old
+        → TakesWord (map string_bytes names.now) step taken.now (string_bytes line.new) s machine.new) }
+    ensures memory { IfErr result IsMemory }
+{
+    match taken {
+        Step::Advance(moment) => take_advance(machine, line, step, *moment),
+        Step::Softint(softint) => take_softint(machine, names, line, step, softint),
+        _ => take_call(machine, names, line, step, taken),
+    }
 }

@@ -9,7 +9,7 @@ use Rattle.cyc_replay.specs.Runs.{Runs}
 use Rattle.cyc_replay.proofs.Introduced.{names_so_far}
 use Rattle.cyc_replay.proofs.Moments.{before_never}
 use Rattle.cyc_replay.proofs.RunningMachine.{take_on, number_on, whole_line, line_then}
-use Rattle.cyc_replay.proofs.run.put_steps.Goals as goal
+use Rattle.cyc_replay.proofs.script.put_steps.Goals as goal
 
 pub put_step-requires-clause-few : goal.put_step-requires-clause-few
 put_step-requires-clause-few g c =

@@ -9,7 +9,7 @@ use Rattle.cyc_replay.proofs.Doing.{keeps, refuses}
 use Rattle.cyc_replay.proofs.Named.{same_id}
 use Rattle.cyc_replay.proofs.Remembering.{nobody_counts}
 use Rattle.cyc_replay.proofs.Reported.{same_counts}
-use Rattle.cyc_replay.proofs.counting.name_counts.Goals as goal
+use Rattle.cyc_replay.proofs.report.name_counts.Goals as goal
 
 pub returns-in_default-clause-counts : goal.returns-in_default-clause-counts
 returns-in_default-clause-counts c = λ step s r h.

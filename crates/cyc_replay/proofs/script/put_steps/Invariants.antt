@@ -2,7 +2,7 @@ use Rattle.std.proofs.Common.{◌≡◌, ◌+◌, take, false}
 use Rattle.std.specs.Io.KnownBytes.{Appends}
 use Rattle.cyc_model.specs.Script.{run_on, names_of, no_indexes}
 use Rattle.cyc_replay.specs.Runs.{Runs}
-use Rattle.cyc_replay.proofs.run.put_steps.Given as goal
+use Rattle.cyc_replay.proofs.script.put_steps.Given as goal
 
 -- the lines so far are put, and the steps so far led to the machine
 abbrev pub invariant-loop-taken : goal.invariant-loop-taken

@@ -7,7 +7,7 @@ use Rattle.cyc_model.specs.Script.{run_on, names_of, no_indexes}
 use Rattle.cyc_replay.specs.Runs.{listed}
 use Rattle.cyc_replay.proofs.RunningMachine.{reached_so, takes_at}
 use Rattle.cyc_replay.proofs.Reading.{takes_named}
-use Rattle.cyc_replay.proofs.run.put_step.Goals as goal
+use Rattle.cyc_replay.proofs.script.put_step.Goals as goal
 
 pub take_step-requires-clause-reached : goal.take_step-requires-clause-reached
 take_step-requires-clause-reached g c =
