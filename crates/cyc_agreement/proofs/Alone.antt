@@ -33,7 +33,7 @@ use Rattle.cyc_agreement.proofs.Telling.{removal_done, removal_kept, poll_answer
 
 -- the record at this place is of this cyclic, and says that it is on this CPU
 abbrev pub IsAlone : (id place n : ℕ) → List Record → Type 0
-IsAlone id place n rs = (r : Record) × (bound : Bool) × IsRecord rs place r × (r.id ≡ id) × (r.place ≡ On n bound)
+IsAlone id place n rs = (r : Record) × (bound : Bool) × IsRecord rs place r × (r.id ≡ id) × (r.placement ≡ On n bound)
 
 module _ {R : Type 0} (v : CpusView R) (rs : List Record) (last id place n : ℕ) (a : Agrees (system v rs last))
     (rising : HasRisingIds rs) (own : IsAlone id place n rs) where
@@ -46,7 +46,7 @@ module _ {R : Type 0} (v : CpusView R) (rs : List Record) (last id place n : ℕ
   home_only m there = let (r, bound, is, named, home) = own in let (j, x, at, same, stands, on) = a.known m id there in
       let e : x ≡ r = same_some (sym at
       ∙ subst (λ i. IsRecord rs i r) (sym (one_record rs place j r x rising is at (same ∙ sym named))) is) in
-      sym (subst (λ p. Stands m p) (ap (λ (y : Record). y.place) e ∙ home) stands)
+      sym (subst (λ p. Stands m p) (ap (λ (y : Record). y.placement) e ∙ home) stands)
 
   pub home_low : n < length v.cpus
   home_low = has_low v n id home_has

@@ -38,7 +38,7 @@ module _ {R : Type 0} (firing : Raise R) (g : Sent → ℕ) (id : ℕ) (adds : (
       → g (record { sent = t.expired; lost = t.lost }) ≡ in_cpu firing g id adds x
   answer_is x y t law (a, seen, expired, lost, spared) = (λ i. g (record { sent = expired i; lost = lost i }))
       ∙ sym (ap (λ o. option_map_or (of_cyclic firing g id adds) o 0)
-      (cyclic_found x.cyclics id a.place a.cyclic law.rising a.here a.named))
+      (cyclic_found x.cyclics id a.position a.cyclic law.rising a.here a.named))
 
   -- one CPU, and those after it
   one_sum : (k : ℕ) (x : CpuView R) (xs : List (CpuView R)) (b : Bool) → list_any (λ own. own == id) (ids_of x) ≡ b

@@ -73,7 +73,7 @@ module _ {R : Type 0} (firing : Raise R) (id : ℕ) where
       where
         test : list_any (λ own. own == id) (ids_of x) ≡ true
         test = sym (ap (λ ids. among id ids) (ids_there w n x x at))
-            ∙ has_here w n id x at (d.0.place, d.0.cyclic, d.0.here, d.0.named)
+            ∙ has_here w n id x at (d.0.position, d.0.cyclic, d.0.here, d.0.named)
 
     pub asked_none : Changes firing x (AskTotals id None) y → Asked (n + 1) expired lost pending v (with_cpu w n y)
     asked_none d = subst (λ u. Asked (n + 1) expired lost pending v u) (sym unchanged) (record {

@@ -109,8 +109,8 @@ module _ {R : Type 0} (firing : Raise R) (c : Cyclic) (x y : CpuView R)
     (p : Places firing c x y) where
   pub came_placed : Came (c.timer.id ∷ []) x.cyclics y.cyclics
   came_placed = record {
-    old = λ d h. subst (λ l. Here d l) (sym p.cyclics) (here_old x.cyclics p.place c p.within d h);
-    only = λ d h. by d (here_either x.cyclics p.place c p.within d (subst (λ l. Here d l) p.cyclics h));
+    old = λ d h. subst (λ l. Here d l) (sym p.cyclics) (here_old x.cyclics p.position c p.within d h);
+    only = λ d h. by d (here_either x.cyclics p.position c p.within d (subst (λ l. Here d l) p.cyclics h));
     rising = λ h. p.rising;
   }
     where
@@ -119,7 +119,7 @@ module _ {R : Type 0} (firing : Raise R) (c : Cyclic) (x y : CpuView R)
       by d (inr h) = inl h
 
   pub here_placed : Here c y.cyclics
-  here_placed = subst (λ l. Here c l) (sym p.cyclics) (here_new x.cyclics p.place c p.within)
+  here_placed = subst (λ l. Here c l) (sym p.cyclics) (here_new x.cyclics p.position c p.within)
 
 -- ---- the cyclics on a CPU
 

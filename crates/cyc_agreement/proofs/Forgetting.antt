@@ -71,7 +71,7 @@ module _ {R : Type 0} (firing : Raise R) (id : ℕ) where
   answered_forgotten receipt s t rising a = record {
     nowhere = λ n. ap (λ v. has n id v) a.cpus ∙ by n (has n id s.cpus) refl;
     unknown = ap (λ rs. found id rs) a.records
-        ∙ record_none id (remove s.records a.place) (none_left s.records a.place a.own rising a.here a.named);
+        ∙ record_none id (remove s.records a.position) (none_left s.records a.position a.own rising a.here a.named);
   }
     where
       by : (n : ℕ) (b : Bool) → has n id s.cpus ≡ b → b ≡ false

@@ -65,7 +65,7 @@ module _ {R : Type 0} (firing : Raise R) (id : ℕ) (x y : CpuView R)
   }
     where
       same : ids_of y ≡ ids_of x
-      same = ap (λ cs. map id_in cs) o.cyclics ∙ ids_set x.cyclics o.place never o.cyclic o.here
+      same = ap (λ cs. map id_in cs) o.cyclics ∙ ids_set x.cyclics o.position never o.cyclic o.here
 
   -- an open removal that has ended
   pub less_ended : (receipt : Receipt) → x.removal ≡ Some id → Changes firing x (PollRemove (Some receipt)) y → OneLess id x y
@@ -95,12 +95,12 @@ module _ {R : Type 0} (firing : Raise R) (id : ℕ) (x y : CpuView R) where
   pub done_fits : (receipt : Receipt) → IsLawful firing.view x → Changes firing x (BeginRemove id (Ok (Done receipt))) y
       → receipt.sent ≤ x.most
   done_fits receipt law (still, (c, counts, is, polled, leaves)) =
-      subst (λ n. n ≤ x.most) (sym is.1) (counts_fit firing.view x law leaves.place c leaves.here)
+      subst (λ n. n ≤ x.most) (sym is.1) (counts_fit firing.view x law leaves.position c leaves.here)
 
   pub ended_fits : (receipt : Receipt) → IsLawful firing.view x → Changes firing x (PollRemove (Some receipt)) y
       → receipt.sent ≤ x.most
   ended_fits receipt law e = subst (λ n. n ≤ x.most) (sym e.counted.1)
-      (counts_fit firing.view x law e.leaves.place e.cyclic e.leaves.here)
+      (counts_fit firing.view x law e.leaves.position e.cyclic e.leaves.here)
 
   -- where a cyclic is, and no removal is open, one begins
   pub is_begun : (e : Refusal) → x.removal ≡ None → HasCyclic id x.cyclics → Changes firing x (BeginRemove id (Err e)) y → ⊥

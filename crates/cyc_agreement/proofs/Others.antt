@@ -51,7 +51,7 @@ module _ {R : Type 0} (firing : Raise R) (id q : ℕ) (x y : CpuView R)
     (other : q ≢ id) where
   leaves_beside : (way : List FiringCall) (c : Cyclic) → Leaves firing id way c x y → cyclic_in q y ≡ cyclic_in q x
   leaves_beside way c l = ap (λ cs. find (λ (e : Cyclic). e.timer.id == q) cs) l.cyclics
-      ∙ find_remove (λ (e : Cyclic). e.timer.id == q) x.cyclics l.place c (at_place x.cyclics l.place c l.here)
+      ∙ find_remove (λ (e : Cyclic). e.timer.id == q) x.cyclics l.position c (at_place x.cyclics l.position c l.here)
       (false_ne c.timer.id q (λ e. other (sym e ∙ l.named)))
 
   begun_beside : (found : Removal) → Changes firing x (BeginRemove id (Ok found)) y → Beside q x y
@@ -62,8 +62,8 @@ module _ {R : Type 0} (firing : Raise R) (id q : ℕ) (x y : CpuView R)
   }
   begun_beside (Kept kept) (still, o) = record {
     cyclics = ap (λ cs. find (λ (e : Cyclic). e.timer.id == q) cs) o.cyclics
-        ∙ find_set (λ (e : Cyclic). e.timer.id == q) x.cyclics o.place o.cyclic (with_moment never o.cyclic)
-        (at_place x.cyclics o.place o.cyclic o.here)
+        ∙ find_set (λ (e : Cyclic). e.timer.id == q) x.cyclics o.position o.cyclic (with_moment never o.cyclic)
+        (at_place x.cyclics o.position o.cyclic o.here)
         (false_ne o.cyclic.timer.id q (λ e. other (sym e ∙ o.named)))
         (false_ne o.cyclic.timer.id q (λ e. other (sym e ∙ o.named)));
     stay = λ e. absurd (none_some (sym still ∙ e));
@@ -169,7 +169,7 @@ module _ {R : Type 0} (firing : Raise R) (id q : ℕ) (other : q ≢ id) where
   pub answers_untouched : (receipt : Receipt) (s t : SystemView R) → Answers id receipt s t → IsUntouched q s t
   answers_untouched receipt s t a = untouched q s t
       (subst (λ v. AllBeside q s.cpus v) (sym a.cpus) (record { cyclics = λ n. refl; stay = λ n e. e; was = λ n e. e }))
-      (ap (λ rs. found q rs) a.records ∙ find_remove (λ (x : Record). x.id == q) s.records a.place a.own a.here
+      (ap (λ rs. found q rs) a.records ∙ find_remove (λ (x : Record). x.id == q) s.records a.position a.own a.here
       (false_ne a.own.id q (λ f. other (sym f ∙ a.named))))
 
 -- only the CPU that is polled changes

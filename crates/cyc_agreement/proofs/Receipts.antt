@@ -83,7 +83,7 @@ module _ {R : Type 0} (firing : Raise R) (g : Sent → ℕ) (id : ℕ) (adds : (
   answered_all receipt u t fit a =
       let none = sum_none (in_cpu firing g id adds) u.cpus.cpus absent in
       let own = ap (λ o. option_map_or (λ (r : Record). sum_by g r.ended) o 0)
-      (record_here id a.place a.own u.records fit.rising a.here a.named) in
+      (record_here id a.position a.own u.records fit.rising a.here a.named) in
       omega (arith, none, own)
     where
       lacks : (n : ℕ) (b : Bool) → has n id u.cpus ≡ b → has n id u.cpus ≡ false

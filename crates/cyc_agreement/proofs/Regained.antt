@@ -52,18 +52,18 @@ module _ {R : Type 0} (firing : Raise R) (n now : ℕ) where
   -- what the CPU has of these after they came back
   pub record Regained (rs : List Record) (v w : CpusView R) : Type 0 where
     pub came : Came (ids_in rs) (cyclics_on n v) (cyclics_on n w)
-    pub here : (k : ℕ) (r : Record) (when : When) (skew : ℕ) → IsRecord rs k r → r.place ≡ Everywhere when skew
+    pub here : (k : ℕ) (r : Record) (when : When) (skew : ℕ) → IsRecord rs k r → r.placement ≡ Everywhere when skew
         → Here (old_component n r when skew now) (cyclics_on n w) × HasRisingIds (cyclics_on n w)
 
   same_series : {a b : When} {i j : ℕ} → Everywhere a i ≡ Everywhere b j → (a ≡ b) × (i ≡ j)
   same_series {a} {b} {i} {j} e = (cc, cc)
 
-  regain_at : (r : Record) (place : Placement) (v w : CpusView R) → r.place ≡ place
+  regain_at : (r : Record) (place : Placement) (v w : CpusView R) → r.placement ≡ place
       → Works firing (return_at n now r.id r.level (ended_on n r) place) v w → Regained (r ∷ []) v w
   regain_at r (On m bound) v w is e = record {
     came = came_more r.id [] (cyclics_on n v) (cyclics_on n w)
         (came_none (cyclics_on n v) (cyclics_on n w) (ap (λ x. cyclics_on n x) (sym e)));
-    here = λ k q when skew at p. absurd (not_both m bound when skew (sym is ∙ ap (λ (x : Record). x.place) (one k q at) ∙ p));
+    here = λ k q when skew at p. absurd (not_both m bound when skew (sym is ∙ ap (λ (x : Record). x.placement) (one k q at) ∙ p));
   }
     where
       one : (k : ℕ) (q : Record) → IsRecord (r ∷ []) k q → r ≡ q
@@ -76,7 +76,7 @@ module _ {R : Type 0} (firing : Raise R) (n now : ℕ) where
     came = subst (λ l. Came (r.id ∷ []) l (cyclics_on n w)) (sym (were_there n _ v u places))
         (subst (λ l. Came (r.id ∷ []) places.before.cyclics l) after
         (came_placed firing _ places.before places.after places.change.1));
-    here = λ k q when other at p. (let (a, b) = same_series (sym is ∙ ap (λ (x : Record). x.place) (one k q at) ∙ p) in (
+    here = λ k q when other at p. (let (a, b) = same_series (sym is ∙ ap (λ (x : Record). x.placement) (one k q at) ∙ p) in (
       subst (λ c. Here c (cyclics_on n w)) (λ i. old_component n (one k q at i) (a i) (b i) now)
           (subst (λ l. Here (old_component n r series skew now) l) after
           (here_placed firing _ places.before places.after places.change.1)),
@@ -98,15 +98,15 @@ module _ {R : Type 0} (firing : Raise R) (n now : ℕ) where
         λ k r when skew at p. absurd (none_some at);
   }
   regained (r ∷ rs) v w works =
-      let (u, first, rest) = between (DoesAt firing) v (return_at n now r.id r.level (ended_on n r) r.place)
+      let (u, first, rest) = between (DoesAt firing) v (return_at n now r.id r.level (ended_on n r) r.placement)
       (returns n now rs) w works in
-      let a = regain_at r r.place v u refl first in let b = regained rs u w rest in record {
+      let a = regain_at r r.placement v u refl first in let b = regained rs u w rest in record {
         came = came_then r.id (ids_in rs) (cyclics_on n v) (cyclics_on n u) (cyclics_on n w) a.came b.came;
         here = λ k q when skew at p. by u a b k q when skew at p;
       }
     where
       by : (u : CpusView R) → Regained (r ∷ []) v u → Regained rs u w → (k : ℕ) (q : Record) (when : When) (skew : ℕ)
-          → IsRecord (r ∷ rs) k q → q.place ≡ Everywhere when skew
+          → IsRecord (r ∷ rs) k q → q.placement ≡ Everywhere when skew
           → Here (old_component n q when skew now) (cyclics_on n w) × HasRisingIds (cyclics_on n w)
       by u a b zero q when skew at p = let (here, rising) = a.here 0 q when skew at p in
           (b.came.old (old_component n q when skew now) here, b.came.rising rising)
@@ -131,7 +131,7 @@ module _ {R : Type 0} (firing : Raise R) (s t : SystemView R) (n now : ℕ)
   rest : Back n (staying s) did.0.1.2.0 did.0.0
   rest = back firing n now (staying s) did.0.1.2.0 did.0.0 (all_everywhere s.cpus s.records) works
 
-  pub all_back : (k : ℕ) (r : Record) (when : When) (skew : ℕ) → IsRecord s.records k r → r.place ≡ Everywhere when skew
+  pub all_back : (k : ℕ) (r : Record) (when : When) (skew : ℕ) → IsRecord s.records k r → r.placement ≡ Everywhere when skew
       → is_staying s.cpus r ≡ true → OfCpu n (λ cpu. HasOne (old_component n r when skew now) cpu.cyclics) t.cpus
   all_back k r when skew is place stays cpu at =
       let (j, there) = passing_at (is_staying s.cpus) k r s.records is stays in
@@ -179,7 +179,7 @@ module _ {R : Type 0} (firing : Raise R) (s t : SystemView R) (n now : ℕ)
           ∙ (let e : 0 + g (ended_on n r) ≡ g (ended_on n r) = omega arith in e)
 
       at_last : (k : ℕ) (r : Record) → IsRecord s.records k r → (b : Bool) → is_staying s.cpus r ≡ b → (p : Placement)
-          → r.place ≡ p
+          → r.placement ≡ p
           → option_map_or f (find (λ (c : Cyclic). c.timer.id == (after_return n s.cpus r).id) (cyclics_on n t.cpus)) 0 + g
           (ended_on n (after_return n s.cpus r)) ≡ g (ended_on n r)
       at_last k r is false leaves p place = let x = turned n (is_staying s.cpus r) r in
@@ -208,20 +208,20 @@ module _ {R : Type 0} (firing : Raise R) (s t : SystemView R) (n now : ℕ)
           (λ e. subst (λ j. option_map_or f (find (λ (c : Cyclic). c.timer.id == (after_return n s.cpus r).id)
           (cyclics_on j t.cpus)) 0 + g (ended_on j (after_return n s.cpus r))
           ≡ option_map_or f (find (λ (c : Cyclic). c.timer.id == r.id) (cyclics_on j s.cpus)) 0 + g (ended_on j r)) (sym e)
-          (at_last k r is (is_staying s.cpus r) refl r.place refl ∙ sym (at_first r)))
+          (at_last k r is (is_staying s.cpus r) refl r.placement refl ∙ sym (at_first r)))
           (λ ne. let x = turned n (is_staying s.cpus r) r in let same = (others_stay m ne).0 in
           (λ i. option_map_or f (find (λ (c : Cyclic). c.timer.id == x.id i)
           (option_map_or (λ (c : CpuView R). c.cyclics) (same i) [])) 0 + g (x.other m ne i)))
 
     pub nothing_lost : (k : ℕ) (r : Record) → IsRecord s.records k r
-        → (q : Record) × IsRecord t.records k q × (q.id ≡ r.id) × (q.level ≡ r.level) × (q.place ≡ r.place)
+        → (q : Record) × IsRecord t.records k q × (q.id ≡ r.id) × (q.level ≡ r.level) × (q.placement ≡ r.placement)
         × ((m : ℕ) → (expired_on m q t ≡ expired_on m r s) × (lost_on m q t ≡ lost_on m r s))
     nothing_lost k r is = let x = turned n (is_staying s.cpus r) r in (
       after_return n s.cpus r,
       ap (λ l. slice_get l k) did.1 ∙ at_mapped (after_return n s.cpus) k r s.records is,
       x.id,
       x.level,
-      x.place,
+      x.placement,
       λ m. (
         count_kept (λ c. c.timer.expired) (λ e. e.sent) refl (λ q when skew. refl) k r is m,
         count_kept (λ c. c.lost) (λ e. e.lost) refl (λ q when skew. refl) k r is m,

@@ -189,7 +189,7 @@ module _ {R : Type 0} (firing : Raise R) (g : Sent → ℕ) (id : ℕ) (adds : (
         ended_fit n receipt x y s t k r fit does.here cpus is named records,
         ended_all n receipt x y s t k r fit does.here cpus is named records
             (of_receipt receipt c own ∙ sym (ap (λ o. option_map_or of_cyclic o 0)
-            (cyclic_found x.cyclics id l.place c lawful.rising l.here l.named)))
+            (cyclic_found x.cyclics id l.position c lawful.rising l.here l.named)))
             (ap (λ o. option_map_or of_cyclic o 0) (none_found y.cyclics id
             (less_done firing id x y lawful receipt does.change).gone)),
       )
@@ -200,8 +200,8 @@ module _ {R : Type 0} (firing : Raise R) (g : Sent → ℕ) (id : ℕ) (adds : (
         stays_fit n y s t fit cpus records,
         stays_all n x y s t does.here cpus records
             (ap (λ cs. option_map_or of_cyclic (find (λ (e : Cyclic). e.timer.id == id) cs) 0) o.cyclics
-            ∙ found_set (λ (e : Cyclic). e.timer.id == id) of_cyclic x.cyclics o.place o.cyclic (with_moment never o.cyclic)
-            (at_place x.cyclics o.place o.cyclic o.here) refl refl),
+            ∙ found_set (λ (e : Cyclic). e.timer.id == id) of_cyclic x.cyclics o.position o.cyclic (with_moment never o.cyclic)
+            (at_place x.cyclics o.position o.cyclic o.here) refl refl),
       )
 
   pub poll_keeps : (n : ℕ) (answer : Option Receipt) (s t : SystemView R) → PollsOn firing id n answer s t
@@ -214,7 +214,7 @@ module _ {R : Type 0} (firing : Raise R) (g : Sent → ℕ) (id : ℕ) (adds : (
         ended_fit n receipt x y s t k r fit does.here cpus is named records,
         ended_all n receipt x y s t k r fit does.here cpus is named records
             (of_receipt receipt e.cyclic e.counted ∙ sym (ap (λ o. option_map_or of_cyclic o 0)
-            (cyclic_found x.cyclics id e.leaves.place e.cyclic lawful.rising e.leaves.here (e.leaves.named
+            (cyclic_found x.cyclics id e.leaves.position e.cyclic lawful.rising e.leaves.here (e.leaves.named
             ∙ same_some (sym e.was_open ∙ open_here)))))
             (ap (λ o. option_map_or of_cyclic o 0) (none_found y.cyclics id
             (less_ended firing id x y lawful receipt open_here e).gone)),

@@ -37,7 +37,7 @@ module _ {R : Type 0} (firing : Raise R) (id place : ℕ) (v w : CpusView R)
       → Answers id receipt (system w rs' last) (system w (remove rs' place) last)
   answered receipt none counts = record {
     nowhere = nowhere id w none;
-    place = place;
+    position = place;
     own = d.after;
     here = now_here id place v w rs rs' d;
     named = d.same_id ∙ ap (λ (r : Record). r.id) (same_some (sym d.was ∙ o.here)) ∙ o.named;

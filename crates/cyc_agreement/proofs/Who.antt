@@ -111,7 +111,7 @@ module _ {R : Type 0} (firing : Raise R) (x y : CpuView R) where
       grown : (q : ℕ) → among q (ids_of y) ≡ ((c.timer.id == q) || among q (ids_of x))
       grown q = any_map id_in (λ own. own == q) y.cyclics
           ∙ ap (λ cs. list_any (λ (e : Cyclic). e.timer.id == q) cs) a.cyclics
-          ∙ any_insert (λ (e : Cyclic). e.timer.id == q) x.cyclics a.place c
+          ∙ any_insert (λ (e : Cyclic). e.timer.id == q) x.cyclics a.position c
           ∙ ap (λ b. (c.timer.id == q) || b) (sym (any_map id_in (λ own. own == q) x.cyclics))
 
 module _ {R : Type 0} (firing : Raise R) (x y : CpuView R) where

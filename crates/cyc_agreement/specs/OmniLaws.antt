@@ -50,7 +50,7 @@ old_component n r when skew now =
 -- after a CPU took part again it has one component of each omnipresent cyclic whose removal is not open
 abbrev pub AllCameBack : {R : Type 0} → Raise R → Type 0
 AllCameBack {R} firing = (s t : SystemView R) (n now : ℕ) → GoesOnline firing n now (Ok tt) s t
-    → (k : ℕ) (r : Record) (when : When) (skew : ℕ) → IsRecord s.records k r → r.place ≡ Everywhere when skew
+    → (k : ℕ) (r : Record) (when : When) (skew : ℕ) → IsRecord s.records k r → r.placement ≡ Everywhere when skew
     → is_staying s.cpus r ≡ true → OfCpu n (λ cpu. HasOne (old_component n r when skew now) cpu.cyclics) t.cpus
 
 -- and no other CPU was touched
@@ -73,5 +73,5 @@ abbrev pub NothingIsLost : {R : Type 0} → Raise R → Type 0
 NothingIsLost {R} firing = (s t : SystemView R) (n now : ℕ) → Agrees s → HasRisingIds s.records
     → is_online n s.cpus ≡ false
     → GoesOnline firing n now (Ok tt) s t → (k : ℕ) (r : Record) → IsRecord s.records k r
-    → (q : Record) × IsRecord t.records k q × (q.id ≡ r.id) × (q.level ≡ r.level) × (q.place ≡ r.place)
+    → (q : Record) × IsRecord t.records k q × (q.id ≡ r.id) × (q.level ≡ r.level) × (q.placement ≡ r.placement)
     × ((m : ℕ) → (expired_on m q t ≡ expired_on m r s) × (lost_on m q t ≡ lost_on m r s))

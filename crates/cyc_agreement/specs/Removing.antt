@@ -67,13 +67,13 @@ kept_in (Kept kept) = kept
 -- the removal is over: no CPU has the cyclic any more, its record goes, and the receipt has the counts of all its stays
 pub record Answers {R : Type 0} (id : ℕ) (receipt : Receipt) (s t : SystemView R) : Type 0 where
   pub nowhere : cpus_with id s.cpus ≡ []
-  pub place : ℕ
+  pub position : ℕ
   pub own : Record
-  pub here : IsRecord s.records place own
+  pub here : IsRecord s.records position own
   pub named : own.id ≡ id
   pub counts : IsReceiptOf receipt own
   pub cpus : t.cpus ≡ s.cpus
-  pub records : t.records ≡ remove s.records place
+  pub records : t.records ≡ remove s.records position
   pub last : t.last ≡ s.last
 
 -- The removal began on every CPU that has the cyclic. It is over at once where each of them found no call outstanding; else

@@ -18,12 +18,12 @@ use cyc_types::{CyclicId, Raise, Receipt, Sent};
 
 /// The stay of a cyclic on the CPU of this number has ended with this receipt: its record keeps the counts, which are at most
 /// `most`.
-fn keep_counts(records: &mut Records, place: usize, number: u32, receipt: Receipt, most: u64)
+fn keep_counts(records: &mut Records, position: usize, number: u32, receipt: Receipt, most: u64)
     requires number { number < 16 }
-    requires fresh { (r : Record) × IsRecord records.old.list place r × (ended_on number r ≡ no_counts) }
+    requires fresh { (r : Record) × IsRecord records.old.list position r × (ended_on number r ≡ no_counts) }
     requires few { receipt.sent ≤ most }
-    ensures { (r : Record) → IsRecord records.old.list place r
-        → records.new.list ≡ slice_set records.old.list place
+    ensures { (r : Record) → IsRecord records.old.list position r
+        → records.new.list ≡ slice_set records.old.list position
         (with_ended number (summed (ended_on number r) (counts_of receipt)) r) }
 {
     let _most = most;
@@ -31,26 +31,26 @@ fn keep_counts(records: &mut Records, place: usize, number: u32, receipt: Receip
         sent: receipt.sent as u64,
         lost: receipt.lost as u64,
     };
-    records.add_ended(place, number as usize, counts);
+    records.add_ended(position, number as usize, counts);
 }
 
 /// The removal begins on one CPU. It answers the calls that are kept there; where none is, the counts are kept.
 pub(crate) fn begin_at<R: Raise>(
     cpus: &mut Cpus<R>,
     records: &mut Records,
-    place: usize,
+    position: usize,
     id: CyclicId,
     number: u32,
 ) -> u64
     requires number { number < length cpus.old.cpus }
     requires few { number < 16 }
-    requires owns { Owns id place cpus.old records.old.list }
+    requires owns { Owns id position cpus.old records.old.list }
     requires here { has number id cpus.old ≡ true }
     requires still { removal_on number cpus.old ≡ None }
     ensures did { (last : ℕ) → (found : TheRemoval) × (result ≡ kept_in found)
         × BeginsOn R.Raise id number found (system cpus.old records.old.list last) (system cpus.new records.new.list last) }
     ensures few { result < 2 ^ 32 }
-    ensures withdraws { WithdrawsAt number id place cpus.old cpus.new records.old.list records.new.list }
+    ensures withdraws { WithdrawsAt number id position cpus.old cpus.new records.old.list records.new.list }
 {
     cpus.law();
     let most = cpus.cpu(number).most();
@@ -59,7 +59,7 @@ pub(crate) fn begin_at<R: Raise>(
     };
     match found {
         Removal::Done(receipt) => {
-            keep_counts(records, place, number, receipt, most);
+            keep_counts(records, position, number, receipt, most);
             0
         }
         Removal::Kept(kept) => u64::from(kept),
@@ -70,21 +70,21 @@ pub(crate) fn begin_at<R: Raise>(
 pub(crate) fn poll_at<R: Raise>(
     cpus: &mut Cpus<R>,
     records: &mut Records,
-    place: usize,
+    position: usize,
     id: CyclicId,
     number: u32,
 )
     requires number { number < length cpus.old.cpus }
     requires few { number < 16 }
-    requires owns { Owns id place cpus.old records.old.list }
+    requires owns { Owns id position cpus.old records.old.list }
     requires open_here { removal_on number cpus.old ≡ Some id }
     ensures did { (last : ℕ) → (answer : Option TheReceipt)
         × PollsOn R.Raise id number answer (system cpus.old records.old.list last) (system cpus.new records.new.list last) }
-    ensures withdraws { WithdrawsAt number id place cpus.old cpus.new records.old.list records.new.list }
+    ensures withdraws { WithdrawsAt number id position cpus.old cpus.new records.old.list records.new.list }
 {
     cpus.law();
     let most = cpus.cpu(number).most();
     if let Some(receipt) = cpus.cpu_mut(number).poll_remove() {
-        keep_counts(records, place, number, receipt, most);
+        keep_counts(records, position, number, receipt, most);
     }
 }

@@ -30,7 +30,7 @@ pub(crate) fn any_pending<R: Raise>(cpus: &mut Cpus<R>, source: u32) -> bool
 {
     cpus.law();
     let mut passed = None;
-    for _place in 0..cpus.cpu(source).len() {
+    for _position in 0..cpus.cpu(source).len() {
         let Some(id) = cpus.cpu(source).id_after(passed) else {
             unreachable!()
         };
@@ -54,13 +54,13 @@ fn retire<R: Raise>(cpus: &mut Cpus<R>, records: &mut Records, source: u32, id: 
         → EndedWithin (system_of cpus.new records.new last) }
 {
     records.law();
-    let Some(place) = records.find(id) else {
+    let Some(position) = records.find(id) else {
         unreachable!()
     };
     let Ok(taken) = cpus.cpu_mut(source).take_now(id) else {
         unreachable!()
     };
-    records.add_ended(place, source as usize, taken.sent);
+    records.add_ended(position, source as usize, taken.sent);
 }
 
 /// All components leave the CPU, by rising id.

@@ -61,8 +61,8 @@ pub fn system_totals<R: Raise>(
     ensures holds { (last : ℕ) → Holds (system cpus.old records.now.list last) → Holds (system cpus.new records.now.list last) }
 {
     records.law();
-    let place = records.find(id)?;
-    let record = records.at(place);
+    let position = records.find(id)?;
+    let record = records.at(position);
     let going_on = ask_each(cpus, id);
     Some(SystemTotals {
         expired: record.ended_sent() + going_on.expired,

@@ -21,7 +21,7 @@ use thiserror::Error;
 #[error("the event is not enabled")]
 pub struct NotEnabled;
 
-/// The place of the first event of a list, counted from 0, that was not enabled when its turn came.
+/// The position of the first event of a list, counted from 0, that was not enabled when its turn came.
 #[derive(Clone, Copy, Debug, PartialEq, Eq, Error)]
 #[error("event {0} is not enabled")]
 pub struct NotEnabledAt(pub usize);
@@ -32,10 +32,10 @@ impl LevelCore {
         requires { Enabled (Admit id index) (level_of self.old) }
         ensures { level_of self.new ≡ after (Admit id index) (level_of self.old) }
     {
-        let place = index.number() as usize;
-        reach(&mut self.kept, place);
+        let position = index.number() as usize;
+        reach(&mut self.kept, position);
         self.ids.insert(id, index);
-        self.kept[place] = Kept {
+        self.kept[position] = Kept {
             id,
             sent: 0,
             done: 0,

@@ -211,7 +211,7 @@ leaves_gone : (id j : ℕ) (way : List FiringCall) (c : Cyclic) (v w : CpuView T
     → Leaves raise_tables j way c v w → IsGone id w
 leaves_gone id j way c v w spared h l =
     goes_gone id c.timer.level way v w spared h l.goes
-    (subst (λ cs. HasNoCyclic id cs) (sym l.cyclics) (none_removed id v.cyclics l.place l.here.0 h.no_cyclic))
+    (subst (λ cs. HasNoCyclic id cs) (sym l.cyclics) (none_removed id v.cyclics l.position l.here.0 h.no_cyclic))
 
 widened_end : (id n m bank : ℕ) (a b : Tables) → IsAbsent id (level_of a) → (m ≤ n → b ≡ a)
     → (n < m → Goes raise_tables a (Expands bank ∷ []) b) → IsAbsent id (level_of b)
@@ -250,7 +250,7 @@ placed_gone : (id : ℕ) (v w : CpuView Tables) (c : Cyclic) → c.timer.id ≢ 
     → IsGone id w
 placed_gone id v w c not h p =
     goes_gone id c.timer.level (Admits c.timer.id p.index ∷ []) v w ((λ q. not (sym q)), tt) h (p.lock, p.low)
-    (subst (λ cs. HasNoCyclic id cs) (sym p.cyclics) (none_placed id v.cyclics p.place c p.within not h.no_cyclic))
+    (subst (λ cs. HasNoCyclic id cs) (sym p.cyclics) (none_placed id v.cyclics p.position c p.within not h.no_cyclic))
 
 inquired_gone : (id : ℕ) (v w : CpuView Tables) → IsGone id v → Inquires raise_tables v w → IsGone id w
 inquired_gone id v w h i = record {
@@ -302,7 +302,7 @@ changes_gone id v w (BeginRemove j (Ok (Done receipt))) h not (still, (c, counts
     leaves_gone id j _ c v w (tt, (tt, tt)) h l
 changes_gone id v w (BeginRemove j (Ok (Kept kept))) h not (still, o) =
     goes_gone id o.cyclic.timer.level (Marks j kept ∷ []) v w (tt, tt) h o.goes
-    (subst (λ cs. HasNoCyclic id cs) (sym o.cyclics) (none_changed id v.cyclics o.place never o.cyclic o.here h.no_cyclic))
+    (subst (λ cs. HasNoCyclic id cs) (sym o.cyclics) (none_changed id v.cyclics o.position never o.cyclic o.here h.no_cyclic))
 changes_gone id v w (BeginRemove j (Err e)) h not d = same_gone id v w h d.1
 changes_gone id v w (PollRemove (Some receipt)) h not e = leaves_gone id receipt.id _ e.cyclic v w (tt, tt) h e.leaves
 changes_gone id v w (PollRemove None) h not (inl d) = same_gone id v w h d.1
@@ -442,7 +442,7 @@ module _ (id : ℕ) (v w : CpuView Tables) (c : Cyclic) (way : List FiringCall) 
         (let out : (level_of a).cyclics id ≡ None = not_stays ((level_of a).cyclics id) (λ x e.
         let (k, d, here, named, at) = admitted.only id (stay_of x) (ap (option_map stay_of) e) in
         off (ap (λ (y : Cyclic). y.timer.level) (sym
-        (one_cyclic v.cyclics l.place k c d rising l.here here (named ∙ sym l.named))) ∙ at)) in
+        (one_cyclic v.cyclics l.position k c d rising l.here here (named ∙ sym l.named))) ∙ at)) in
         subst (λ (x : Tables). IsAbsent id (level_of x)) (sym (goes_not raise_tables own c.timer.level a b way goes off))
         (record { not_admitted = out; nowhere = law.one_place id ∙ ap (λ o. one_if_any (count_in o)) out }))
   ]
@@ -452,7 +452,7 @@ module _ (id : ℕ) (v w : CpuView Tables) (c : Cyclic) (way : List FiringCall) 
       ((a b : Tables) → place_count (level_of a) id ≡ one_if_any (count (level_of a) id) → ends_absent id a b way) → IsGone id w
   left_gone lock low lock_law low_law ends = record {
     no_cyclic = subst (λ cs. HasNoCyclic id cs) (sym l.cyclics)
-        (subst (λ j. HasNoCyclic j (remove v.cyclics l.place)) l.named (none_left v.cyclics l.place c rising l.here));
+        (subst (λ j. HasNoCyclic j (remove v.cyclics l.position)) l.named (none_left v.cyclics l.position c rising l.here));
     lock = end_left level.Lock v.lock w.lock lock lock_law (ends v.lock w.lock (lock_law.one_place id)) l.goes.0;
     low = end_left level.Low v.low w.low low low_law (ends v.low w.low (low_law.one_place id)) l.goes.1;
   }

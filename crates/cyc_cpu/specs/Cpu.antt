@@ -64,7 +64,7 @@ pub record IsFresh (v : FiringView) : Type 0 where
   pub bank : v.bank ≡ 0
   pub free : v.hand_free ≡ true
 
--- the cyclic at a place
+-- the cyclic at a position
 abbrev pub IsCyclic : List Cyclic → ℕ → Cyclic → Type 0
 IsCyclic cs k c = (k < length cs) × (slice_index_or cs k c ≡ c)
 
@@ -97,9 +97,9 @@ with_moment m c = record c { timer = record c.timer { moment = m } }
 -- the cyclic was asked for at its end, which answered so many calls outstanding; nothing else was done
 pub record Asks {R : Type 0} (firing : Raise R) (id n : ℕ)
     (v w : CpuView R) : Type 0 where
-  pub place : ℕ
+  pub position : ℕ
   pub cyclic : Cyclic
-  pub here : IsCyclic v.cyclics place cyclic
+  pub here : IsCyclic v.cyclics position cyclic
   pub named : cyclic.timer.id ≡ id
   pub high : cyclic.timer.level ≡ High → n ≡ 0
   pub lock : Goes firing v.lock (asks_at Lock cyclic.timer.level id n) w.lock
@@ -198,13 +198,13 @@ cyclic_with id level interval moment expired lost =
 abbrev pub new_cyclic : ℕ → Level → ℕ → ℕ → Cyclic
 new_cyclic id level interval moment = cyclic_with id level interval moment 0 0
 
--- the cyclic stands at its place among the others, and is admitted at the end of its level
+-- the cyclic stands at its position among the others, and is admitted at the end of its level
 pub record Places {R : Type 0} (firing : Raise R) (c : Cyclic)
     (v w : CpuView R) : Type 0 where
-  pub place : ℕ
+  pub position : ℕ
   pub index : ℕ
-  pub within : place ≤ length v.cyclics
-  pub cyclics : w.cyclics ≡ insert v.cyclics place c
+  pub within : position ≤ length v.cyclics
+  pub cyclics : w.cyclics ≡ insert v.cyclics position c
   pub rising : HasRisingIds w.cyclics
   pub lock : Goes firing v.lock (admits_at Lock c.timer.level c.timer.id index) w.lock
   pub low : Goes firing v.low (admits_at Low c.timer.level c.timer.id index) w.low

@@ -85,7 +85,7 @@ module _ (v w : CpuView Tables) (law : IsLawful firing_at v) (lock : Lawful (lev
       c.timer.level ≢ High → (n : ℕ) → HasCalls c.carried n →
       c.timer.expired ≡ c.lost + (n + done_by c.timer.level v id)
   left_calls id way c l finds soft n carried =
-      at_level id n way c l.place l.here l.named finds c.timer.level refl soft l.goes.0 l.goes.1 carried
+      at_level id n way c l.position l.here l.named finds c.timer.level refl soft l.goes.0 l.goes.1 carried
 
   balanced_at : (c : Cyclic) (k : ℕ) → IsCyclic v.cyclics k c → (own : Level) → c.timer.level ≡ own → own ≢ High → (n : ℕ) →
       HasCalls c.carried n → c.timer.expired ≡ c.lost + (n + done_by own v c.timer.id) + pending_by own v c.timer.id
@@ -101,7 +101,7 @@ module _ (v w : CpuView Tables) (law : IsLawful firing_at v) (lock : Lawful (lev
       left_by call id ≡ counts_of own s id → s.sent ≡ c.timer.expired → s.lost ≡ c.lost →
       FindsNone own way → Leaves raise_tables own way c v w → AnswersCalls id call v
   answer id own way c s call same is sent lost finds l = record {
-    place = l.place;
+    position = l.position;
     cyclic = c;
     here = l.here;
     named = l.named ∙ same;

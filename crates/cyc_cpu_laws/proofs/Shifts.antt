@@ -81,7 +81,7 @@ module _ {R : Type 0} (firing : Raise R) where
 
   left : (call : CpuCall) (id : ℕ) (way : List FiringCall) (c : Cyclic) (v w : CpuView R) → TakesOut call c →
       Leaves firing id way c v w → Shifts call v.cyclics w.cyclics
-  left call id way c v w out l = inr (inr (inr (l.place, c, l.here, l.cyclics, out)))
+  left call id way c v w out l = inr (inr (inr (l.position, c, l.here, l.cyclics, out)))
 
   not_taken : (id : ℕ) (v w : CpuView R) (e : Refusal) → WhyNotTaken firing id v e w →
       Shifts (TakeNow id (Err e)) v.cyclics w.cyclics
@@ -99,16 +99,16 @@ module _ {R : Type 0} (firing : Raise R) where
   changes_shift v w (Add id level when now (Ok done)) (absent, early, a) =
       let before : a.widened.cyclics ≡ v.cyclics = a.widens.cyclics ∙ a.reserves.cyclics in
       inr (inr (inl (
-        a.enters.place,
+        a.enters.position,
         _,
-        subst (λ cs. a.enters.place ≤ length cs) before a.enters.within,
-        subst (λ cs. w.cyclics ≡ insert cs a.enters.place _) before a.enters.cyclics,
+        subst (λ cs. a.enters.position ≤ length cs) before a.enters.within,
+        subst (λ cs. w.cyclics ≡ insert cs a.enters.position _) before a.enters.cyclics,
         λ j. (zero_if (id == j), zero_if (id == j), refl, (λ not. not)),
       )))
   changes_shift v w (Add id level when now (Err e)) d = not_added id now level when v w e d
   changes_shift v w (Place id level interval moment carried) (may, p) =
       inr (inr (inl (
-        p.place,
+        p.position,
         _,
         p.within,
         p.cyclics,
@@ -145,7 +145,7 @@ module _ {R : Type 0} (firing : Raise R) where
         lost_as id s c l.named is.2 j,
       )) l
   changes_shift v w (BeginRemove id (Ok (Kept kept))) (still, o) = inr (inl (
-    o.place,
+    o.position,
     never,
     o.cyclic,
     o.here,

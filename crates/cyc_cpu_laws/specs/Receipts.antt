@@ -43,9 +43,9 @@ IsBalanced v c = c.timer.level ≢ High → (n : ℕ) → HasCalls c.carried n �
 
 -- what the call answers of the id: the calls that its cyclic carried in, and those that were done here
 pub record AnswersCalls (id : ℕ) (call : CpuCall) (v : CpuView Tables) : Type 0 where
-  pub place : ℕ
+  pub position : ℕ
   pub cyclic : Cyclic
-  pub here : IsCyclic v.cyclics place cyclic
+  pub here : IsCyclic v.cyclics position cyclic
   pub named : cyclic.timer.id ≡ id
   pub calls : cyclic.timer.level ≢ High → (n : ℕ) → HasCalls cyclic.carried n
       → HasCalls (left_by call id) (n + done_by cyclic.timer.level v id)

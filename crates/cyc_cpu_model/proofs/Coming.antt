@@ -49,7 +49,7 @@ shown_reserved online more v w r = shown_same online v w r.cyclics r.size r.remo
 pub placed : (n : ℕ) (online : Bool) (x : Timed) (v w : CpuView Tables) → (p : Places raise_tables x v w) → HasRisingIds w.cyclics
     → shown_cpu online w ≡ (place_here n p.index (shown x) (shown_cpu online v)).cpu
 placed n online x v w p rising =
-    let cyclics = ap (map shown) p.cyclics ∙ put_shown v.cyclics p.place x p.within (subst HasRisingIds p.cyclics rising) in
+    let cyclics = ap (map shown) p.cyclics ∙ put_shown v.cyclics p.position x p.within (subst HasRisingIds p.cyclics rising) in
     let lock = admitted_level (same_level Lock x.timer.level) x.timer.id p.index v.lock w.lock p.lock in
     let low = admitted_level (same_level Low x.timer.level) x.timer.id p.index v.low w.low p.low in
     (λ z. record {

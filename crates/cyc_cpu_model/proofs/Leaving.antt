@@ -93,12 +93,12 @@ pub opened : (n id kept : ℕ) (online : Bool) (v w : CpuView Tables) → HasRis
 opened n id kept online v w rising o =
     let level = o.cyclic.timer.level in
     let cyclics : map shown w.cyclics ≡ map (moment_at id never) (map shown v.cyclics) =
-    ap (map shown) o.cyclics ∙ moved_shown v.cyclics o.place never o.cyclic rising o.here
+    ap (map shown) o.cyclics ∙ moved_shown v.cyclics o.position never o.cyclic rising o.here
     ∙ ap (λ i. map (moment_at i never) (map shown v.cyclics)) o.named in
     let lock = marked_level (same_level Lock level) id kept v.lock w.lock o.goes.0 in
     let low = marked_level (same_level Low level) id kept v.low w.low o.goes.1 in
     (λ z. record { online = online; cyclics = cyclics z; size = o.size z; removal = o.removal z; lock = lock z; low = low z })
-    ∙ sym (mark_as n id level (shown_cpu online v) (level_found online o.place id o.cyclic v rising o.here o.named))
+    ∙ sym (mark_as n id level (shown_cpu online v) (level_found online o.position id o.cyclic v rising o.here o.named))
 
 -- ---- a removal ends
 
@@ -121,7 +121,7 @@ pub left_as : (id : ℕ) (way : List FiringCall) (x : Timed) (v w : CpuView Tabl
     → Leaves raise_tables id way x v w
     → map shown w.cyclics ≡ others id (map shown v.cyclics)
 left_as id way x v w rising l =
-    ap (map shown) l.cyclics ∙ left_shown v.cyclics l.place x rising l.here ∙ ap (λ i. others i (map shown v.cyclics)) l.named
+    ap (map shown) l.cyclics ∙ left_shown v.cyclics l.position x rising l.here ∙ ap (λ i. others i (map shown v.cyclics)) l.named
 
 pub cleared : (n id : ℕ) (online : Bool) (counts : Sent) (x : Timed) (v w : CpuView Tables) → HasRisingIds v.cyclics
     → Leaves raise_tables id (Polls id (Some counts) ∷ []) x v w → shown_cpu online w ≡ (clear_here n id (shown_cpu online v)).cpu
@@ -131,7 +131,7 @@ cleared n id online counts x v w rising l =
     let lock = cleared_level (same_level Lock level) id counts v.lock w.lock l.goes.0 in
     let low = cleared_level (same_level Low level) id counts v.low w.low l.goes.1 in
     (λ z. record { online = online; cyclics = cyclics z; size = l.size z; removal = l.removal z; lock = lock z; low = low z })
-    ∙ sym (clear_as n id level (shown_cpu online v) (level_found online l.place id x v rising l.here l.named))
+    ∙ sym (clear_as n id level (shown_cpu online v) (level_found online l.position id x v rising l.here l.named))
 
 -- a removal that is done at once
 pub ended : (n id : ℕ) (online : Bool) (counts : Sent) (x : Timed) (v w : CpuView Tables) → HasRisingIds v.cyclics
@@ -140,7 +140,7 @@ pub ended : (n id : ℕ) (online : Bool) (counts : Sent) (x : Timed) (v w : CpuV
 ended n id online counts x v w rising l =
     let level = x.timer.level in
     let c = shown_cpu online v in
-    let here = level_found online l.place id x v rising l.here l.named in
+    let here = level_found online l.position id x v rising l.here l.named in
     let cyclics : map shown w.cyclics ≡ others id (map (moment_at id never) (map shown v.cyclics)) =
     left_as id _ x v w rising l ∙ sym (others_moved id never (map shown v.cyclics)) in
     let lock = ended_level (same_level Lock level) id counts v.lock w.lock l.goes.0 in
@@ -174,7 +174,7 @@ pub taken : (n id : ℕ) (online : Bool) (counts : Sent) (x : Timed) (v w : CpuV
 taken n id online counts x v w rising still l =
     let level = x.timer.level in
     let c = shown_cpu online v in
-    let here = level_found online l.place id x v rising l.here l.named in
+    let here = level_found online l.position id x v rising l.here l.named in
     let cyclics = left_as id _ x v w rising l in
     let removal = l.removal ∙ sym still in
     let lock = taken_level (same_level Lock level) id counts v.lock w.lock l.goes.0 in

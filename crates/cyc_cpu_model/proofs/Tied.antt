@@ -90,17 +90,17 @@ rises handler (Reserve more (Ok done)) s t goes (d, calls) rising = same_cyclics
 rises handler (Reserve more (Err e)) s t goes (d, calls) rising = same_cyclics s.cpu t.cpu d.0.cyclics rising
 rises handler (Widen more) s t goes (d, calls) rising = same_cyclics s.cpu t.cpu d.1.cyclics rising
 rises handler (BeginRemove id (Ok (Done receipt))) s t goes ((still, (x, counts, is, polled, leaves)), calls) rising =
-    subst HasRisingIds (sym leaves.cyclics) (rises_left s.cpu.cyclics leaves.place rising)
+    subst HasRisingIds (sym leaves.cyclics) (rises_left s.cpu.cyclics leaves.position rising)
 rises handler (BeginRemove id (Ok (Kept kept))) s t goes ((still, opens), calls) rising =
-    subst HasRisingIds (sym opens.cyclics) (rises_moved s.cpu.cyclics opens.place never opens.cyclic opens.here rising)
+    subst HasRisingIds (sym opens.cyclics) (rises_moved s.cpu.cyclics opens.position never opens.cyclic opens.here rising)
 rises handler (BeginRemove id (Err e)) s t goes (d, calls) rising = same_cpu s.cpu t.cpu d.1 rising
 rises handler (PollRemove (Some receipt)) s t goes (ends, calls) rising =
-    subst HasRisingIds (sym ends.leaves.cyclics) (rises_left s.cpu.cyclics ends.leaves.place rising)
+    subst HasRisingIds (sym ends.leaves.cyclics) (rises_left s.cpu.cyclics ends.leaves.position rising)
 rises handler (PollRemove None) s t goes (inl none, calls) rising = same_cpu s.cpu t.cpu none.1 rising
 rises handler (PollRemove None) s t goes (inr (id, is_open, waits), calls) rising =
     same_cyclics s.cpu t.cpu waits.cyclics rising
 rises handler (TakeNow id (Ok got)) s t goes ((still, (x, counts, is, polled, leaves)), calls) rising =
-    subst HasRisingIds (sym leaves.cyclics) (rises_left s.cpu.cyclics leaves.place rising)
+    subst HasRisingIds (sym leaves.cyclics) (rises_left s.cpu.cyclics leaves.position rising)
 rises handler (TakeNow id (Err e)) s t goes (d, calls) rising = not_taken id e s.cpu t.cpu d rising
 rises handler Suspend s t goes (d, calls) rising = same_cyclics s.cpu t.cpu (ap (λ (x : CpuView Tables). x.cyclics) d) rising
 rises handler Resume s t goes (d, calls) rising = same_cyclics s.cpu t.cpu (ap (λ (x : CpuView Tables). x.cyclics) d) rising
@@ -147,7 +147,7 @@ owns handler n index online (BeginRemove id (Ok (Done receipt))) s t rising goes
     clear_ties n id (mark_here n id (shown_cpu online s.cpu)).cpu (mark_known n id (shown_cpu online s.cpu) h.known)
 owns handler n index online (BeginRemove id (Ok (Kept kept))) s t rising goes ((still, opens), calls) h =
     mark_ties n id (shown_cpu online s.cpu)
-    (λ high. opens.soft (sym (level_found online opens.place id opens.cyclic s.cpu rising opens.here opens.named) ∙ high)) h.known
+    (λ high. opens.soft (sym (level_found online opens.position id opens.cyclic s.cpu rising opens.here opens.named) ∙ high)) h.known
 owns handler n index online (BeginRemove id (Err e)) s t rising goes d h = h
 owns handler n index online (PollRemove (Some receipt)) s t rising goes d h =
     clear_ties n receipt.id (shown_cpu online s.cpu) h.known

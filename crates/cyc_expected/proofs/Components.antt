@@ -130,7 +130,7 @@ module _ (indexes : ℕ → ℕ) (n : ℕ) where
   pub returns_elsewhere : (m : ℕ) (ps : List Placed) (s : State) → m ≢ n → cpu_of m (returns ps s) ≡ cpu_of m s
   returns_elsewhere m [] s far = refl
   returns_elsewhere m (p ∷ ps) s far = returns_elsewhere m ps (return_of indexes n p s).state far
-      ∙ return_elsewhere p.id m p.place s far
+      ∙ return_elsewhere p.id m p.placement s far
 
   return_clock : (j : ℕ) (p : Placement) (s : State)
       → ((return_at indexes n j p s).state.clock ≡ s.clock) × (length (return_at indexes n j p s).state.cpus ≡ length s.cpus)
@@ -153,10 +153,10 @@ module _ (indexes : ℕ → ℕ) (n id : ℕ) where
       → seen (found_in id) (returns indexes n ps s) ≡ seen (found_in id) s
   returns_others [] s above = refl
   returns_others (p ∷ ps) s above = returns_others ps (return_of indexes n p s).state above.1
-      ∙ return_other p.id p.place s (λ same. let a = above.0 in absurd (omega (arith, a, same)))
+      ∙ return_other p.id p.placement s (λ same. let a = above.0 in absurd (omega (arith, a, same)))
 
   returns_there : (e : Everywhere) (p : Placed) (low high : ℕ) (ps : List Placed) (s : State) → RiseTo low ps high
-      → n < length s.cpus → found id (cpu_of n s).cyclics ≡ None → entry id ps ≡ Some p → p.place ≡ OnAll e
+      → n < length s.cpus → found id (cpu_of n s).cyclics ≡ None → entry id ps ≡ Some p → p.placement ≡ OnAll e
       → series_on id (cpu_of n (returns indexes n ps s)) ≡ Some (component_first n e s.clock, e.interval)
   returns_there e p low high [] s rise within none is all = absurd (cc)
   returns_there e p low high (q ∷ qs) s rise within none is all = dite (ℕ_discrete q.id id)
@@ -167,7 +167,7 @@ module _ (indexes : ℕ → ℕ) (n id : ℕ) where
       let r = without_ended n q.id s in
       let place = place_here n (indexes s.admissions) x in
       let back : t ≡ (return_at indexes n q.id (OnAll e) s).state =
-      ap (λ place. (return_at indexes n q.id place s).state) (ap (λ (z : Placed). z.place) mine ∙ all) in
+      ap (λ place. (return_at indexes n q.id place s).state) (ap (λ (z : Placed). z.placement) mine ∙ all) in
       let above = subst (λ k. Each (λ z. k < z.id) qs) same (each_above q.id high qs rise.1) in
       ap (option_map series_of) (seen_at (found_in id) t (returns indexes n qs t) (returns_others qs t above) n)
       ∙ (ap (λ u. series_on id (cpu_of n u)) back
@@ -176,25 +176,25 @@ module _ (indexes : ℕ → ℕ) (n id : ℕ) where
       ∙ put_same id x (cpu_of n s).cyclics same none))))
       (λ far.
       let t = (return_of indexes n q s).state in
-      let kept = return_clock indexes n q.id q.place s in
+      let kept = return_clock indexes n q.id q.placement s in
       returns_there e p q.id high qs t rise.1 (subst (λ k. n < k) (sym kept.1) within)
-      (seen_at (found_in id) s t (return_other q.id q.place s far) n ∙ none) (sym (entry_past id q qs far) ∙ is) all
+      (seen_at (found_in id) s t (return_other q.id q.placement s far) n ∙ none) (sym (entry_past id q qs far) ∙ is) all
       ∙ ap (λ now. Some (component_first n e now, e.interval)) kept.0)
 
 -- the entry of an omnipresent cyclic whose removal isn't open is among those that stay
 stays_entry : (id : ℕ) (e : Everywhere) (s : State) → placement_of id s ≡ Some (OnAll e) → is_leaving id s ≡ false
-    → (p : Placed) × (entry id (staying s) ≡ Some p) × (p.place ≡ OnAll e)
+    → (p : Placed) × (entry id (staying s) ≡ Some p) × (p.placement ≡ OnAll e)
 stays_entry id e s is shut = by (entry id s.placed) refl is
   where
-    by : (o : Option Placed) → entry id s.placed ≡ o → option_map (λ (p : Placed). p.place) o ≡ Some (OnAll e)
-        → (p : Placed) × (entry id (staying s) ≡ Some p) × (p.place ≡ OnAll e)
+    by : (o : Option Placed) → entry id s.placed ≡ o → option_map (λ (p : Placed). p.placement) o ≡ Some (OnAll e)
+        → (p : Placed) × (entry id (staying s) ≡ Some p) × (p.placement ≡ OnAll e)
     by None at h = absurd (cc)
     by (Some p) at h =
-        let place : p.place ≡ OnAll e = some_same p.place (OnAll e) h in
+        let place : p.placement ≡ OnAll e = some_same p.placement (OnAll e) h in
         let one = entry_filter (λ q. not (is_leaving q.id s)) id p s.placed at
         (ap (λ (k : ℕ). not (is_leaving k s)) (entry_id id p s.placed at) ∙ ap not shut) in (
           p,
-          entry_filter (λ q. is_on_all q.place) id p (filter (λ q. not (is_leaving q.id s)) s.placed) one (ap is_on_all place),
+          entry_filter (λ q. is_on_all q.placement) id p (filter (λ q. not (is_leaving q.id s)) s.placed) one (ap is_on_all place),
           place,
         )
 
@@ -206,13 +206,13 @@ pub placed_returns : (indexes : ℕ → ℕ) (n : ℕ) (ps : List Placed) (s : S
     → (each (return_of indexes n) ps s).state.placed ≡ s.placed
 placed_returns indexes n [] s = refl
 placed_returns indexes n (p ∷ ps) s =
-    placed_returns indexes n ps (return_of indexes n p s).state ∙ placed_return indexes n p.id p.place s
+    placed_returns indexes n ps (return_of indexes n p s).state ∙ placed_return indexes n p.id p.placement s
 
 long_returns : (indexes : ℕ → ℕ) (n : ℕ) (ps : List Placed) (s : State)
     → length (each (return_of indexes n) ps s).state.cpus ≡ length s.cpus
 long_returns indexes n [] s = refl
 long_returns indexes n (p ∷ ps) s =
-    long_returns indexes n ps (return_of indexes n p s).state ∙ (return_clock indexes n p.id p.place s).1
+    long_returns indexes n ps (return_of indexes n p s).state ∙ (return_clock indexes n p.id p.placement s).1
 
 module _ (indexes : ℕ → ℕ) (step n : ℕ) (s : State) where
   abbrev pub widens : State

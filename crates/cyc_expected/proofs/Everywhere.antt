@@ -58,7 +58,7 @@ module _ (texts : List (List ℕ)) (f : ℕ → ℕ) (step id : ℕ) (e : Everyw
   after x = (does plain texts f step x s).state
 
   all : is_omnipresent id s ≡ true
-  all = ap is_everywhere h.place
+  all = ap is_everywhere h.placement
 
   long : (x : Step) → refusal_of plain x s ≡ None → length (after x).cpus ≡ length s.cpus
   long x why = (well_does texts f step x s g why).0.tells.as_many
@@ -88,7 +88,7 @@ module _ (texts : List (List ℕ)) (f : ℕ → ℕ) (step id : ℕ) (e : Everyw
   -- ---- a CPU goes offline, or does not, or comes back
 
   placed_same : (t u : State) → u.placed ≡ t.placed → placement_of id u ≡ placement_of id t
-  placed_same t u same = ap (λ ps. option_map (λ (p : Placed). p.place) (entry id ps)) same
+  placed_same t u same = ap (λ ps. option_map (λ (p : Placed). p.placement) (entry id ps)) same
 
   abbrev moved : ℕ → State
   moved n = (juggled plain f n s).outcome.state
@@ -112,7 +112,7 @@ module _ (texts : List (List ℕ)) (f : ℕ → ℕ) (step id : ℕ) (e : Everyw
       let left = left_juggled id f n s all in
       let one = none_first (no_cpu n s) (offline_cpu n s ∷ last_cpu n s ∷ busy (cpu_of n s).removal ∷ []) why in
       spread_one id e moments s h n None t (is_cpu n s one.0) (long (Offline n) why)
-      (same_leaving id s t (keeps_offline f step n s) ∙ h.stays) (place_offline n ∙ left.place)
+      (same_leaving id s t (keeps_offline f step n s) ∙ h.stays) (place_offline n ∙ left.placement)
       (λ m far. ap (λ (c : Cpu). found id c.cyclics) (offline_elsewhere f step n s m far)
       ∙ seen_at (found_in id) s (moved n) left.found_ m)
       (ap (option_map series_of) (offline_empty id n t (well_does texts f step (Offline n) s g why).1 off))
@@ -157,7 +157,7 @@ module _ (texts : List (List ℕ)) (f : ℕ → ℕ) (step id : ℕ) (e : Everyw
       (same_leaving id s t (keeps_online f step n s) ∙ h.stays)
       (placed_same s t (placed_returns f n (staying s) (widens f step n s)))
       (λ m far. ap (λ (c : Cpu). found id c.cyclics) (online_elsewhere f step n s m far))
-      (online_component f step n s id e g within h.place h.stays
+      (online_component f step n s id e g within h.placement h.stays
       (offline_empty id n s g (not_when (cpu_of n s).online OnlineRefusal two.0)))
 
   -- ---- every online CPU fires
@@ -171,7 +171,7 @@ module _ (texts : List (List ℕ)) (f : ℕ → ℕ) (step id : ℕ) (e : Everyw
   spread_fired now before as_many = (
     record {
       stays = not_open id (fires now) (λ m is. not_leaving id s h.stays m (sym (fired.removal m) ∙ is));
-      place = place_fires id now (online_cpus s) (record s { clock = now }) ∙ h.place;
+      placement = place_fires id now (online_cpus s) (record s { clock = now }) ∙ h.placement;
       long = length-map moments (next_then e.interval now) ∙ (h.long ∙ sym as_many);
       here = λ m. next_there e.interval now (found id (cpu_of m s).cyclics) (found id (cpu_of m (fires now)).cyclics)
           (slice_index_or moments m None) (h.here m) (later m)
@@ -257,7 +257,7 @@ module _ (texts : List (List ℕ)) (f : ℕ → ℕ) (step : ℕ) (a : OmniStep)
   spread_begun long = record {
     stays = same_leaving new s began
         (keeps_enters removal_of removal_alike f new (everywhere a) (online_cpus known) known) ∙ new_shut s g;
-    place = place_enters new f new (everywhere a) (online_cpus known) known
+    placement = place_enters new f new (everywhere a) (online_cpus known) known
         ∙ place_given_new a.name (OnAll (everywhere a)) s g.base.rise;
     long = components_long 0 (everywhere a) s.clock ups ∙ (as_many ∙ sym long);
     here = λ m. begun_here m (cpu_of m s).online refl ∙ ap (with_interval (magnitude a.interval))

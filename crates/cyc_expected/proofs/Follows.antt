@@ -154,7 +154,7 @@ module _ (texts : List (List ℕ)) (f : ℕ → ℕ) (step name : ℕ) (s : Stat
       by None is (OnEach v ms) k = absurd (
           let a = subst (λ cpu. first_refusal (cpu_refusals cpu (id_of r.name s) s) ≡ None) is all in
           let single = not_omnipresent (id_of r.name s) s (none_first (omnipresent (id_of r.name s) s) [] a).0 in
-          let wrong : true ≡ false = sym (ap is_everywhere k.course_is.place) ∙ (ap (λ i. is_omnipresent i s) (sym e) ∙ single) in
+          let wrong : true ≡ false = sym (ap is_everywhere k.course_is.placement) ∙ (ap (λ i. is_omnipresent i s) (sym e) ∙ single) in
           cc)
       by (Some n) is (OnEach v ms) k =
           let a = on_all n (subst (λ cpu. first_refusal (cpu_refusals cpu (id_of r.name s) s) ≡ None) is all) in
@@ -379,4 +379,4 @@ follows_refused x name s course expired c = record { course_is = by course c.cou
       moment_is = k.moment_is;
       interval_is = k.interval_is;
     }
-    by (OnEach e moments) k = record { stays = k.stays; place = k.place; long = k.long; here = k.here }
+    by (OnEach e moments) k = record { stays = k.stays; placement = k.placement; long = k.long; here = k.here }

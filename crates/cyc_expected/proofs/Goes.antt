@@ -72,7 +72,7 @@ IsHere x = ⊤
 module _ (texts : List (List ℕ)) (f : ℕ → ℕ) (step id : ℕ) where
   left_forgotten : (j : ℕ) (s t : State) → id ≢ j → Left id s t → Left id s (forgotten j t)
   left_forgotten j s t ne h = left_then id s t (forgotten j t) h
-      (record { found_ = refl; shut = λ no. no; place = place_forgotten_other j id t ne })
+      (record { found_ = refl; shut = λ no. no; placement = place_forgotten_other j id t ne })
 
   left_polled : (j : ℕ) (s : State) → id ≢ j → Left id s (poll_id plain texts step j s).state
   left_polled j s ne =
@@ -101,7 +101,7 @@ module _ (texts : List (List ℕ)) (f : ℕ → ℕ) (step id : ℕ) where
       let new : id ≢ s.last_id + 1 = λ e. absurd (omega (arith, low, e)) in record {
         found_ = found_enter id f n (added a s) u (λ e. new (sym e));
         shut = λ no. same_leaving id s t (keeps_enter removal_of removal_alike f n (added a s) u) ∙ no;
-        place = place_given_other a.name (On n false) s id new;
+        placement = place_given_other a.name (On n false) s id new;
       }
   left_does (Omni a) s is fixed low shut =
       let u = given a.name (OnAll (everywhere a)) s in
@@ -110,7 +110,7 @@ module _ (texts : List (List ℕ)) (f : ℕ → ℕ) (step id : ℕ) where
         found_ = found_enters id f (s.last_id + 1) (everywhere a) (online_cpus u) u (λ e. new (sym e));
         shut = λ no. same_leaving id s t
             (keeps_enters removal_of removal_alike f (s.last_id + 1) (everywhere a) (online_cpus u) u) ∙ no;
-        place = place_enters id f (s.last_id + 1) (everywhere a) (online_cpus u) u
+        placement = place_enters id f (s.last_id + 1) (everywhere a) (online_cpus u) u
             ∙ place_given_other a.name (OnAll (everywhere a)) s id new;
       }
   left_does (Bind b) s is fixed low shut = absurd fixed
@@ -121,7 +121,7 @@ module _ (texts : List (List ℕ)) (f : ℕ → ℕ) (step id : ℕ) where
       let t = (does plain texts f step (Reprogram q) s).state in record {
         found_ = on_same (found_in id) n h s (found_moment id (id_of q.name s) (magnitude q.moment) (cpu_of n s).cyclics is);
         shut = λ no. same_leaving id s t (on_same removal_of n h s refl) ∙ no;
-        place = refl;
+        placement = refl;
       }
   left_does (Remove name) s is fixed low shut =
       let j = id_of name s in
@@ -141,7 +141,7 @@ module _ (texts : List (List ℕ)) (f : ℕ → ℕ) (step id : ℕ) where
       left_then id s o.state (does plain texts f step (Softint i) s).state (record {
         found_ = on_same (found_in id) i.cpu (serve_here i.cpu i.level i.budget) s (ap (found id) same.cyclics);
         shut = λ no. shut2;
-        place = refl;
+        placement = refl;
       })
       (left_polls (leaving_ids o.state) o.state
       (λ j has e. let l = (filtered (λ i. is_leaving i o.state) j (map (λ p. p.id) o.state.placed) has).1 in
@@ -149,8 +149,8 @@ module _ (texts : List (List ℕ)) (f : ℕ → ℕ) (step id : ℕ) where
   left_does (Juggle n) s is fixed low shut = absurd fixed
   left_does (Offline n) s is fixed low shut = absurd fixed
   left_does (Online n) s is fixed low shut = absurd fixed
-  left_does Suspend s is fixed low shut = record { found_ = refl; shut = λ no. no; place = refl }
-  left_does Resume s is fixed low shut = record { found_ = refl; shut = λ no. no; place = refl }
+  left_does Suspend s is fixed low shut = record { found_ = refl; shut = λ no. no; placement = refl }
+  left_does Resume s is fixed low shut = record { found_ = refl; shut = λ no. no; placement = refl }
 
 module _ (texts : List (List ℕ)) (f : ℕ → ℕ) (step id moment interval : ℕ) where
   abbrev Runs : State → Type 0
@@ -165,7 +165,7 @@ module _ (texts : List (List ℕ)) (f : ℕ → ℕ) (step id moment interval : 
       → Runs (does plain texts f step x s).state
   runs_left x s g is fixed r =
       let h = left_does texts f step id x s is fixed (runs_known id moment interval s g r).2 r.stays in
-      runs_there id moment interval s (does plain texts f step x s).state r (h.shut r.stays) h.place h.found_
+      runs_there id moment interval s (does plain texts f step x s).state r (h.shut r.stays) h.placement h.found_
 
   pub runs_does : (x : Step) (s : State) (g : Good s) → refusal_of plain x s ≡ None → IsOther id s x → Runs s
       → Runs (does plain texts f step x s).state

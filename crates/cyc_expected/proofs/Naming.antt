@@ -145,7 +145,7 @@ module _ (texts : List (List ℕ)) (f : ℕ → ℕ) (step : ℕ) (s : State) (h
       still_ready (after (Advance now)) (well_does texts f step (Advance now) s h.good why).1 k.names k.last
       (λ id above. let e = (all_fired id now (fires_before now s why) 0 (online_cpus s) r (good_clock now s h.good)
       (numbers_rise (λ (c : Cpu). c.online) 0 s.cpus) (λ m has. (numbers_pass (λ (c : Cpu). c.online) m s has).0)).expired in
-      let none : placement_of id s ≡ None = ap (option_map (λ (p : Placed). p.place))
+      let none : placement_of id s ≡ None = ap (option_map (λ (p : Placed). p.placement))
       (entry_above 0 s.last_id id s.placed h.good.base.rise above) in
       let z = sum_none (due_at id now (fires_before now s why) r) (online_cpus s)
       (λ m has. ap (due_of_found now) (gone_away None s h.good.base id none m)) in

@@ -137,21 +137,21 @@ module _ (id : ℕ) where
   pub record Left (s t : State) : Type 0 where
     pub found_ : seen (found_in id) t ≡ seen (found_in id) s
     pub shut : is_leaving id s ≡ false → is_leaving id t ≡ false
-    pub place : placement_of id t ≡ placement_of id s
+    pub placement : placement_of id t ≡ placement_of id s
 
   pub left_same : (s : State) → Left s s
-  left_same s = record { found_ = refl; shut = λ h. h; place = refl }
+  left_same s = record { found_ = refl; shut = λ h. h; placement = refl }
 
   pub left_then : (s t u : State) → Left s t → Left t u → Left s u
   left_then s t u one two = record {
     found_ = two.found_ ∙ one.found_;
     shut = λ h. two.shut (one.shut h);
-    place = two.place ∙ one.place;
+    placement = two.placement ∙ one.placement;
   }
 
   left_counts : (n : ℕ) (o : Option Cyclic) (s : State) → Left s (keep_counts n o s)
   left_counts n None s = left_same s
-  left_counts n (Some x) s = record { found_ = refl; shut = λ h. h; place = refl }
+  left_counts n (Some x) s = record { found_ = refl; shut = λ h. h; placement = refl }
 
   left_clear : (j n : ℕ) (s : State) → id ≢ j → Left s (clear j n s).state
   left_clear j n s ne =
@@ -162,7 +162,7 @@ module _ (id : ℕ) where
         shut = shut_on n (clear_here n j) r
             (ap (λ o. option_map_or (λ busy. busy == id) o false) (same_happen (at_own n (handler_level_of j c) (Clear j))
             (record c { cyclics = others j c.cyclics; removal = None })).removal);
-        place = refl;
+        placement = refl;
       })
 
   pub left_poll : (j n : ℕ) (s : State) → id ≢ j → Left s (poll plain j n s).state
@@ -182,7 +182,7 @@ module _ (id : ℕ) where
             (ap (λ o. option_map_or (λ busy. busy == id) o false) (same_happen (at_own n (handler_level_of j c) (Mark j))
             (record c { cyclics = map (moment_at j never) c.cyclics; removal = Some j })).removal
             ∙ ne_eqb j id (λ e. ne (sym e)));
-        place = refl;
+        placement = refl;
       }) (left_poll j n t ne)
 
   pub left_each : {A : Type 0} → (f : A → State → Outcome) → ((x : A) (s : State) → Left s (f x s).state) → (xs : List A)

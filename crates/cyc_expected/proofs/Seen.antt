@@ -162,7 +162,7 @@ module _ {A : Type 0} (p : Cpu → A) (alike : Alike p) where
       (alike_placed n (indexes s.admissions) _ (cpu_of n s))
 
   pub keeps_returns : (indexes : ℕ → ℕ) (n : ℕ) (ps : List Placed) → Keeps (each (return_of indexes n) ps)
-  keeps_returns indexes n ps s = each_same p (return_of indexes n) (λ q v. keeps_return indexes n q.id q.place v) ps s
+  keeps_returns indexes n ps s = each_same p (return_of indexes n) (λ q v. keeps_return indexes n q.id q.placement v) ps s
 
 -- ---- a CPU that goes offline, or comes back, has the removal that it had
 

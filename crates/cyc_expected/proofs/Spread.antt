@@ -35,19 +35,19 @@ with_interval interval o = option_map (λ moment. (moment, interval)) o
 -- it is omnipresent, each CPU has just the component that is told, and its removal is not open
 pub record Spread (id : ℕ) (e : Everywhere) (moments : List (Option ℕ)) (s : State) : Type 0 where
   pub stays : is_leaving id s ≡ false
-  pub place : placement_of id s ≡ Some (OnAll e)
+  pub placement : placement_of id s ≡ Some (OnAll e)
   pub long : length moments ≡ length s.cpus
   pub here : (m : ℕ) → series_on id (cpu_of m s) ≡ with_interval e.interval (slice_index_or moments m None)
 
 module _ (id : ℕ) (e : Everywhere) (moments : List (Option ℕ)) (s : State) (h : Spread id e moments s) where
   pub spread_given : Good s → id ≤ s.last_id
-  spread_given g = (place_known id s (OnAll e) g.base.rise h.place).1
+  spread_given g = (place_known id s (OnAll e) g.base.rise h.placement).1
 
   -- where nothing of it changes
   pub spread_left : (t : State) → length t.cpus ≡ length s.cpus → Left id s t → Spread id e moments t
   spread_left t long left = record {
     stays = left.shut h.stays;
-    place = left.place ∙ h.place;
+    placement = left.placement ∙ h.placement;
     long = h.long ∙ sym long;
     here = λ m. ap (option_map series_of) (seen_at (found_in id) s t left.found_ m) ∙ h.here m;
   }
@@ -60,7 +60,7 @@ module _ (id : ℕ) (e : Everywhere) (moments : List (Option ℕ)) (s : State) (
       → Spread id e (slice_set moments n o) t
   spread_one n o t within long stays place others own = record {
     stays = stays;
-    place = place ∙ h.place;
+    placement = place ∙ h.placement;
     long = length-set moments n o ∙ (h.long ∙ sym long);
     here = λ m. dite (ℕ_discrete m n)
         (λ same. subst (λ k. series_on id (cpu_of k t) ≡ with_interval e.interval (slice_index_or (slice_set moments n o) k None))

@@ -24,7 +24,7 @@ use Rattle.cyc_expected.proofs.Running.{found_in, found_enter, Left, left_same, 
 
 module _ (id : ℕ) where
   left_put : (j n : ℕ) (bound : Bool) (s : State) → id ≢ j → Left id s (put_at j (On n bound) s)
-  left_put j n bound s ne = record { found_ = refl; shut = λ no. no; place = place_put_other j id (On n bound) s ne }
+  left_put j n bound s ne = record { found_ = refl; shut = λ no. no; placement = place_put_other j id (On n bound) s ne }
 
   left_bring : (indexes : ℕ → ℕ) (target : ℕ) (o : Option Cyclic) (s : State) → ((x : Cyclic) → o ≡ Some x → x.timer.id ≢ id)
       → Left id s (bring indexes target o s).state
@@ -33,7 +33,7 @@ module _ (id : ℕ) where
     found_ = found_enter id indexes target x s (ne x refl);
     shut = λ no. same_leaving id s (bring indexes target (Some x) s).state
         (keeps_enter removal_of removal_alike indexes target x s) ∙ no;
-    place = refl;
+    placement = refl;
   }
 
   left_move : (indexes : ℕ → ℕ) (j source target : ℕ) (s : State) → id ≢ j → Left id s (move indexes j source target s).state
@@ -46,7 +46,7 @@ module _ (id : ℕ) where
         found_ = on_same (found_in id) source (take_here source j) s
             (ap (found id) taken.0 ∙ found_others id j c.cyclics ne);
         shut = λ no. same_leaving id s t (on_same removal_of source (take_here source j) s taken.1) ∙ no;
-        place = refl;
+        placement = refl;
       })
       (left_then id t u (move indexes j source target s).state (left_put j target (is_bound j t) t ne)
       (left_bring indexes target (cyclic_of j c) u (λ x is e. ne (sym e ∙ found_id j x c.cyclics is))))

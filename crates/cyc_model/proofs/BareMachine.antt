@@ -117,7 +117,7 @@ module _ (relabel : ℕ → ℕ) where
   pending_bare n id s = λ z. when (nat_lt 0 (out_bare n id s z)) Pending
 
   pub staying_bare : (s : State) → staying (bare s) ≡ staying s
-  staying_bare s = λ z. filter (λ p. is_on_all p.place) (filter (λ p. not (leaving_bare p.id s z)) s.placed)
+  staying_bare s = λ z. filter (λ p. is_on_all p.placement) (filter (λ p. not (leaving_bare p.id s z)) s.placed)
 
   pub single_bare : (n : ℕ) (s : State) → single_ids n (bare s) ≡ single_ids n s
   single_bare n s = ap (λ (c : Cpu). filter (λ id. not (is_omnipresent id s)) (map (λ (x : Cyclic). x.timer.id) c.cyclics))

@@ -178,14 +178,14 @@ rise_from low from high [] le h = omega (arith, le, h)
 rise_from low from high (p ∷ ps) le h = (let a = h.0 in omega (arith, a, le), h.1)
 
 pub rise_append : (low high : ℕ) (place : Placement) (ps : List Placed) → RiseTo low ps high
-    → RiseTo low (ps ++ record { id = high + 1; place = place } ∷ []) (high + 1)
+    → RiseTo low (ps ++ record { id = high + 1; placement = place } ∷ []) (high + 1)
 rise_append low high place [] h = (omega (arith, h), omega arith)
 rise_append low high place (p ∷ ps) h = (h.0, rise_append p.id high place ps h.1)
 
 pub replaced_id : (id : ℕ) (place : Placement) (p : Placed) → (replaced id place p).id ≡ p.id
 replaced_id id place p = by (p.id == id)
   where
-    by : (b : Bool) → (cond b (record p { place = place }) p).id ≡ p.id
+    by : (b : Bool) → (cond b (record p { placement = place }) p).id ≡ p.id
     by true = refl
     by false = refl
 
@@ -379,12 +379,12 @@ module _ (least : ℕ) where
   keeps_returns indexes n low high (p ∷ ps) s rise le h =
       let first = rise_first low high p ps rise in
       keeps_returns indexes n p.id high ps (return_of indexes n p s).state rise.1
-      (subst (λ k. high ≤ k) (sym (same_last indexes n p.id p.place s)) le)
-      (keeps_return indexes n p.id p.place s (omega (arith, first, le)) h)
+      (subst (λ k. high ≤ k) (sym (same_last indexes n p.id p.placement s)) le)
+      (keeps_return indexes n p.id p.placement s (omega (arith, first, le)) h)
 
   staying_rise : (s : State) → AreGiven least s → RiseTo 0 (staying s) s.last_id
   staying_rise s h =
-      rise_filter (λ p. is_on_all p.place) 0 s.last_id (filter (λ p. not (is_leaving p.id s)) s.placed)
+      rise_filter (λ p. is_on_all p.placement) 0 s.last_id (filter (λ p. not (is_leaving p.id s)) s.placed)
       (rise_filter (λ p. not (is_leaving p.id s)) 0 s.last_id s.placed h.rise)
 
   keeps_online : (indexes : ℕ → ℕ) (n : ℕ) (ps : List Placed) (s : State) → RiseTo 0 ps s.last_id → AreGiven least s

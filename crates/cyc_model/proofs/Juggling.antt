@@ -42,7 +42,7 @@ put_down id n s was g at = let w = well_put id n true was s g at in (w.0, w.1, k
 moved_down : (id n : ℕ) (s : State) (o : Outcome) → Moved id n s o
     → Safe (followed_by o (λ t. nothing (put_at id (On n true) t))) s
 moved_down id n s o m =
-    let d = put_down id n o.state m.place.0 m.good m.place.1 in (
+    let d = put_down id n o.state m.placement.0 m.good m.placement.1 in (
       goes_append o.acts [] s o.state (put_at id (On n true) o.state) m.goes d.0,
       d.1,
       kept_then s o.state

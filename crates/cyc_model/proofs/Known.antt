@@ -37,7 +37,7 @@ known_ids id (p ∷ ps) = by (p.id == id) (known_ids id ps)
     by true h = refl
     by false h = h
 
-some_placed : (o : Option Placed) → is_some (option_map (λ p. p.place) o) ≡ is_some o
+some_placed : (o : Option Placed) → is_some (option_map (λ p. p.placement) o) ≡ is_some o
 some_placed None = refl
 some_placed (Some p) = refl
 
@@ -59,7 +59,7 @@ module _ (id : ℕ) where
   Stays s t = IsSome (placement_of id s) → IsSome (placement_of id t)
 
   stays_placed : (s t : State) → t.placed ≡ s.placed → Stays s t
-  stays_placed s t same known = ap (λ ps. is_some (option_map (λ (p : Placed). p.place) (find (λ p. p.id == id) ps))) same ∙ known
+  stays_placed s t same known = ap (λ ps. is_some (option_map (λ (p : Placed). p.placement) (find (λ p. p.id == id) ps))) same ∙ known
 
   stays_given : (name : ℕ) (place : Placement) (s : State) → Stays s (given name place s)
   stays_given name place s known = by (placement_of id s) refl known

@@ -46,7 +46,7 @@ reports_add_up indexes script name =
 -- ---- removals
 
 known_place : (id : ℕ) (s t : State) → t.placed ≡ s.placed → placement_of id t ≡ placement_of id s
-known_place id s t same = ap (λ ps. option_map (λ (p : Placed). p.place) (entry id ps)) same
+known_place id s t same = ap (λ ps. option_map (λ (p : Placed). p.placement) (entry id ps)) same
 
 unknown_not : (id : ℕ) (s : State) → IsSome (placement_of id s) → is_unknown id s ≡ true → ⊥
 unknown_not id s known is = let a : is_unknown id s ≡ false = ap not known in let no : true ≡ false = sym is ∙ a in absurd (cc)

@@ -217,7 +217,7 @@ module _ (id : ℕ) (s t : State) (g : Good s) (h : Removing id s t) where
       (λ ne. sym (h.others j ne m) ∙ some))
 
   place_after : (j : ℕ) → placement_of j t ≡ placement_of j s
-  place_after j = ap (λ ps. option_map (λ (p : Placed). p.place) (entry j ps)) h.steady.placed
+  place_after j = ap (λ ps. option_map (λ (p : Placed). p.placement) (entry j ps)) h.steady.placed
 
   -- where a CPU still has the cyclic
   pub good_kept : (k : ℕ) → IsSome (found id (cpu_of k t).cyclics) → Good t

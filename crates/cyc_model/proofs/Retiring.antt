@@ -231,7 +231,7 @@ module _ (n other : ℕ) (s : State) (g : Good s) (within : n < length s.cpus) (
   same_u m ne = switch_elsewhere false n t within_t gone_all.base m ne ∙ gone_all.elsewhere m ne
 
   place_u : (j : ℕ) → placement_of j u ≡ placement_of j s
-  place_u j = ap (λ ps. option_map (λ (p : Placed). p.place) (entry j ps)) gone_all.placed
+  place_u j = ap (λ ps. option_map (λ (p : Placed). p.placement) (entry j ps)) gone_all.placed
 
   -- a cyclic that is on one CPU isn't on this one
   not_home : (j : ℕ) (bound : Bool) → placement_of j s ≡ Some (On n bound) → ⊥

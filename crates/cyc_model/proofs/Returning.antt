@@ -140,7 +140,7 @@ pub record Returned (n : ℕ) (ps : List Placed) (s t : State) : Type 0 where
 
 -- what can come back
 abbrev Ready : ℕ → State → Placed → Type 0
-Ready n s p = ((e : Everywhere) × (p.place ≡ OnAll e)) × (placement_of p.id s ≡ Some p.place)
+Ready n s p = ((e : Everywhere) × (p.placement ≡ OnAll e)) × (placement_of p.id s ≡ Some p.placement)
     × (found p.id (cpu_of n s).cyclics ≡ None)
 
 entry_first : (j : ℕ) (p : Placed) (ps : List Placed) → p.id ≡ j → IsSome (entry j (p ∷ ps))
@@ -324,7 +324,7 @@ module _ (indexes : ℕ → ℕ) (n : ℕ) (s : State) (g : Good s) (within : n 
   view_v j m ne = ap (λ (c : Cpu). found j c.cyclics) (same_v m ne)
 
   place_v : (j : ℕ) → placement_of j v ≡ placement_of j s
-  place_v j = ap (λ ps. option_map (λ (p : Placed). p.place) (entry j ps)) all_back.1.placed
+  place_v j = ap (λ ps. option_map (λ (p : Placed). p.placement) (entry j ps)) all_back.1.placed
 
   removal_v : (cpu_of n v).removal ≡ None
   removal_v = ap (λ (c : Cpu). c.removal) there_v ∙ all_back.1.removal ∙ ap (λ (c : Cpu). c.removal) there_t

@@ -186,7 +186,7 @@ module _ (indexes : ℕ → ℕ) (P : List Act → ℕ → ℕ → Type 0) (calm
   shaped_leaving q step n [] j a h = shaped_last (any_pending q n (ids_on n j.outcome.state) j.outcome.state) step n j.outcome a h
 
   shaped_return : (n : ℕ) (p : Placed) → Shaped (return_of indexes n p)
-  shaped_return n p s = by p.place
+  shaped_return n p s = by p.placement
     where
       by : (place : Placement) → P (return_at indexes n p.id place s).acts s.admissions
           (return_at indexes n p.id place s).state.admissions

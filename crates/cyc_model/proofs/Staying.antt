@@ -138,26 +138,26 @@ is_all (OnAll e) h = (e, refl)
 
 -- an omnipresent cyclic that stays
 pub record Stays (s : State) (p : Placed) : Type 0 where
-  pub everywhere : (e : Everywhere) × (p.place ≡ OnAll e)
-  pub placed : placement_of p.id s ≡ Some p.place
+  pub everywhere : (e : Everywhere) × (p.placement ≡ OnAll e)
+  pub placed : placement_of p.id s ≡ Some p.placement
   pub full : Full p.id s
 
 pub stays_full : (j : ℕ) (s : State) → Stands j s → is_leaving j s ≡ false → Full j s
 stays_full j s h shut = ⊎_elim (λ full. full.0) (λ leave. absurd (not_leaving j s shut leave.1.0 (leave.0 leave.1.0 leave.1.1))) h
 
 staying_entries : (s : State) → Good s → Each (λ p. ((entry p.id s.placed ≡ Some p) × (not (is_leaving p.id s) ≡ true))
-    × (is_on_all p.place ≡ true)) (staying s)
+    × (is_on_all p.placement ≡ true)) (staying s)
 staying_entries s g =
-    each_filter (λ p. (entry p.id s.placed ≡ Some p) × (not (is_leaving p.id s) ≡ true)) (λ p. is_on_all p.place)
+    each_filter (λ p. (entry p.id s.placed ≡ Some p) × (not (is_leaving p.id s) ≡ true)) (λ p. is_on_all p.placement)
     (filter (λ p. not (is_leaving p.id s)) s.placed)
     (each_filter (λ p. entry p.id s.placed ≡ Some p) (λ p. not (is_leaving p.id s)) s.placed
     (each_entry 0 s.last_id s.placed g.base.rise))
 
 pub staying_all : (s : State) → Good s → Each (Stays s) (staying s)
 staying_all s g = each_then (λ p. ((entry p.id s.placed ≡ Some p) × (not (is_leaving p.id s) ≡ true))
-    × (is_on_all p.place ≡ true)) (Stays s)
-    (λ p h. let all = is_all p.place h.1 in let at : placement_of p.id s
-    ≡ Some p.place = ap (option_map (λ (q : Placed). q.place)) h.0.0 in record {
+    × (is_on_all p.placement ≡ true)) (Stays s)
+    (λ p h. let all = is_all p.placement h.1 in let at : placement_of p.id s
+    ≡ Some p.placement = ap (option_map (λ (q : Placed). q.placement)) h.0.0 in record {
       everywhere = all;
       placed = at;
       full = stays_full p.id s (g.spread.stands p.id all.0 (at ∙ ap Some all.1)) (not-true (is_leaving p.id s) h.0.1);
@@ -165,7 +165,7 @@ staying_all s g = each_then (λ p. ((entry p.id s.placed ≡ Some p) × (not (is
     (staying s) (staying_entries s g)
 
 pub staying_rise : (s : State) → Good s → RiseTo 0 (staying s) s.last_id
-staying_rise s g = rise_filter (λ p. is_on_all p.place) 0 s.last_id (filter (λ p. not (is_leaving p.id s)) s.placed)
+staying_rise s g = rise_filter (λ p. is_on_all p.placement) 0 s.last_id (filter (λ p. not (is_leaving p.id s)) s.placed)
     (rise_filter (λ p. not (is_leaving p.id s)) 0 s.last_id s.placed g.base.rise)
 
 -- one whose removal isn't open stays, and no other
@@ -173,14 +173,14 @@ pub does_stay : (j : ℕ) (e : Everywhere) (s : State) → placement_of j s ≡ 
     → IsSome (entry j (staying s))
 does_stay j e s is closed = by (entry j s.placed) refl is
   where
-    by : (o : Option Placed) → entry j s.placed ≡ o → option_map (λ (p : Placed). p.place) o ≡ Some (OnAll e)
+    by : (o : Option Placed) → entry j s.placed ≡ o → option_map (λ (p : Placed). p.placement) o ≡ Some (OnAll e)
         → IsSome (entry j (staying s))
     by None at h = absurd (cc)
     by (Some p) at h =
-        let place : p.place ≡ OnAll e = some_same p.place (OnAll e) h in
+        let place : p.placement ≡ OnAll e = some_same p.placement (OnAll e) h in
         let one = entry_filter (λ q. not (is_leaving q.id s)) j p s.placed at
         (ap (λ (k : ℕ). not (is_leaving k s)) (entry_id j p s.placed at) ∙ ap not closed) in
-        ap is_some (entry_filter (λ q. is_on_all q.place) j p (filter (λ q. not (is_leaving q.id s)) s.placed) one
+        ap is_some (entry_filter (λ q. is_on_all q.placement) j p (filter (λ q. not (is_leaving q.id s)) s.placed) one
         (ap is_on_all place))
 
 each_found : (P : Placed → Type 0) (j : ℕ) (p : Placed) (ps : List Placed) → Each P ps → entry j ps ≡ Some p → P p
@@ -193,9 +193,9 @@ pub stays_closed : (j : ℕ) (s : State) → Good s → IsSome (entry j (staying
 stays_closed j s g some =
     let p = some_of (entry j (staying s)) some in
     let h = each_found (λ q. ((entry q.id s.placed ≡ Some q) × (not (is_leaving q.id s) ≡ true))
-    × (is_on_all q.place ≡ true)) j p.0 (staying s)
+    × (is_on_all q.placement ≡ true)) j p.0 (staying s)
     (staying_entries s g) p.1 in
-    let id = (entry_filtered (λ q. is_on_all q.place) j p.0 (filter (λ q. not (is_leaving q.id s)) s.placed) p.1).1 in
+    let id = (entry_filtered (λ q. is_on_all q.placement) j p.0 (filter (λ q. not (is_leaving q.id s)) s.placed) p.1).1 in
     not-true (is_leaving j s) (subst (λ (k : ℕ). not (is_leaving k s) ≡ true) id h.0.1)
 
 -- ---- as many as there are cyclics

@@ -154,7 +154,7 @@ still_return indexes n id (OnAll e) s = record { clock = refl; suspended = refl;
 pub still_online : (indexes : ℕ → ℕ) (step n : ℕ) → IsStill (online indexes step n)
 still_online indexes step n s =
     let t = (on n (widen_here n (length (staying s))) s).state in
-    let k = still_each (return_of indexes n) (λ p u. still_return indexes n p.id p.place u) (staying s) t in
+    let k = still_each (return_of indexes n) (λ p u. still_return indexes n p.id p.placement u) (staying s) t in
     record { clock = k.clock; suspended = k.suspended; names = k.names; last = k.last }
 
 -- ---- removals

@@ -338,7 +338,7 @@ tells_return_all indexes n ps s = tells_then (on n (widen_here n (length ps)) s)
     (λ t. followed_by (each (return_of indexes n) ps t) (on n (λ c. nothing_here (go_online c)))) s
     (tells_on n (widen_here n (length ps)) (local_widen n (length ps)) s)
     (λ t. tells_then (each (return_of indexes n) ps t) (on n (λ c. nothing_here (go_online c))) t
-    (tells_each (return_of indexes n) (λ p. tells_return indexes n p.id p.place) ps t)
+    (tells_each (return_of indexes n) (λ p. tells_return indexes n p.id p.placement) ps t)
     (tells_switched n go_online (λ c. same_low_lock c (go_online c) refl refl)
     (λ c h. agrees_with c (go_online c) refl refl refl (λ id. refl) h)))
 

@@ -92,7 +92,7 @@ pub record Moved (id target : ℕ) (s : State) (o : Outcome) : Type 0 where
   pub removal : (m : ℕ) → (cpu_of m o.state).removal ≡ (cpu_of m s).removal
   pub online : (m : ℕ) → (cpu_of m o.state).online ≡ (cpu_of m s).online
   pub others : (j : ℕ) → j ≢ id → (m : ℕ) → found j (cpu_of m o.state).cyclics ≡ found j (cpu_of m s).cyclics
-  pub place : (bound : Bool) × (placement_of id o.state ≡ Some (On target bound))
+  pub placement : (bound : Bool) × (placement_of id o.state ≡ Some (On target bound))
   pub places : (j : ℕ) → j ≢ id → placement_of j o.state ≡ placement_of j s
 
 module _ (indexes : ℕ → ℕ) (id source target : ℕ) (s : State) (g : Good s) (bound : Bool) (at : placement_of id s
@@ -346,7 +346,7 @@ module _ (indexes : ℕ → ℕ) (id source target : ℕ) (s : State) (g : Good 
       removal = removal3;
       online = online3;
       others = others3;
-      place = (is_bound id t1, place1);
+      placement = (is_bound id t1, place1);
       places = places3;
     }
 

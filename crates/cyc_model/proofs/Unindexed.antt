@@ -351,7 +351,7 @@ module _ (relabel : ℕ → ℕ) where
         (on_bare n (widen_here n (length ps)) (widen_here n (length ps)) ((widen_bare relabel) n (length ps)) s)
         (λ t. then_same (each (return_of indexes n) ps t) (each (return_of (λ k. relabel (indexes k)) n) ps ((bare relabel) t))
         (on n (λ c. nothing_here (go_online c))) (on n (λ c. nothing_here (go_online c)))
-        (each_bare (return_of indexes n) (return_of (λ k. relabel (indexes k)) n) (λ p. return_bare n p.id p.place) ps t)
+        (each_bare (return_of indexes n) (return_of (λ k. relabel (indexes k)) n) (λ p. return_bare n p.id p.placement) ps t)
         (on_bare n (λ c. nothing_here (go_online c)) (λ c. nothing_here (go_online c)) (λ c. refl)))
 
     -- ---- all words

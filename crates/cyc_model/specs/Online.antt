@@ -22,7 +22,7 @@ is_on_all (OnAll e) = true
 
 -- the omnipresent cyclics whose removal isn't open
 abbrev pub staying : State → List Placed
-staying s = filter (λ p. is_on_all p.place) (filter (λ p. not (is_leaving p.id s)) s.placed)
+staying s = filter (λ p. is_on_all p.placement) (filter (λ p. not (is_leaving p.id s)) s.placed)
 
 abbrev pub online_cpu : ℕ → State → Option Refusal
 online_cpu n s = when (cpu_of n s).online Online
@@ -45,7 +45,7 @@ return_at indexes n id (OnAll e) s =
     one_admitted (on n (place_here n (indexes s.admissions) (again id n e (s.ended id n) s.clock)) (without_ended n id s))
 
 abbrev pub return_of : (ℕ → ℕ) → ℕ → Placed → State → Outcome
-return_of indexes n p s = return_at indexes n p.id p.place s
+return_of indexes n p s = return_at indexes n p.id p.placement s
 
 abbrev pub go_online : Cpu → Cpu
 go_online c = record c { online = true }

@@ -11,7 +11,7 @@ abbrev pub id_of : ℕ → State → ℕ
 id_of name s = slice_index_or s.names name 0
 
 abbrev pub placement_of : ℕ → State → Option Placement
-placement_of id s = option_map (λ p. p.place) (find (λ p. p.id == id) s.placed)
+placement_of id s = option_map (λ p. p.placement) (find (λ p. p.id == id) s.placed)
 
 -- no cyclic has this id, or its removal has answered
 abbrev pub is_unknown : ℕ → State → Bool
@@ -46,18 +46,18 @@ home_at (Some (OnAll e)) = 0
 abbrev pub home_of : ℕ → State → ℕ
 home_of id s = home_at (placement_of id s)
 
--- the cyclic of this id has this place
+-- the cyclic of this id has this placement
 abbrev pub replaced : ℕ → Placement → Placed → Placed
-replaced id place p = if p.id == id then record p { place = place } else p
+replaced id placement p = if p.id == id then record p { placement = placement } else p
 
 abbrev pub put_at : ℕ → Placement → State → State
-put_at id place s = record s { placed = map (replaced id place) s.placed }
+put_at id placement s = record s { placed = map (replaced id placement) s.placed }
 
--- the next id is given to a cyclic with this place, and the name has it
+-- the next id is given to a cyclic with this placement, and the name has it
 abbrev pub given : ℕ → Placement → State → State
-given name place s = record s {
+given name placement s = record s {
   last_id = s.last_id + 1;
-  placed = s.placed ++ record { id = s.last_id + 1; place = place } ∷ [];
+  placed = s.placed ++ record { id = s.last_id + 1; placement = placement } ∷ [];
   names = slice_set s.names name (s.last_id + 1);
 }
 

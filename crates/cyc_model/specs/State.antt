@@ -19,7 +19,7 @@ pub data Placement : Type 0 where
 -- an id that was given and whose removal has not answered
 pub record Placed : Type 0 where
   pub id : ℕ
-  pub place : Placement
+  pub placement : Placement
 
 -- the counts of stays that have ended
 pub record Ended : Type 0 where

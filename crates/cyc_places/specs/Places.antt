@@ -15,7 +15,7 @@ pub record RecordsView : Type 0 where
   pub list : List Record
   pub room : ℕ
 
--- the record at a place
+-- the record at a position
 abbrev pub IsRecord : List Record → ℕ → Record → Type 0
 IsRecord rs k r = slice_get rs k ≡ Some r
 
@@ -55,11 +55,11 @@ summed a b = record { sent = a.sent + b.sent; lost = a.lost + b.lost }
 
 -- the record of an id that was just given
 abbrev pub new_record : ℕ → Level → Placement → Record
-new_record id level place = record { id = id; level = level; place = place; ended = replicate 16 no_counts }
+new_record id level placement = record { id = id; level = level; placement = placement; ended = replicate 16 no_counts }
 
 -- the record of a cyclic that is now there
-abbrev pub with_place : Placement → Record → Record
-with_place place r = record r { place = place }
+abbrev pub with_placement : Placement → Record → Record
+with_placement placement r = record r { placement = placement }
 
 -- what the stays that have ended on a CPU left
 abbrev pub ended_on : ℕ → Record → Sent

@@ -38,7 +38,7 @@ pub struct Record {
     /// At which level its handler is called.
     pub level: Level,
     /// Where it is.
-    pub place: Placement,
+    pub placement: Placement,
     /// By the number of the CPU, the counts of its stays that have ended there (our own).
     pub ended: [Sent; CPUS],
 }
@@ -48,7 +48,7 @@ impl Record {
     pub(crate) const VACANT: Record = Record {
         id: CyclicId::LAST,
         level: Level::High,
-        place: Placement::On {
+        placement: Placement::On {
             cpu: 0,
             bound: false,
         },

@@ -135,30 +135,30 @@ module _ (id : ℕ) (receipt : Receipt) (m : State) (u t : SystemView Tables) (h
   forgotten_shows = record {
     cpus = h.cpus ∙ ap shown_cpus (sym a.cpus);
     placed = ap (filter (λ (p : Placed). not (p.id == id))) h.placed
-        ∙ one_goes id a.place a.own u.records hu.rising a.here a.named
+        ∙ one_goes id a.position a.own u.records hu.rising a.here a.named
         ∙ ap (map shown_record) (sym a.records);
-    ended = λ k r is n. let (j, there, rest) = stood u.records a.place k r (subst (λ rs. IsRecord rs k r) a.records is) in
+    ended = λ k r is n. let (j, there, rest) = stood u.records a.position k r (subst (λ rs. IsRecord rs k r) a.records is) in
         h.ended j r there n;
     fresh = h.fresh;
     last = h.last ∙ sym a.last;
   }
 
   pub forgotten_half : Half t
-  forgotten_half = half_parts (record u { records = without u.records a.place }) t
-      (half_gone u a.place hu) a.cpus a.records a.last
+  forgotten_half = half_parts (record u { records = without u.records a.position }) t
+      (half_gone u a.position hu) a.cpus a.records a.last
 
   pub all_expired : ended_expired id m ≡ receipt.sent
-  all_expired = ended_sent id a.place a.own m u h hu a.here a.named ∙ sym a.counts.sent
+  all_expired = ended_sent id a.position a.own m u h hu a.here a.named ∙ sym a.counts.sent
 
   pub all_lost : ended_lost id m ≡ receipt.lost
-  all_lost = ended_gone id a.place a.own m u h hu a.here a.named ∙ sym a.counts.lost
+  all_lost = ended_gone id a.position a.own m u h hu a.here a.named ∙ sym a.counts.lost
 
   none_there : (n : ℕ) → cyclic_of id (cpu_of n m) ≡ None
   none_there n = none_with id m nowhere n
 
   none_outstanding : (n : ℕ) → n < length m.cpus → outstanding_here id (cpu_of n m) ≡ 0
   none_outstanding n low =
-      let e = as_few id a.place a.own m u h hu a.here a.named in
+      let e = as_few id a.position a.own m u h hu a.here a.named in
       let same : cpu_of n m ≡ cpu_at u.cpus n = ap (λ cs. get_or cs n absent) h.cpus in
       ap (outstanding_here id) same ∙ none_out id (cpu_at u.cpus n) (own_at u n hu (omega (arith, low, e)))
       (ap (cyclic_of id) (sym same) ∙ none_there n)

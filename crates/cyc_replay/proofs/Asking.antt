@@ -12,13 +12,13 @@ use Rattle.cyc_cpu_model.specs.Rows.{Cyclic as Timed}
 use Rattle.cyc_core.specs.Tables.{Tables}
 use Rattle.cyc_cpu.specs.Cpu.{CpuView}
 use Rattle.cyc_places.specs.declared.record.Placement.{Placement as RecordPlacement}
-use Rattle.cyc_places.specs.declared.record.Placement.TheVariants as place
+use Rattle.cyc_places.specs.declared.record.Placement.TheVariants as placements
 use Rattle.cyc_places.specs.declared.record.Record.{Record}
 use Rattle.cyc_places.specs.Places.{HasRisingIds, is_everywhere as everywhere_in}
 use Rattle.cyc_system.specs.System.{SystemView, ids_of, is_leaving_here, record_of, is_unknown as unknown_in}
 use Rattle.cyc_system.specs.System.{is_leaving as leaving_in, is_omnipresent as omnipresent_in}
 use Rattle.cyc_system.specs.Refusals as why
-use Rattle.cyc_system.specs.Binding.{HasPlace, HasHome}
+use Rattle.cyc_system.specs.Binding.{HasPlacement, HasHome}
 use Rattle.cyc_system.proofs.Recording.{record_here}
 use Rattle.cyc_model.specs.Cpu.{Cpu, is_of, has_cyclic}
 use Rattle.cyc_model.specs.State.{State, Placement, Placed, absent}
@@ -30,23 +30,23 @@ use Rattle.cyc_model.specs.Bind.{no_cyclic, omnipresent}
 use Rattle.cyc_model.specs.Reprogram.{no_component}
 use Rattle.cyc_cpu_model.specs.Shown.{shown}
 use Rattle.cyc_cpu_model.specs.Answers.{IsRefused}
-use Rattle.cyc_replay.specs.Shown.{shown_list, shown_place, shown_record, ShowsSystem}
+use Rattle.cyc_replay.specs.Shown.{shown_list, shown_placement, shown_record, ShowsSystem}
 use Rattle.cyc_replay.proofs.Cpus.{long_shown}
 
 -- ---- where a cyclic is
 
 abbrev place_in : Option Record → Option Placement
-place_in o = option_map (λ (r : Record). shown_place r.level r.place) o
+place_in o = option_map (λ (r : Record). shown_placement r.level r.placement) o
 
 find_shown : (id : ℕ) (rs : List Record)
-    → option_map (λ (p : Placed). p.place) (find (λ (p : Placed). p.id == id) (map shown_record rs))
+    → option_map (λ (p : Placed). p.placement) (find (λ (p : Placed). p.id == id) (map shown_record rs))
     ≡ place_in (find (λ (r : Record). r.id == id) rs)
 find_shown id [] = refl
 find_shown id (r ∷ rs) = pick (r.id == id) (find_shown id rs)
   where
-    pick : (b : Bool) → option_map (λ (p : Placed). p.place) (find (λ (p : Placed). p.id == id) (map shown_record rs))
+    pick : (b : Bool) → option_map (λ (p : Placed). p.placement) (find (λ (p : Placed). p.id == id) (map shown_record rs))
         ≡ place_in (find (λ (q : Record). q.id == id) rs)
-        → option_map (λ (p : Placed). p.place)
+        → option_map (λ (p : Placed). p.placement)
         (cond b (Some (shown_record r)) (find (λ (p : Placed). p.id == id) (map shown_record rs)))
         ≡ place_in (cond b (Some r) (find (λ (q : Record). q.id == id) rs))
     pick true rest = refl
@@ -54,7 +54,7 @@ find_shown id (r ∷ rs) = pick (r.id == id) (find_shown id rs)
 
 pub place_shown : (id : ℕ) (s : State) (v : SystemView Tables) → ShowsSystem s v → placement_of id s ≡ place_in (record_of id v)
 place_shown id s v h =
-    ap (λ ps. option_map (λ (p : Placed). p.place) (find (λ (p : Placed). p.id == id) ps)) h.placed ∙ find_shown id v.records
+    ap (λ ps. option_map (λ (p : Placed). p.placement) (find (λ (p : Placed). p.id == id) ps)) h.placed ∙ find_shown id v.records
 
 is_some_in : (o : Option Record) → is_some (place_in o) ≡ is_some o
 is_some_in None = refl
@@ -63,13 +63,13 @@ is_some_in (Some r) = refl
 pub unknown_shown : (id : ℕ) (s : State) (v : SystemView Tables) → ShowsSystem s v → is_unknown id s ≡ unknown_in id v
 unknown_shown id s v h = ap (λ o. not (is_some o)) (place_shown id s v h) ∙ ap not (is_some_in (record_of id v))
 
-everywhere_shown : (level : Level) (p : RecordPlacement) → is_everywhere (Some (shown_place level p)) ≡ everywhere_in p
-everywhere_shown level (place.On cpu bound) = refl
-everywhere_shown level (place.Everywhere first skew) = refl
+everywhere_shown : (level : Level) (p : RecordPlacement) → is_everywhere (Some (shown_placement level p)) ≡ everywhere_in p
+everywhere_shown level (placements.On cpu bound) = refl
+everywhere_shown level (placements.Everywhere first skew) = refl
 
-everywhere_of : (o : Option Record) → is_everywhere (place_in o) ≡ option_map_or (λ (r : Record). everywhere_in r.place) o false
+everywhere_of : (o : Option Record) → is_everywhere (place_in o) ≡ option_map_or (λ (r : Record). everywhere_in r.placement) o false
 everywhere_of None = refl
-everywhere_of (Some r) = everywhere_shown r.level r.place
+everywhere_of (Some r) = everywhere_shown r.level r.placement
 
 pub omnipresent_shown : (id : ℕ) (s : State) (v : SystemView Tables) → ShowsSystem s v → is_omnipresent id s ≡ omnipresent_in id v
 omnipresent_shown id s v h = ap is_everywhere (place_shown id s v h) ∙ everywhere_of (record_of id v)
@@ -79,15 +79,15 @@ pub home_shown : (id n : ℕ) (s : State) (v : SystemView Tables) → ShowsSyste
     → home_of id s ≡ n
 home_shown id n s v h rising (bound, (k, r, is, named, at)) =
     ap home_at (place_shown id s v h ∙ ap place_in (record_here id k r v.records rising is named))
-    ∙ ap (λ p. home_at (Some (shown_place r.level p))) at
+    ∙ ap (λ p. home_at (Some (shown_placement r.level p))) at
 
 -- whether it is bound to it
 pub bound_shown : (id n : ℕ) (bound : Bool) (s : State) (v : SystemView Tables) → ShowsSystem s v → HasRisingIds v.records
-    → HasPlace id n bound v
+    → HasPlacement id n bound v
     → is_bound id s ≡ bound
 bound_shown id n bound s v h rising (k, r, is, named, at) =
     ap is_bound_at (place_shown id s v h ∙ ap place_in (record_here id k r v.records rising is named))
-    ∙ ap (λ p. is_bound_at (Some (shown_place r.level p))) at
+    ∙ ap (λ p. is_bound_at (Some (shown_placement r.level p))) at
 
 -- ---- the CPUs
 

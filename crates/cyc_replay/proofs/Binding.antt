@@ -15,7 +15,7 @@ use Rattle.cyc_script.specs.declared.step.Step.TheVariants as steps
 use Rattle.cyc_cpu.specs.declared.moving.Taken.{Taken}
 use Rattle.cyc_cpu.specs.Soft.{raise_tables}
 use Rattle.cyc_cpu.specs.Calls.{AskPending, Reserve, TakeNow, Widen, Place}
-use Rattle.cyc_places.specs.declared.record.Placement.TheVariants as place
+use Rattle.cyc_places.specs.declared.record.Placement.TheVariants as placements
 use Rattle.cyc_system.specs.Cpus.{CpusView, Works}
 use Rattle.cyc_system.specs.Shifting.{moving}
 use Rattle.cyc_system.specs.System.{SystemView}
@@ -134,7 +134,7 @@ went_to indexes id source target o s = followed_by
     (λ t. nothing (put_at id (On target true) t))
 
 module _ (id source target : ℕ) (x : Cyclic) (s : State) (v w : SystemView Tables) (sys : IsSystem v) (h : ShowsSystem s v)
-    (records : Records id (place.On target true) v w) (ne : source ≢ target) (d : Went id source target x v.cpus w.cpus) where
+    (records : Records id (placements.On target true) v w) (ne : source ≢ target) (d : Went id source target x v.cpus w.cpus) where
   middle_is : d.middle ≡ slice_set s.cpus source (take_here source id (get_or s.cpus source absent)).cpu
   middle_is = d.left ∙ ap (λ cs. slice_set cs source (take_here source id (get_or cs source absent)).cpu) (sym h.cpus)
 

@@ -33,7 +33,7 @@ none_at_zero low high (p ∷ ps) rise =
 
 pub zero_unknown : (step : ℕ) (s : State) → IsReached step s → is_unknown 0 s ≡ true
 zero_unknown step s r =
-    ap (λ o. not (is_some (option_map (λ (p : Placed). p.place) o)))
+    ap (λ o. not (is_some (option_map (λ (p : Placed). p.placement) o)))
     (none_at_zero 0 s.last_id s.placed (reached_good step s r).base.rise)
 
 -- the definition has the same id of a name

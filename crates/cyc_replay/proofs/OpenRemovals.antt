@@ -101,5 +101,5 @@ open_leaving s g n k is =
     at = g.base.homes n k ((g.base.whole n).held k is)
 
     placed : (o : Option Placed) → find (λ (p : Placed). p.id == k) s.placed ≡ o → Has k (map (λ (p : Placed). p.id) s.placed)
-    placed None e = absurd (subst (λ (r : Option Placed). IsAt n (option_map (λ (p : Placed). p.place) r)) e at)
+    placed None e = absurd (subst (λ (r : Option Placed). IsAt n (option_map (λ (p : Placed). p.placement) r)) e at)
     placed (Some p) e = found_there k p s.placed e

@@ -181,7 +181,7 @@ remembers_added texts indexes step x s m n name id place lasts g why placed last
     let t = (does plain texts indexes step x s).state in
     remembers_given s t m n name id r few is last names named
     (λ j gone. unknown_before j texts indexes step x s lasts g why gone)
-    (ap (λ ps. not (is_some (option_map (λ (p : Placed). p.place) (find (λ p. p.id == id) ps)))) placed
+    (ap (λ ps. not (is_some (option_map (λ (p : Placed). p.placement) (find (λ p. p.id == id) ps)))) placed
     ∙ ap (λ k. is_unknown k (given name place s)) is ∙ ap (λ o. not (is_some o)) (place_given_new name place s g.base.rise))
     (λ j low gone. stays_unknown texts indexes step x s g why j low gone)
     (λ j low gone. gone_does texts indexes step j s g (low, unknown_gone j s gone) x why)

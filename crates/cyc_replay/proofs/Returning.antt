@@ -20,7 +20,7 @@ use Rattle.cyc_text.specs.Lines.{accepted as accepted_line}
 use Rattle.cyc_cpu.specs.Soft.{raise_tables}
 use Rattle.cyc_cpu.specs.Calls.{Reserve, Widen, Place}
 use Rattle.cyc_places.specs.declared.record.Placement.{Placement as RecordPlacement}
-use Rattle.cyc_places.specs.declared.record.Placement.TheVariants as place
+use Rattle.cyc_places.specs.declared.record.Placement.TheVariants as placements
 use Rattle.cyc_places.specs.declared.record.Record.{Record}
 use Rattle.cyc_places.specs.Places.{IsRecord, HasRisingIds, is_everywhere as everywhere_in, ended_on, with_ended}
 use Rattle.cyc_system.specs.Cpus.{CpusView, Works, on as on_cpu}
@@ -50,7 +50,7 @@ use Rattle.cyc_cpu.specs.Cpu.{CpuView}
 use Rattle.cyc_cpu_model.specs.Shown.{shown_cpu}
 use Rattle.cyc_cpu_model.proofs.Free.{none_admitted, widen_none}
 use Rattle.cyc_replay.proofs.Half.{half, half_works}
-use Rattle.cyc_replay.specs.Shown.{shown_list, shown_cpus, shown_place, shown_record, shown_counts, ShowsSystem, AreTied}
+use Rattle.cyc_replay.specs.Shown.{shown_list, shown_cpus, shown_placement, shown_record, shown_counts, ShowsSystem, AreTied}
 use Rattle.cyc_replay.specs.Shown.{IsSystem}
 use Rattle.cyc_replay.specs.SystemWords.{Gives, ComesTo, IsDone, IsRefusedFor}
 use Rattle.cyc_replay.proofs.Cpus.{cpu_at, done_at, long_shown}
@@ -64,29 +64,29 @@ use Rattle.cyc_system.proofs.Recording.{tail_rises}
 -- ---- the cyclics that return
 
 abbrev first_stay : (ℕ → Bool) → List Placed → List Placed
-first_stay leaves ps = filter (λ (p : Placed). is_on_all p.place) (filter (λ (p : Placed). not (leaves p.id)) ps)
+first_stay leaves ps = filter (λ (p : Placed). is_on_all p.placement) (filter (λ (p : Placed). not (leaves p.id)) ps)
 
 stay_by : (p : RecordPlacement) (level : Level) (id : ℕ) (leaves : Bool) (r : Record) (rs : List Record) (ps : List Placed)
     (kept_rs : List Record)
-    → shown_record r ≡ record { id = id; place = shown_place level p }
-    → filter (λ (q : Placed). is_on_all q.place) ps ≡ map shown_record kept_rs
-    → filter (λ (q : Placed). is_on_all q.place) (cond (not leaves) (record { id = id; place = shown_place level p } ∷ ps) ps)
+    → shown_record r ≡ record { id = id; placement = shown_placement level p }
+    → filter (λ (q : Placed). is_on_all q.placement) ps ≡ map shown_record kept_rs
+    → filter (λ (q : Placed). is_on_all q.placement) (cond (not leaves) (record { id = id; placement = shown_placement level p } ∷ ps) ps)
     ≡ map shown_record (cond (everywhere_in p && not leaves) (r ∷ kept_rs) kept_rs)
-stay_by (place.On n bound) level id true r rs ps kept_rs is rest = rest
-stay_by (place.On n bound) level id false r rs ps kept_rs is rest = rest
-stay_by (place.Everywhere series skew) level id true r rs ps kept_rs is rest = rest
-stay_by (place.Everywhere series skew) level id false r rs ps kept_rs is rest = λ z. sym is z ∷ rest z
+stay_by (placements.On n bound) level id true r rs ps kept_rs is rest = rest
+stay_by (placements.On n bound) level id false r rs ps kept_rs is rest = rest
+stay_by (placements.Everywhere series skew) level id true r rs ps kept_rs is rest = rest
+stay_by (placements.Everywhere series skew) level id false r rs ps kept_rs is rest = λ z. sym is z ∷ rest z
 
 stay_shown : (leaves own : ℕ → Bool) → ((id : ℕ) → leaves id ≡ own id) → (rs : List Record)
     → first_stay leaves (map shown_record rs)
-    ≡ map shown_record (filter (λ (r : Record). everywhere_in r.place && not (own r.id)) rs)
+    ≡ map shown_record (filter (λ (r : Record). everywhere_in r.placement && not (own r.id)) rs)
 stay_shown leaves own same [] = refl
 stay_shown leaves own same (r ∷ rs) =
-    stay_by r.place r.level r.id (leaves r.id) r rs (filter (λ (p : Placed). not (leaves p.id)) (map shown_record rs))
-    (filter (λ (q : Record). everywhere_in q.place && not (own q.id)) rs) refl (stay_shown leaves own same rs)
-    ∙ ap (λ b. map shown_record (cond (everywhere_in r.place && not b)
-    (r ∷ filter (λ (q : Record). everywhere_in q.place && not (own q.id)) rs)
-    (filter (λ (q : Record). everywhere_in q.place && not (own q.id)) rs))) (same r.id)
+    stay_by r.placement r.level r.id (leaves r.id) r rs (filter (λ (p : Placed). not (leaves p.id)) (map shown_record rs))
+    (filter (λ (q : Record). everywhere_in q.placement && not (own q.id)) rs) refl (stay_shown leaves own same rs)
+    ∙ ap (λ b. map shown_record (cond (everywhere_in r.placement && not b)
+    (r ∷ filter (λ (q : Record). everywhere_in q.placement && not (own q.id)) rs)
+    (filter (λ (q : Record). everywhere_in q.placement && not (own q.id)) rs))) (same r.id)
 
 -- ---- each component
 
@@ -108,7 +108,7 @@ first_or_later r rs P zero q at own rest = subst P (same_some at) own
 first_or_later r rs P (suc j) q at own rest = rest j q at
 
 abbrev AllEverywhere : List Record → Type 0
-AllEverywhere rs = (j : ℕ) (r : Record) → IsRecord rs j r → everywhere_in r.place ≡ true
+AllEverywhere rs = (j : ℕ) (r : Record) → IsRecord rs j r → everywhere_in r.placement ≡ true
 
 abbrev HaveEnded : ℕ → List Record → State → Type 0
 HaveEnded n rs s = (j : ℕ) (r : Record) → IsRecord rs j r → s.ended r.id n ≡ shown_counts (ended_on n r)
@@ -145,14 +145,14 @@ all_return n now [] x y long tied rising every same = (
 )
 all_return n now (r ∷ rs) x y long tied rising every works =
     by (λ u long_u tied_u rest. all_return n now rs u y long_u tied_u (tail_rises r rs rising)
-    (λ j q at. every (suc j) q at) rest) r.place refl works
+    (λ j q at. every (suc j) q at) rest) r.placement refl works
   where
     by : ((u : CpusView Tables) → length u.online ≡ length u.cpus → AreTied u → Works raise_tables (returns n now rs) u y
-        → GivesBack n now rs u y) → (p : RecordPlacement) → r.place ≡ p
+        → GivesBack n now rs u y) → (p : RecordPlacement) → r.placement ≡ p
         → Works raise_tables (returns_at n now r.id r.level (ended_on n r) p ++ returns n now rs) x y
         → GivesBack n now (r ∷ rs) x y
-    by next (place.On m bound) is did = absurd (let isnt : false ≡ true = sym (ap everywhere_in is) ∙ every 0 r refl in cc)
-    by next (place.Everywhere series skew) is (u, put, rest) =
+    by next (placements.On m bound) is did = absurd (let isnt : false ≡ true = sym (ap everywhere_in is) ∙ every 0 r refl in cc)
+    by next (placements.Everywhere series skew) is (u, put, rest) =
         let e : Everywhere = record { level = r.level; start = series.start; interval = series.interval; skew = skew } in
         let p = done_at n (Place r.id r.level series.interval (component_first n series skew now) (ended_on n r)) x u long tied
         put in
@@ -184,7 +184,7 @@ all_return n now (r ∷ rs) x y long tied rising every works =
               (λ j q at_q. kept_other r.id n q.id n (s.ended q.id n) (λ there. other j q at_q) ∙ ended (suc j) q at_q) gives.1 in
               subst (λ pl. Returned n (r ∷ rs) (p.index ∷ more.0) s
               (followed_by (return_at indexes n r.id pl s) (each (return_of indexes n) (map shown_record rs))) y)
-              (sym (ap (shown_place r.level) is)) (record {
+              (sym (ap (shown_placement r.level) is)) (record {
                 goes = goes_then s o (each (return_of indexes n) (map shown_record rs)) one d.goes;
                 cpus = d.cpus;
                 admissions = (let a = d.admissions in omega (arith, a));
@@ -380,7 +380,7 @@ module _ (n : ℕ) (s : State) (v w : SystemView Tables) (sys : IsSystem v) (h :
       let b = done_at n (Widen k) u1 u2 r.long r.tied wide in
       let f = all_return n s.clock stay u2 cw b.long b.tied (filter_rises (is_staying v.cpus) v.records sys.rising)
       (λ j a at_a. let (i, there, passes) = filter_back (is_staying v.cpus) v.records j a at_a in
-      both_true (everywhere_in a.place) _ passes) rest in
+      both_true (everywhere_in a.placement) _ passes) rest in
       let hw = half_works (on_cpu n (Reserve k (Ok tt)) ∷ on_cpu n (Widen k) ∷ returns n s.clock stay) v cw (half v sys)
       (u1, res, (u2, wide, rest)) in
       let low_v : n < length v.cpus.cpus = (let x = r.within in let y = long_shown v.cpus.online v.cpus.cpus sys.agrees.long in

@@ -13,7 +13,7 @@ use Rattle.cyc_script.specs.declared.step.Omni.{Omni as OmniStep}
 use Rattle.cyc_script.specs.declared.step.Step.TheVariants as steps
 use Rattle.cyc_cpu.specs.Soft.{raise_tables}
 use Rattle.cyc_cpu.specs.Calls.{AskRoom, Reserve, Widen, Place}
-use Rattle.cyc_places.specs.declared.record.Placement.TheVariants as place
+use Rattle.cyc_places.specs.declared.record.Placement.TheVariants as placements
 use Rattle.cyc_places.specs.Places.{IsRecord, new_record}
 use Rattle.cyc_system.specs.Cpus.{CpusView, Works, on as on_cpu, online_cpus as online_in}
 use Rattle.cyc_system.specs.Reserving.{rooms, reserves}
@@ -264,11 +264,11 @@ module _ (a : OmniStep) (series : When) (s : State) (v w : SystemView Tables) (s
                 shows = record {
                   cpus = d.cpus;
                   placed = d.books.placed ∙ sym (ap (map shown_record) records
-                      ∙ map-append shown_record v.records (new_record id a.level (place.Everywhere series a.skew) ∷ [])
-                      ∙ (λ z. sym h.placed z ++ record { id = gives z; place = OnAll (sym own_is z) } ∷ []));
+                      ∙ map-append shown_record v.records (new_record id a.level (placements.Everywhere series a.skew) ∷ [])
+                      ∙ (λ z. sym h.placed z ++ record { id = gives z; placement = OnAll (sym own_is z) } ∷ []));
                   ended = λ k q2 at_k n. d.books.ended q2.id n
-                      ∙ ended_more s v id a.level (place.Everywhere series a.skew) k n q2 h gives
-                      (one_more v.records (new_record id a.level (place.Everywhere series a.skew)) k q2
+                      ∙ ended_more s v id a.level (placements.Everywhere series a.skew) k n q2 h gives
+                      (one_more v.records (new_record id a.level (placements.Everywhere series a.skew)) k q2
                       (subst (λ rs. IsRecord rs k q2) records at_k));
                   fresh = λ i n less. d.books.ended i n ∙ h.fresh i n (let l = d.books.last in omega (arith, less, l));
                   last = d.books.last ∙ sym (last ∙ gives);

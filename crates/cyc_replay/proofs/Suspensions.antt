@@ -20,7 +20,7 @@ use Rattle.cyc_cpu.specs.Calls.{SoftInterrupt as CpuSoftInterrupt, Does as CpuDo
 use Rattle.cyc_cpu.specs.Calls as cpu
 use Rattle.cyc_cpu.proofs.Calling.{LeavesMark as LeavesCpuMark, changes_suspended, fire_keeps}
 use Rattle.cyc_places.specs.declared.record.Placement.{Placement as RecordPlacement}
-use Rattle.cyc_places.specs.declared.record.Placement.TheVariants as place
+use Rattle.cyc_places.specs.declared.record.Placement.TheVariants as placements
 use Rattle.cyc_places.specs.declared.record.Record.{Record}
 use Rattle.cyc_places.specs.Places.{ended_on}
 use Rattle.cyc_system.specs.Cpus.{CpusView, CallOn, Works, DoesAt, RunsAt, on, online_cpus, running_cpus}
@@ -79,12 +79,12 @@ leave_asked id (a ∷ way) = (tt, leave_asked id way)
 
 leave_returns : (n now : ℕ) (rs : List Record) → AllLeave (returns n now rs)
 leave_returns n now [] = tt
-leave_returns n now (r ∷ rs) = leave_append (return_at n now r.id r.level (ended_on n r) r.place) (returns n now rs)
-    (one r.place) (leave_returns n now rs)
+leave_returns n now (r ∷ rs) = leave_append (return_at n now r.id r.level (ended_on n r) r.placement) (returns n now rs)
+    (one r.placement) (leave_returns n now rs)
   where
     one : (p : RecordPlacement) → AllLeave (return_at n now r.id r.level (ended_on n r) p)
-    one (place.On m bound) = tt
-    one (place.Everywhere start skew) = (tt, tt)
+    one (placements.On m bound) = tt
+    one (placements.Everywhere start skew) = (tt, tt)
 
 -- ---- the marks after them
 

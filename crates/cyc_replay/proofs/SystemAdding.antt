@@ -15,7 +15,7 @@ use Rattle.cyc_script.specs.declared.step.Step.TheVariants as steps
 use Rattle.cyc_cpu.specs.Soft.{raise_tables}
 use Rattle.cyc_cpu.specs.Calls.{Reserve, Widen, Place}
 use Rattle.cyc_places.specs.declared.record.Placement.{Placement as RecordPlacement}
-use Rattle.cyc_places.specs.declared.record.Placement.TheVariants as place
+use Rattle.cyc_places.specs.declared.record.Placement.TheVariants as placements
 use Rattle.cyc_places.specs.declared.record.Record.{Record}
 use Rattle.cyc_places.specs.Places.{IsRecord, new_record, ended_on}
 use Rattle.cyc_system.specs.System.{SystemView}
@@ -129,10 +129,10 @@ module _ (a : AddStep) (series : When) (s : State) (v w : SystemView Tables) (sy
               cpus = sym (cs ∙ (λ z. slice_set (sym h.cpus z) (sym dm z)
                   (enter_here (sym dm z) (sym at.0 z) (sym is_x z) (get_or (sym h.cpus z) (sym dm z) absent)).cpu));
               placed = sym (ap (map shown_record) records
-                  ∙ map-append shown_record v.records (new_record id a.level (place.On d false) ∷ [])
-                  ∙ (λ z. sym h.placed z ++ record { id = gives z; place = On (sym dm z) false } ∷ []));
-              ended = λ k q there n. ended_more s v id a.level (place.On d false) k n q h gives
-                  (one_more v.records (new_record id a.level (place.On d false)) k q
+                  ∙ map-append shown_record v.records (new_record id a.level (placements.On d false) ∷ [])
+                  ∙ (λ z. sym h.placed z ++ record { id = gives z; placement = On (sym dm z) false } ∷ []));
+              ended = λ k q there n. ended_more s v id a.level (placements.On d false) k n q h gives
+                  (one_more v.records (new_record id a.level (placements.On d false)) k q
                   (subst (λ rs. IsRecord rs k q) records there));
               fresh = λ i n less. h.fresh i n (omega (arith, less));
               last = sym (last ∙ gives);

@@ -10,7 +10,7 @@ use Rattle.cyc_core.specs.Tables.{Tables}
 use Rattle.cyc_cpu.specs.Cpu.{CpuView}
 use Rattle.cyc_cpu.specs.Soft.{raise_tables}
 use Rattle.cyc_cpu.specs.Calls.{AskPending, Reserve}
-use Rattle.cyc_places.specs.declared.record.Placement.TheVariants as place
+use Rattle.cyc_places.specs.declared.record.Placement.TheVariants as placements
 use Rattle.cyc_agreement.proofs.Given.{agrees_same}
 use Rattle.cyc_agreement.proofs.MayGo
 use Rattle.cyc_agreement.proofs.Replaced.{not_elsewhere}
@@ -19,7 +19,7 @@ use Rattle.cyc_system.specs.Agreement.{Agrees}
 use Rattle.cyc_system.specs.Cpus.{CpusView, IsCpu, DoesAt, on as on_cpu}
 use Rattle.cyc_system.specs.Destination.{destination as destination_in}
 use Rattle.cyc_system.specs.System.{SystemView}
-use Rattle.cyc_system.specs.Binding.{HasPlace, Records}
+use Rattle.cyc_system.specs.Binding.{HasPlacement, Records}
 use Rattle.cyc_system.specs.Turn.{Turn as TurnThere}
 use Rattle.cyc_system.specs.Turn.TheVariants as there
 use Rattle.cyc_system.specs.Juggling.{TakesTurn}
@@ -75,18 +75,18 @@ module _ (source id : ℕ) (s : State) (v : SystemView Tables) (h : ShowsSystem 
   abbrev not_bound : Turn
   not_bound = cond (nat_lt 0 (outstanding_here id (cpu_of source s))) IsPending goes_on_to
 
-  turn_bound : HasPlace id source true v → turn plain source id s ≡ IsBound
+  turn_bound : HasPlacement id source true v → turn plain source id s ≡ IsBound
   turn_bound at = ap (λ b. cond b IsBound not_bound) (bound_shown id source true s v h hv.rising at)
 
-  turn_free : HasPlace id source false v → turn plain source id s ≡ not_bound
+  turn_free : HasPlacement id source false v → turn plain source id s ≡ not_bound
   turn_free at = ap (λ b. cond b IsBound not_bound) (bound_shown id source false s v h hv.rising at)
 
-  turn_pending : HasPlace id source false v → (k : ℕ) → 0 < k → k ≡ outstanding_here id (cpu_at v.cpus source)
+  turn_pending : HasPlacement id source false v → (k : ℕ) → 0 < k → k ≡ outstanding_here id (cpu_at v.cpus source)
       → turn plain source id s ≡ IsPending
   turn_pending at k some is = turn_free at ∙ ap (λ b. cond b IsPending goes_on_to)
       (ap (λ c. nat_lt 0 (outstanding_here id c)) (at_cpu source) ∙ ap (nat_lt 0) (sym is) ∙ is_less k some)
 
-  turn_goes : HasPlace id source false v → outstanding_here id (cpu_at v.cpus source) ≡ 0
+  turn_goes : HasPlacement id source false v → outstanding_here id (cpu_at v.cpus source) ≡ 0
       → (d : ℕ) → destination_in (Some source) v.cpus ≡ Some d
       → turn plain source id s ≡ cond (is_some (why_no_room 1 (cpu_at v.cpus d))) IsTurnedAway (Moves d)
   turn_goes at none d dest = turn_free at
@@ -147,7 +147,7 @@ module _ (source id target : ℕ) (x : Cyclic) (indexes : ℕ
   moved_goes : Goes s moved
   moved_goes = goes_then s took (λ t. enter indexes target x (put_at id (On target (is_bound id t)) t)) took_goes entered_goes
 
-  moved_shows : HasPlace id source false v → Records id (place.On target false) v w → ShowsSystem moved.state w
+  moved_shows : HasPlacement id source false v → Records id (placements.On target false) v w → ShowsSystem moved.state w
   moved_shows at records = replaced_shows s moved.state v w h hv.rising id target false records
       ((λ z. slice_set (same_middle z) target (enter_here target (is z) x (get_or (same_middle z) target absent)).cpu)
       ∙ sym d.cpus)
@@ -170,7 +170,7 @@ TurnsSo source id t v w = (given : List ℕ) × ((s : State) (indexes : ℕ → 
     → TurnsTo source id t given indexes s w)
 
 -- after an ask for a cyclic that may go, its destination has fewer cyclics than there are records
-fewer_there : (source id d : ℕ) (v : SystemView Tables) (u : CpusView Tables) → Half v → Agrees v → HasPlace id source false v
+fewer_there : (source id d : ℕ) (v : SystemView Tables) (u : CpusView Tables) → Half v → Agrees v → HasPlacement id source false v
     → destination_in (Some source) v.cpus ≡ Some d → DoesAt raise_tables v.cpus (on_cpu source (AskPending id (Some 0))) u
     → (cpu : CpuView Tables) → IsCpu d cpu u → length cpu.cyclics + 1 ≤ length v.records
 fewer_there source id d v u hv a (k, r, is, named, stands) dest ask cpu at =

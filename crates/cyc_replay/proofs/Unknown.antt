@@ -45,7 +45,7 @@ placed_begins id (n ∷ ns) s = placed_begins id ns (begin plain id n s).state �
 -- ---- the other cyclics
 
 unknown_same : (j : ℕ) (s t : State) → t.placed ≡ s.placed → is_unknown j t ≡ is_unknown j s
-unknown_same j s t same = ap (λ ps. not (is_some (option_map (λ (p : Placed). p.place) (find (λ (p : Placed). p.id == j) ps))))
+unknown_same j s t same = ap (λ ps. not (is_some (option_map (λ (p : Placed). p.placement) (find (λ (p : Placed). p.id == j) ps))))
     same
 
 unknown_forgotten : (id j : ℕ) (t : State) → j ≢ id → is_unknown j (forgotten id t) ≡ is_unknown j t
@@ -77,17 +77,17 @@ unknown_removed step text name j s ne =
 -- ---- one that is on a CPU is known
 
 found_shown : (id k : ℕ) (rs : List Record) (r : Record) → slice_get rs k ≡ Some r → r.id ≡ id
-    → is_some (option_map (λ (p : Placed). p.place) (find (λ (p : Placed). p.id == id) (map shown_record rs))) ≡ true
+    → is_some (option_map (λ (p : Placed). p.placement) (find (λ (p : Placed). p.id == id) (map shown_record rs))) ≡ true
 found_shown id k [] r is named = absurd (none_some is)
 found_shown id zero (q ∷ rs) r is named =
-    ap (λ b. is_some (option_map (λ (p : Placed). p.place)
+    ap (λ b. is_some (option_map (λ (p : Placed). p.placement)
     (cond b (Some (shown_record q)) (find (λ (p : Placed). p.id == id) (map shown_record rs)))))
     (eq-eqb q.id id (ap (λ (x : Record). x.id) (same_some is) ∙ named))
 found_shown id (suc k) (q ∷ rs) r is named = by (q.id == id) (found_shown id k rs r is named)
   where
-    by : (b : Bool) → is_some (option_map (λ (p : Placed). p.place) (find (λ (p : Placed). p.id == id) (map shown_record rs)))
+    by : (b : Bool) → is_some (option_map (λ (p : Placed). p.placement) (find (λ (p : Placed). p.id == id) (map shown_record rs)))
         ≡ true
-        → is_some (option_map (λ (p : Placed). p.place)
+        → is_some (option_map (λ (p : Placed). p.placement)
         (cond b (Some (shown_record q)) (find (λ (p : Placed). p.id == id) (map shown_record rs)))) ≡ true
     by true h = refl
     by false h = h
@@ -102,5 +102,5 @@ still_known id t w h agrees some gone = some (nowhere id w.cpus (λ n. by n (has
         let (k, r, here, named, stands, online) = agrees.known n id is in
         let known = found_shown id k w.records r here named in
         absurd (let no : false ≡ true =
-        sym (ap (λ ps. not (is_some (option_map (λ (p : Placed). p.place) (find (λ (p : Placed). p.id == id) ps)))) h.placed
+        sym (ap (λ ps. not (is_some (option_map (λ (p : Placed). p.placement) (find (λ (p : Placed). p.id == id) ps)))) h.placed
         ∙ ap not known) ∙ gone in cc)

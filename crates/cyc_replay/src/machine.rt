@@ -37,9 +37,9 @@ pub fn id_in(named: Named) -> Option<CyclicId>
 pub fn name_of(named: &[usize], id: CyclicId) -> usize
     ensures { result ≡ name_at named.now id }
 {
-    let place = id.number() - 1;
-    if place < named.len() as u64 {
-        named[place as usize]
+    let position = id.number() - 1;
+    if position < named.len() as u64 {
+        named[position as usize]
     } else {
         0
     }
@@ -49,8 +49,8 @@ pub fn name_of(named: &[usize], id: CyclicId) -> usize
 pub fn set_name(named: &mut Vec<usize>, id: CyclicId, name: usize)
     ensures { named.new.items ≡ slice_set named.old.items (id - 1) name }
 {
-    let place = id.number() - 1;
-    if place < named.len() as u64 {
-        named[place as usize] = name;
+    let position = id.number() - 1;
+    if position < named.len() as u64 {
+        named[position as usize] = name;
     }
 }

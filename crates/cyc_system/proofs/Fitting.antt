@@ -23,7 +23,7 @@ use Rattle.cyc_cpu_laws.specs.Accounts.{expired_of, entered_by, left_by}
 use Rattle.cyc_cpu_laws.proofs.Shifts.{changes_shift, shift_sums}
 use Rattle.cyc_places.specs.declared.record.Placement.TheVariants as stands
 use Rattle.cyc_places.specs.declared.record.Record.{Record}
-use Rattle.cyc_places.specs.Places.{IsRecord, ended_on, summed, with_place, with_ended}
+use Rattle.cyc_places.specs.Places.{IsRecord, ended_on, summed, with_placement, with_ended}
 use Rattle.cyc_agreement.specs.Cpus.{CpusView, IsCpu, CallOn, on, DoesAt, Works}
 use Rattle.cyc_agreement.specs.Shifting.{moving}
 use Rattle.cyc_agreement.proofs.CpuSpots.{get_set_same, get_set_other}
@@ -208,13 +208,13 @@ module _ {R : Type 0} (firing : Raise R) (n : ℕ) where
   fits_turn id Moves s t (place, d, chosen, (taken, works), (k, r, here, named, records, last)) still f =
       fits_on s t (moving id n d taken) (λ e q. refl, (λ e q. refl, (λ e q. refl, (λ e q. refl, (λ e. absurd (apart e), tt)))))
       works still.most
-      (λ j q is. by j q (was firing s.records k j r (with_place (stands.On d false) r) q here refl
+      (λ j q is. by j q (was firing s.records k j r (with_placement (stands.On d false) r) q here refl
       (subst (λ rs. IsRecord rs j q) records is))) f
     where
       apart : d ≢ n
       apart e = (destination_fits (Some n) s.cpus d chosen).1 (ap Some (sym e))
 
-      by : (j : ℕ) (q : Record) → ((j ≡ k) × (q ≡ with_place (stands.On d false) r)) ⊎ ((j ≢ k) × IsRecord s.records j q)
+      by : (j : ℕ) (q : Record) → ((j ≡ k) × (q ≡ with_placement (stands.On d false) r)) ⊎ ((j ≢ k) × IsRecord s.records j q)
           → (i : ℕ) × (p : Record) × IsRecord s.records i p × (p.id ≡ q.id) × ((m : ℕ) → ended_on m q ≡ ended_on m p)
       by j q (inl (e, same)) = (k, r, here, sym (ap (λ (x : Record). x.id) same), λ m. ap (λ p. ended_on m p) same)
       by j q (inr (ne, at)) = (j, q, at, refl, λ m. refl)

@@ -157,11 +157,11 @@ impl<R: Raise> System<R> {
         let interval = when.interval;
         let first = when.first(now);
         enter(&mut self.cpus, target, id, level, interval, first);
-        let place = Placement::On {
+        let placement = Placement::On {
             cpu: target,
             bound: false,
         };
-        self.records.push(id, level, place);
+        self.records.push(id, level, placement);
         self.last = id.number();
         Ok(id)
     }

@@ -89,12 +89,12 @@ module _ (f : Taken → ℕ) (id : ℕ) where
         → on_cpu y + taken_off call ≡ on_cpu x + brought call
     flow x y (Place own level interval moment carried) fixed (may, p) =
         let c = cyclic_with own level interval moment carried.sent carried.lost in
-        let a = ap (λ cs. sum_by weigh cs) p.cyclics in let b = sum_by-insert weigh x.cyclics p.place c in
+        let a = ap (λ cs. sum_by weigh cs) p.cyclics in let b = sum_by-insert weigh x.cyclics p.position c in
         let e : weigh c ≡ cond (own == id)
         (f (record { level = level; interval = interval; moment = moment; sent = carried })) 0 = refl in
         omega (arith, a, b, e)
     flow x y (TakeNow own (Ok taken)) fixed (still, (c, counts, is, polled, l)) =
-        let a = ap (λ cs. sum_by weigh cs) l.cyclics in let b = sum_by-remove weigh x.cyclics l.place c l.here.0 in
+        let a = ap (λ cs. sum_by weigh cs) l.cyclics in let b = sum_by-remove weigh x.cyclics l.position c l.here.0 in
         let d = ap weigh l.here.1 in
         let e : cond (own == id) (f taken) 0 ≡ weigh c = (λ i. cond (sym l.named i == id) (f (taken_is taken c is i)) 0) in
         omega (arith, a, b, d, e)

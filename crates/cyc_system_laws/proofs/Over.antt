@@ -177,7 +177,7 @@ module _ {R : Type 0} (firing : Raise R) (id : ℕ) where
 
   is_over : (receipt : Receipt) (u t : SystemView R) → Answers id receipt u t → AllGiven u → IsForgotten id t → IsOver id t
   is_over receipt u t a h f = record {
-    given = (let low = h a.place a.own a.here in let named = a.named in let last = a.last in omega (arith, low, named, last));
+    given = (let low = h a.position a.own a.here in let named = a.named in let last = a.last in omega (arith, low, named, last));
     unknown = none_of id t.records f.unknown;
     nowhere = λ n cpu at k d low same. false_true
         (sym (f.nowhere n) ∙ has_here t.cpus n id cpu at

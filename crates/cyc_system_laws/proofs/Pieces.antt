@@ -93,8 +93,8 @@ outs_return id n now own level counts (stands.Everywhere first skew) ne = (ne, t
 outs_returns : (id n now : ℕ) (rs : List Record) → Unnamed id rs → Outs id (returns n now rs)
 outs_returns id n now [] none = tt
 outs_returns id n now (r ∷ rs) none =
-    outs_on id (return_at n now r.id r.level _ r.place) (returns n now rs)
-    (outs_return id n now r.id r.level _ r.place (none zero r refl)) (outs_returns id n now rs (unnamed_tail id r rs none))
+    outs_on id (return_at n now r.id r.level _ r.placement) (returns n now rs)
+    (outs_return id n now r.id r.level _ r.placement (none zero r refl)) (outs_returns id n now rs (unnamed_tail id r rs none))
 
 withouts : (id : ℕ) (way : List CallOn) → Outs id way → All (IsWithout id) (map OnCpu way)
 withouts id [] outs k d low = absurd (omega (arith, low))
@@ -323,7 +323,7 @@ module _ {R : Type 0} (firing : Raise R) where
 
   answers : (id : ℕ) (receipt : Receipt) (s t : SystemView R) → Answers id receipt s t → IsPlainlyMadeOf s t
   answers id receipt s t a = made_calls s t [] tt (sym a.cpus) (same_low s.last t.last a.last) (λ q low none. tt)
-      (λ q low none. subst (λ rs. Unnamed q rs) (sym a.records) (unnamed_remove q s.records a.place none))
+      (λ q low none. subst (λ rs. Unnamed q rs) (sym a.records) (unnamed_remove q s.records a.position none))
 
   begins : (id : ℕ) (answer : Result SystemRemoval Refusal) (s t : SystemView R) → Removes firing id answer s t
       → IsPlainlyMadeOf s t

@@ -66,7 +66,7 @@ pub record RefusedTurn (R : Type 0) : Type 0 where
 module _ {R : Type 0} (firing : Raise R) (n : ℕ) where
   -- the turn, if it was refused
   abbrev pub refused_in : (id : ℕ) (turn : Turn) (s t : SystemView R) → TakesTurn firing n id turn s t → List (RefusedTurn R)
-  refused_in id StaysRefused s t (place, d, chosen, e, only) =
+  refused_in id StaysRefused s t (position, d, chosen, e, only) =
       record { id = id; target = d; why = e; before = s; after = t } ∷ []
   refused_in id turn s t takes = []
 

@@ -111,7 +111,7 @@ module _ {R : Type 0} (firing : Raise R) (id : ℕ) where
     stays = λ k. stays_kept firing (of_stay (blind k)) id s t call a b d touch ∙ h.stays k;
     all = counts_same firing (λ (c : Sent). c.sent) refl (λ x y. refl) id s t call a b d ends ∙ h.all;
     given = (let l = (made_of firing s t call d).last in let g = h.given in omega (arith, l, g));
-    omni = look_kept firing (λ (r : Record). is_everywhere r.place) false (λ r n bound e. sym e) (λ r n c. refl) id s t call
+    omni = look_kept firing (λ (r : Record). is_everywhere r.placement) false (λ r n bound e. sym e) (λ r n c. refl) id s t call
         a.fit.rising d record' ∙ h.omni;
   }
 
@@ -155,7 +155,7 @@ module _ {R : Type 0} (firing : Raise R) (id : ℕ) where
             (inr (clear, (own, (u, reserved, works), records, last))) (λ x. x) ∙ no_counts_yet firing.view id s a new;
         given = omega (arith, last);
         omni =
-            let h = λ (r : Record). is_everywhere r.place in let x = new_record id level (stands.Everywhere when skew) in
+            let h = λ (r : Record). is_everywhere r.placement in let x = new_record id level (stands.Everywhere when skew) in
             let none = record_none id s.records (λ k q low same. (let g = a.agrees.given k (get_or s.records k q)
             (slice_get-get_or s.records k q low) in omega (arith, g, same, new))) in
             ap (λ rs. option_map_or h (found id rs) false) records
@@ -202,7 +202,7 @@ module _ {C R : Type 0} (handler : Calls C) (firing : Raise R) (id : ℕ) where
         let r = ap (λ rs. option_map_or (λ r. sum_by (λ e. e.sent) r.ended) (found id rs) 0) f.records in
         omega (arith, x, y, z, w, r));
     given = (let g = h.given in let l = f.last in omega (arith, g, l));
-    omni = ap (λ rs. option_map_or (λ (r : Record). is_everywhere r.place) (found id rs) false) f.records ∙ h.omni;
+    omni = ap (λ rs. option_map_or (λ (r : Record). is_everywhere r.placement) (found id rs) false) f.records ∙ h.omni;
   }
 
   asks_each : (i : ℕ) (ms : List (Option ℕ)) (e : ℕ) (s t : SystemSide R C) → IsSound firing.view s.system
@@ -215,7 +215,7 @@ module _ {C R : Type 0} (handler : Calls C) (firing : Raise R) (id : ℕ) where
         let r = ap (λ rs. option_map_or (λ r. sum_by (λ e. e.sent) r.ended) (found id rs) 0) a.records in
         omega (arith, x, z, r));
     given = (let g = h.given in let l = a.last in omega (arith, g, l));
-    omni = ap (λ rs. option_map_or (λ (r : Record). is_everywhere r.place) (found id rs) false) a.records ∙ h.omni;
+    omni = ap (λ rs. option_map_or (λ (r : Record). is_everywhere r.placement) (found id rs) false) a.records ∙ h.omni;
   }
 
   as_told : (t u : Told) (s s' : SystemView R) → u ≡ t
@@ -261,7 +261,7 @@ module _ {C R : Type 0} (handler : Calls C) (firing : Raise R) (id : ℕ) where
     all = counts_same firing (λ (c : Sent). c.sent) refl (λ x y. refl) id s t (Online n now (Err why)) a b
         (inr (clear, (reason, (works, records, last)))) (λ x. x) ∙ h.all;
     given = (let g = h.given in omega (arith, g, last));
-    omni = ap (λ rs. option_map_or (λ (r : Record). is_everywhere r.place) (found id rs) false) records ∙ h.omni;
+    omni = ap (λ rs. option_map_or (λ (r : Record). is_everywhere r.placement) (found id rs) false) records ∙ h.omni;
   }
 
   make_each : (s t : SystemView R) (call : SystemCall) (told : Told) → IsSound firing.view s → IsSound firing.view t

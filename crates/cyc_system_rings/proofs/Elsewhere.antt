@@ -326,7 +326,7 @@ module _ (level : Level) (id : ℕ) where
             → all_brought at_it id (returns n now (filter (is_staying v) rs)) ≡ 0
             → AllFixed at_it id (returns n now (cond b (r ∷ filter (is_staying v) rs) (filter (is_staying v) rs)))
             × (all_brought at_it id (returns n now (cond b (r ∷ filter (is_staying v) rs) (filter (is_staying v) rs))) ≡ 0)
-        by true fixed none = return_none n now r.id r.level (ended_on n r) r.place
+        by true fixed none = return_none n now r.id r.level (ended_on n r) r.placement
             (returns n now (filter (is_staying v) rs)) (z 0 r refl) fixed none
         by false fixed none = (fixed, none)
 

@@ -135,7 +135,7 @@ module _ {C R : Type 0} (handler : Calls C) (firing : Raise R) (id : ℕ) where
         let r = ap (λ rs. option_map_or (λ r. sum_by (λ e. e.sent) r.ended) (found id rs) 0) f.records in
         omega (arith, x, x2, y, z, r));
     given = (let g = h.given in let l = f.last in omega (arith, g, l));
-    single = ap (λ rs. option_map_or (λ (r : Record). is_everywhere r.place) (found id rs) false) f.records ∙ h.single;
+    single = ap (λ rs. option_map_or (λ (r : Record). is_everywhere r.placement) (found id rs) false) f.records ∙ h.single;
   }
 
   -- ---- a question
@@ -164,7 +164,7 @@ module _ {C R : Type 0} (handler : Calls C) (firing : Raise R) (id : ℕ) where
         let r = ap (λ rs. option_map_or (λ r. sum_by (λ e. e.sent) r.ended) (found id rs) 0) a.records in
         omega (arith, x, z, r));
     given = (let g = h.given in let l = a.last in omega (arith, g, l));
-    single = ap (λ rs. option_map_or (λ (r : Record). is_everywhere r.place) (found id rs) false) a.records ∙ h.single;
+    single = ap (λ rs. option_map_or (λ (r : Record). is_everywhere r.placement) (found id rs) false) a.records ∙ h.single;
   }
 
   -- ---- a call

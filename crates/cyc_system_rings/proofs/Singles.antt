@@ -86,7 +86,7 @@ module _ {R : Type 0} (firing : Raise R) (id : ℕ) where
 
   omni_kept : (s t : SystemView R) (call : SystemCall) → IsSound firing.view s → Changes firing s call t
       → (TouchesRecord id call → ⊥) → is_omnipresent id t ≡ is_omnipresent id s
-  omni_kept s t call a d other = look_kept firing (λ (r : Record). is_everywhere r.place) false (λ r n bound e. sym e)
+  omni_kept s t call a d other = look_kept firing (λ (r : Record). is_everywhere r.placement) false (λ r n bound e. sym e)
       (λ r n c. refl) id s t call a.fit.rising d other
 
   -- a call that doesn't touch it
@@ -130,7 +130,7 @@ module _ {R : Type 0} (firing : Raise R) (id : ℕ) where
             (inr (clear, (d, chosen, own, works, records, last))) (λ x. x) ∙ no_counts_yet firing.view id s a new;
         given = omega (arith, last);
         single =
-            let h = λ (r : Record). is_everywhere r.place in let x = new_record id level (stands.On d false) in
+            let h = λ (r : Record). is_everywhere r.placement in let x = new_record id level (stands.On d false) in
             let none = record_none id s.records (λ k q low same. (let g = a.agrees.given k (get_or s.records k q)
             (slice_get-get_or s.records k q low) in omega (arith, g, same, new))) in
             ap (λ rs. option_map_or h (found id rs) false) records
@@ -162,7 +162,7 @@ module _ {R : Type 0} (firing : Raise R) (id : ℕ) where
     all = counts_same firing (λ (c : Sent). c.sent) refl (λ x y. refl) id s t (Reprogram id moment (Ok tt)) a b
         (inr (clear, (n, home, (is, ((u, d, last), records, given))))) (λ x. x) ∙ h.all;
     given = (let g = h.given in omega (arith, g, given));
-    single = ap (λ rs. option_map_or (λ (r : Record). is_everywhere r.place) (found id rs) false) records ∙ h.single;
+    single = ap (λ rs. option_map_or (λ (r : Record). is_everywhere r.placement) (found id rs) false) records ∙ h.single;
   }
     where
       by : (k : ℕ → ℕ → ℕ → ℕ) → CpuChanges firing d.before (CpuReprogram id moment (Ok tt)) d.after

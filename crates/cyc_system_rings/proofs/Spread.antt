@@ -20,7 +20,7 @@ use Rattle.cyc_cpu.specs.Calls.{Changes as CpuChanges, Reprogram as CpuReprogram
 use Rattle.cyc_places.specs.declared.record.Placement.{Placement}
 use Rattle.cyc_places.specs.declared.record.Placement.TheVariants as stands
 use Rattle.cyc_places.specs.declared.record.Record.{Record}
-use Rattle.cyc_places.specs.Places.{is_everywhere, new_record, with_place}
+use Rattle.cyc_places.specs.Places.{is_everywhere, new_record, with_placement}
 use Rattle.cyc_agreement.specs.Cpus.{CpusView}
 use Rattle.cyc_agreement.proofs.CpuSpots.{get_set_same, get_set_other, cpu_there}
 use Rattle.cyc_system_laws.proofs.Lists.{true_eq}
@@ -96,11 +96,11 @@ place_series (stands.On n bound) = None
 place_series (stands.Everywhere when skew) = Some (when, skew)
 
 abbrev pub series_of : Record → Option (When × ℕ)
-series_of r = place_series r.place
+series_of r = place_series r.placement
 
-series_placed : (r : Record) (n : ℕ) (bound : Bool) → is_everywhere r.place ≡ false
-    → series_of (with_place (stands.On n bound) r) ≡ series_of r
-series_placed r n bound e = by r.place e
+series_placed : (r : Record) (n : ℕ) (bound : Bool) → is_everywhere r.placement ≡ false
+    → series_of (with_placement (stands.On n bound) r) ≡ series_of r
+series_placed r n bound e = by r.placement e
   where
     by : (place : Placement) → is_everywhere place ≡ false → None ≡ place_series place
     by (stands.On m b) e = refl
@@ -117,22 +117,22 @@ module _ {R : Type 0} (firing : Raise R) (id : ℕ) where
 
   -- its record
   module _ (when : When) (skew : ℕ) (ms : List (Option ℕ)) (s : SystemView R) (h : IsSpread when skew ms s) where
-    its_record : (r : Record) × (found id s.records ≡ Some r) × (r.place ≡ stands.Everywhere when skew)
+    its_record : (r : Record) × (found id s.records ≡ Some r) × (r.placement ≡ stands.Everywhere when skew)
     its_record = by (found id s.records) refl h.series
       where
-        placed : (r : Record) (place : Placement) → r.place ≡ place → place_series place ≡ Some (when, skew)
-            → r.place ≡ stands.Everywhere when skew
+        placed : (r : Record) (place : Placement) → r.placement ≡ place → place_series place ≡ Some (when, skew)
+            → r.placement ≡ stands.Everywhere when skew
         placed r (stands.On n bound) e is = absurd (none_some is)
         placed r (stands.Everywhere w k) e is = (let p = same_some is in e ∙ (λ i. stands.Everywhere (p i).0 (p i).1))
 
         by : (o : Option Record) → found id s.records ≡ o → option_map_or series_of o None ≡ Some (when, skew)
-            → (r : Record) × (found id s.records ≡ Some r) × (r.place ≡ stands.Everywhere when skew)
+            → (r : Record) × (found id s.records ≡ Some r) × (r.placement ≡ stands.Everywhere when skew)
         by None e is = absurd (none_some is)
-        by (Some r) e is = (r, e, placed r r.place refl is)
+        by (Some r) e is = (r, e, placed r r.placement refl is)
 
     pub spread_omni : is_omnipresent id s ≡ true
     spread_omni = (let (r, is, place) = its_record in
-        ap (λ o. option_map_or (λ (r : Record). is_everywhere r.place) o false) is ∙ ap is_everywhere place)
+        ap (λ o. option_map_or (λ (r : Record). is_everywhere r.placement) o false) is ∙ ap is_everywhere place)
 
     not_own : (own : ℕ) → is_omnipresent own s ≡ false → own ≢ id
     not_own own e same = (let odd : true ≡ false = sym spread_omni ∙ (ap (λ (j : ℕ). is_omnipresent j s) (sym same) ∙ e) in cc)
@@ -300,7 +300,7 @@ module _ {R : Type 0} (firing : Raise R) (id : ℕ) where
           let l = changes_long firing s t (Online n now (Ok tt)) (inr (clear, goes)) in let l2 = h.long in
           let (y, at) = get_some t.cpus.cpus n (omega (arith, low, l)) in
           let (p, there, one) = all_back firing s t n now goes k r when skew is place
-          (both (is_everywhere r.place) _ (ap is_everywhere place) (stays r.id named)) y at in
+          (both (is_everywhere r.placement) _ (ap is_everywhere place) (stays r.id named)) y at in
           ap (option_map seen) (ap (λ o. option_and_then (cyclic_in id) o) at
           ∙ cyclic_found y.cyclics id p _ (b.lawful n y at).rising there named)
           ∙ sym (ap (option_map (λ m. (m, when.interval)))

@@ -58,7 +58,7 @@ standing_beside name other now has ne = ap (λ (b : Bool). cond b now (has other
 -- the id has a record, which says whether the cyclic is omnipresent
 pub record IsThere {R : Type 0} (id : ℕ) (everywhere : Bool) (s : SystemView R) : Type 0 where
   pub known : is_unknown id s ≡ false
-  pub place : is_omnipresent id s ≡ everywhere
+  pub placement : is_omnipresent id s ≡ everywhere
 
 abbrev pub Is : {R : Type 0} → Standing → Named → SystemView R → Type 0
 Is Absent Nothing s = Unit {0}
@@ -77,11 +77,11 @@ Is OnAll (Removed receipt) s = ⊥
 -- the record of the id says the same
 pub record SameId {R : Type 0} (id : ℕ) (s t : SystemView R) : Type 0 where
   pub known : is_unknown id t ≡ is_unknown id s
-  pub place : is_omnipresent id t ≡ is_omnipresent id s
+  pub placement : is_omnipresent id t ≡ is_omnipresent id s
 
 there_kept : {R : Type 0} (id : ℕ) (everywhere : Bool) (s t : SystemView R) → SameId id s t → IsThere id everywhere s
     → IsThere id everywhere t
-there_kept id everywhere s t same h = record { known = same.known ∙ h.known; place = same.place ∙ h.place }
+there_kept id everywhere s t same h = record { known = same.known ∙ h.known; placement = same.placement ∙ h.placement }
 
 pub is_kept : {R : Type 0} (st : Standing) (named : Named) (s t : SystemView R)
     → ((id : ℕ) → id_of named ≡ Some id → SameId id s t) → Is st named s → Is st named t
@@ -101,7 +101,7 @@ is_kept OnAll (Removed receipt) s t same h = h
 pub same_records : {R : Type 0} (s t : SystemView R) → t.records ≡ s.records → (id : ℕ) → SameId id s t
 same_records s t e id = record {
   known = ap (λ rs. not (is_some (found id rs))) e;
-  place = ap (λ rs. option_map_or (λ (r : Record). is_everywhere r.place) (found id rs) false) e;
+  placement = ap (λ rs. option_map_or (λ (r : Record). is_everywhere r.placement) (found id rs) false) e;
 }
 
 unknown_read : (o : Option Record) → not (is_some o) ≡ option_map_or (λ (r : Record). false) o true
@@ -115,7 +115,7 @@ new_there id level place before t rising records =
     let at = ap (λ rs. slice_get rs (length before)) records ∙ get_last before (new_record id level place) in
     let here = record_here id (length before) (new_record id level place) t.records rising at refl in record {
       known = ap (λ o. not (is_some o)) here;
-      place = ap (λ o. option_map_or (λ (r : Record). is_everywhere r.place) o false) here;
+      placement = ap (λ o. option_map_or (λ (r : Record). is_everywhere r.placement) o false) here;
     }
 
 module _ {R : Type 0} (firing : Raise R) where
@@ -126,7 +126,7 @@ module _ {R : Type 0} (firing : Raise R) where
     known = unknown_read (record_of id t)
         ∙ (look_kept firing (λ (r : Record). false) true (λ r n bound e. refl) (λ r n c. refl) id s t call rising d other
         ∙ sym (unknown_read (record_of id s)));
-    place = look_kept firing (λ (r : Record). is_everywhere r.place) false (λ r n bound e. sym e)
+    placement = look_kept firing (λ (r : Record). is_everywhere r.placement) false (λ r n bound e. sym e)
         (λ r n c. refl) id s t call rising d other;
   }
 

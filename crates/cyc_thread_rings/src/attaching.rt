@@ -55,11 +55,11 @@ pub fn attach<'a, C: Drop>(
 {
     let mut attached = Vec::with_capacity(alloc, all.len())?;
     for seated in all {
-        let place = attached.len();
-        if place >= rings.len() {
+        let position = attached.len();
+        if position >= rings.len() {
             unreachable!()
         }
-        attached.push_reserved(attach_one(&rings[place], seated));
+        attached.push_reserved(attach_one(&rings[position], seated));
     }
     Ok(attached)
 }

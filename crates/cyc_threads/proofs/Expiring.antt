@@ -334,8 +334,8 @@ module _ {C R : Type 0} (handler : Calls C) (firing : Raise R) where
       → HandlerRefuses handler.may_refuse why
   halted_by_handler all names first n why form none h = by h.halts
     where
-      place : ℕ
-      place = h.place
+      position : ℕ
+      position = h.position
 
       taken : HasExpired firing (0 + length (take place all) * most_of_all) h.before.side
       taken = steps_more handler firing (take place all) first h.before 0 h.taken none

@@ -28,9 +28,9 @@ fn refusal_of(answer: &Option<Result<Fired, FireRefused>>) -> Option<Refusal>
 fn refusal_at(answers: &[Option<Result<Fired, FireRefused>>], cpu: u32) -> Option<Refusal>
     ensures { result ≡ refusal_at answers.now cpu }
 {
-    let place = cpu as usize;
-    if place < answers.len() {
-        refusal_of(&answers[place])
+    let position = cpu as usize;
+    if position < answers.len() {
+        refusal_of(&answers[position])
     } else {
         None
     }

@@ -29,8 +29,8 @@ pub(crate) fn report_text(
 {
     let mut text = String::new(alloc);
     let mut line = String::new(alloc);
-    for place in 0..names.len().min(lines.len()) {
-        write_report(&mut line, names[place].as_str(), &counts_of(&lines[place]))?;
+    for position in 0..names.len().min(lines.len()) {
+        write_report(&mut line, names[position].as_str(), &counts_of(&lines[position]))?;
         text.push_str(line.as_str())?;
     }
     Ok(text)

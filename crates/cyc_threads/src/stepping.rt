@@ -126,8 +126,8 @@ pub fn take_steps<W: Threads + Wait + Sync, R: Raise + Send + Drop, C: Calls + S
     ensures halted { IfErr result (λ h. WhyHalted C.Calls R.Raise progress script.now.steps.items h) }
 {
     let mut progress = progress;
-    for place in 0..script.steps.len() {
-        progress = take_step(rt, alloc, progress, &script.steps[place], signals)?;
+    for position in 0..script.steps.len() {
+        progress = take_step(rt, alloc, progress, &script.steps[position], signals)?;
     }
     wait(rt, progress, signals)
 }

@@ -39,7 +39,7 @@ returns-in-Done-clause-did g c last =
       refl,
       (
         changed n _ x y v c.cpu_mut.ensures.cpu d,
-        c.args.place,
+        c.args.position,
         o.own,
         o.here,
         o.named,
@@ -54,7 +54,7 @@ returns-in-Done-clause-withdraws g c =
     let d = subst (λ r. Changes g.R.Raise x (BeginRemove c.args.id r) y)
     (c.in-Ok.is ∙ ap Ok c.in-Done.is) c.begin_remove.ensures in
     let o = c.requires.owns in let law = c.law.ensures n x c.cpu_mut.ensures.cpu in
-    at_end v n c.args.id c.args.place x y c.cpu_mut.ensures.cpu
+    at_end v n c.args.id c.args.position x y c.cpu_mut.ensures.cpu
     (begun g.R.Raise c.args.id x y law (Done c.in-Done.receipt) d)
     c.args.records.now.list o.own o.here c.keep_counts.new.records.list
     (summed (ended_on n o.own) (counts_of c.in-Done.receipt)) c.requires.here
@@ -76,6 +76,6 @@ returns-in-Kept-clause-withdraws g c =
     let d = subst (λ r. Changes g.R.Raise x (BeginRemove c.args.id r) y)
     (c.in-Ok.is ∙ ap Ok c.in-Kept.is) c.begin_remove.ensures in
     let o = c.requires.owns in let law = c.law.ensures n x c.cpu_mut.ensures.cpu in
-    at_open v n c.args.id c.args.place x y c.cpu_mut.ensures.cpu
+    at_open v n c.args.id c.args.position x y c.cpu_mut.ensures.cpu
     (begun g.R.Raise c.args.id x y law (Kept c.in-Kept.kept) d)
     c.args.records.now.list o.own o.here c.args.records.now.list refl

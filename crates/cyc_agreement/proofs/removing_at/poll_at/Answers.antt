@@ -35,7 +35,7 @@ returns-in-Some-clause-did g c last =
       Some c.in-Some.receipt,
       (
         changed n _ x y v c.cpu_mut.ensures.cpu d,
-        c.args.place,
+        c.args.position,
         o.own,
         o.here,
         o.named,
@@ -50,7 +50,7 @@ returns-in-Some-clause-withdraws g c =
     let d = subst (λ r. Changes g.R.Raise x (PollRemove r) y) c.in-Some.is c.poll_remove.ensures in
     let o = c.requires.owns in let law = c.law.ensures n x c.cpu_mut.ensures.cpu in
     let was = sym (removal_there v n x c.cpu_mut.ensures.cpu) ∙ c.requires.open_here in
-    at_end v n c.args.id c.args.place x y c.cpu_mut.ensures.cpu
+    at_end v n c.args.id c.args.position x y c.cpu_mut.ensures.cpu
     (polled g.R.Raise c.args.id x y law (Some c.in-Some.receipt) was d)
     c.args.records.now.list o.own o.here c.keep_counts.new.records.list (summed (ended_on n o.own) (counts_of c.in-Some.receipt))
     (open_here g.R.Raise.view v n c.args.id x law c.cpu_mut.ensures.cpu was)
@@ -74,6 +74,6 @@ returns-in_default-clause-withdraws g c =
     (is_none c.poll_remove.result c.in_default.not-Some) c.poll_remove.ensures in
     let o = c.requires.owns in let law = c.law.ensures n x c.cpu_mut.ensures.cpu in
     let was = sym (removal_there v n x c.cpu_mut.ensures.cpu) ∙ c.requires.open_here in
-    at_open v n c.args.id c.args.place x y c.cpu_mut.ensures.cpu
+    at_open v n c.args.id c.args.position x y c.cpu_mut.ensures.cpu
     (polled g.R.Raise c.args.id x y law None was d)
     c.args.records.now.list o.own o.here c.args.records.now.list refl

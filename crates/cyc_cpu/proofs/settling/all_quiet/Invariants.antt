@@ -7,8 +7,8 @@ use Rattle.cyc_timers.proofs.Walks.{IsWalk}
 use Rattle.cyc_cpu.proofs.settling.all_quiet.Given as goal
 
 -- the cyclics so far were asked for, and none of them had calls outstanding
-abbrev pub invariant-loop-place : goal.invariant-loop-place
-invariant-loop-place g l = record {
+abbrev pub invariant-loop-position : goal.invariant-loop-position
+invariant-loop-position g l = record {
   walk : IsWalk (λ (r : Row). r.timer.id) l.table.rows l.passed l._place;
   lock : OnlyLoads g.R.Raise l.fn.lock l.lock;
   low : OnlyLoads g.R.Raise l.fn.low l.low;

@@ -56,4 +56,4 @@ pub returns-in-Ok-clause-some : goal.returns-in-Ok-clause-some
 returns-in-Ok-clause-some c =
     let s = (goal.at.returns-in-Ok-clause-some c).Then-number in
     found_in_run (s.args.front.now ++ s.args.back.now) s.args.back.now s.args.id (length s.args.front.now) (back_is s)
-    c.in-Ok.place c.in-Ok.ensures.found
+    c.in-Ok.position c.in-Ok.ensures.found

@@ -76,7 +76,7 @@ returns-then-left-gt0 g c =
     absurd (omega (arith, z, m))) in (
       sym (ap (λ (x : CpuView _). x.removal) c.self.view_is) ∙ c.in_default-removal.is,
       opens_from g.R.Raise c.args.id n _ _ _ c.self.view_is (record {
-        place = k;
+        position = k;
         cyclic = cyclic_of r;
         here = is_cyclic i.table.rows k r is;
         named = named;
@@ -159,7 +159,7 @@ returns g c =
         polled,
         leaves_from g.R.Raise c.args.id (Marks c.args.id 0 ∷ Polls c.args.id (Some counts) ∷ [])
             (cyclic_of r) _ _ _ c.self.view_is (record {
-              place = k;
+              position = k;
               here = is_cyclic i.table.rows k r is;
               named = named;
               goes = (

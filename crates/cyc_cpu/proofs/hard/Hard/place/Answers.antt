@@ -77,7 +77,7 @@ returns g c =
     let u = with_record c.args.moment kept (vacant_row c.args.id c.insert-index.result) in (
       record { absent = c.requires.absent; free = c.requires.free; lost = c.requires.lost; most = c.requires.most },
       record {
-        place = q;
+        position = q;
         index = c.insert-index.result;
         within = (let l = ap (λ (x : CpuView _). length x.cyclics) v in let m = length-map i.table.rows cyclic_of in
             omega (arith, bound, l, m));

@@ -60,7 +60,7 @@ returns-then-not-poll_at g c =
       c.in_ok-id.id,
       sym (ap (λ (x : CpuView _). x.removal) c.self.view_is) ∙ c.in_ok-id.was,
       waits_from g.R.Raise c.in_ok-id.id _ _ _ c.self.view_is (record {
-        place = k;
+        position = k;
         cyclic = cyclic_of r;
         here = is_cyclic i.table.rows k r is;
         named = named;
@@ -132,7 +132,7 @@ returns g c =
     (c.receipt_of.ensures.id ∙ sym named, c.receipt_of.ensures.sent ∙ rec.2, c.receipt_of.ensures.lost ∙ rec.3)
     polled
     (record {
-      place = k;
+      position = k;
       here = is_cyclic i.table.rows k r is;
       named = named;
       goes = (

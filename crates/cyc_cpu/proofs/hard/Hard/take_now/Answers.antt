@@ -58,7 +58,7 @@ returns-then-not-take_at-clause-did g c =
       n,
       some,
       asks_from g.R.Raise c.args.id n _ _ _ c.self.view_is (record {
-        place = k;
+        position = k;
         cyclic = cyclic_of r;
         here = is_cyclic i.table.rows k r is;
         named = named;
@@ -134,7 +134,7 @@ returns-clause-did g c =
         leaves_from g.R.Raise c.args.id
             (Loads c.args.id 0 ∷ Marks c.args.id 0 ∷ Polls c.args.id (Some counts) ∷ []) (cyclic_of r) _ _ _ c.self.view_is
             (record {
-              place = k;
+              position = k;
               here = is_cyclic i.table.rows k r is;
               named = named;
               goes = (
