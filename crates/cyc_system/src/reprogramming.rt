@@ -56,7 +56,12 @@ impl<R: Raise> System<R> {
 
     /// As `reprogram`, of the cyclic of the record at this position.
     #[inline(always)]
-    fn reprogram_found(&mut self, id: CyclicId, position: usize, moment: Moment) -> Result<(), Refusal>
+    fn reprogram_found(
+        &mut self,
+        id: CyclicId,
+        position: usize,
+        moment: Moment,
+    ) -> Result<(), Refusal>
         requires { (r : TheRecord) × IsRecord self.old.records position r × (r.id ≡ id) }
         ensures { Changes R.Raise self.old (Reprogram id moment result) self.new }
     {

@@ -30,7 +30,11 @@ pub(crate) fn report_text(
     let mut text = String::new(alloc);
     let mut line = String::new(alloc);
     for position in 0..names.len().min(lines.len()) {
-        write_report(&mut line, names[position].as_str(), &counts_of(&lines[position]))?;
+        write_report(
+            &mut line,
+            names[position].as_str(),
+            &counts_of(&lines[position]),
+        )?;
         text.push_str(line.as_str())?;
     }
     Ok(text)
