@@ -2,6 +2,7 @@
 use Rattle.std.specs.Prelude.{◌≡◌, ℕ, ◌≤◌, ◌⊎◌, Bool, true, false, length, Option, Some}
 use Rattle.std.specs.List.{slice_get}
 use Rattle.std.specs.Option.{option_map}
+use Rattle.cyc_types.specs.Limits.{most_cpus}
 use Rattle.cyc_types.specs.Counting.{no_counts}
 use Rattle.cyc_places.specs.declared.record.Placement.{Placement}
 use Rattle.cyc_places.specs.declared.record.Placement.TheVariants.{On, Everywhere}
@@ -40,7 +41,7 @@ pub record Agrees {R : Type 0} (s : SystemView R) : Type 0 where
   -- no id is above the last
   pub given : (k : ℕ) (r : Record) → IsRecord s.records k r → r.id ≤ s.last
   -- there are few CPUs, and of each it is known whether it is online
-  pub few : length s.cpus.cpus ≤ 16
+  pub few : length s.cpus.cpus ≤ most_cpus
   pub long : length s.cpus.online ≡ length s.cpus.cpus
   -- a CPU is online
   pub some : (n : ℕ) × (is_online n s.cpus ≡ true)

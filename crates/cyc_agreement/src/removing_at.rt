@@ -1,6 +1,7 @@
 //! A removal on one CPU, with its record.
 
 ghost use Rattle.std.specs.Prelude.{◌≡◌, ◌<◌, ◌≤◌, ◌^◌, ℕ, List, length, slice_set, true, Some, None, Option};
+ghost use Rattle.cyc_types.specs.Limits.{most_cpus};
 ghost use Rattle.cyc_cpu.specs.declared.removing.Removal.{Removal as TheRemoval};
 ghost use Rattle.cyc_places.specs.declared.record.Record.{Record};
 ghost use Rattle.cyc_places.specs.Places.{IsRecord, ended_on, summed, with_ended};
@@ -19,7 +20,7 @@ use cyc_types::{CyclicId, Raise, Receipt, Sent};
 /// The stay of a cyclic on the CPU of this number has ended with this receipt: its record keeps the counts, which are at most
 /// `most`.
 fn keep_counts(records: &mut Records, position: usize, number: u32, receipt: Receipt, most: u64)
-    requires number { number < 16 }
+    requires number { number < most_cpus }
     requires fresh { (r : Record) × IsRecord records.old.list position r × (ended_on number r ≡ no_counts) }
     requires few { receipt.sent ≤ most }
     ensures { (r : Record) → IsRecord records.old.list position r
@@ -43,7 +44,7 @@ pub(crate) fn begin_at<R: Raise>(
     number: u32,
 ) -> u64
     requires number { number < length cpus.old.cpus }
-    requires few { number < 16 }
+    requires few { number < most_cpus }
     requires owns { Owns id position cpus.old records.old.list }
     requires here { has number id cpus.old ≡ true }
     requires still { removal_on number cpus.old ≡ None }
@@ -75,7 +76,7 @@ pub(crate) fn poll_at<R: Raise>(
     number: u32,
 )
     requires number { number < length cpus.old.cpus }
-    requires few { number < 16 }
+    requires few { number < most_cpus }
     requires owns { Owns id position cpus.old records.old.list }
     requires open_here { removal_on number cpus.old ≡ Some id }
     ensures did { (last : ℕ) → (answer : Option TheReceipt)

@@ -3,6 +3,7 @@
 ghost use Rattle.std.specs.Prelude.{◌≡◌, ℕ, ◌<◌, length, [], true, Some, None};
 ghost use Rattle.std.specs.Bool.{OnTrue, OnFalse};
 ghost use Rattle.std.specs.List.{FoldsTo};
+ghost use Rattle.cyc_types.specs.Limits.{most_cpus};
 ghost use Rattle.cyc_types.specs.Counting.{no_counts};
 ghost use Rattle.cyc_places.specs.declared.record.Record.{Record};
 ghost use Rattle.cyc_places.specs.Places.{RecordsView, IsRecord, ended_on};
@@ -45,7 +46,7 @@ pub(crate) fn any_pending<R: Raise>(cpus: &mut Cpus<R>, source: u32) -> bool
 /// A component that has no call outstanding leaves its CPU, and its record keeps its counts (`cyclic_omni_stop`).
 fn retire<R: Raise>(cpus: &mut Cpus<R>, records: &mut Records, source: u32, id: CyclicId)
     requires there { source < length cpus.old.cpus }
-    requires few { source < 16 }
+    requires few { source < most_cpus }
     requires leaves { OfCpu source (MayLeave R.view id) cpus.old }
     requires record { (k : ℕ) × (r : Record) × IsRecord records.old.list k r × (r.id ≡ id) × (ended_on source r ≡ no_counts) }
     ensures did { (last : ℕ) → Retires R.Raise source (system_of cpus.old records.old last) id

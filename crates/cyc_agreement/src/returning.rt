@@ -1,6 +1,7 @@
 //! A CPU takes part again, with its components.
 
 ghost use Rattle.std.specs.Prelude.{◌≡◌, ◌<◌, ◌≤◌, ℕ, [], ◌∷◌, Err, length, filter, map, slice_set, true};
+ghost use Rattle.cyc_types.specs.Limits.{most_cpus};
 ghost use Rattle.cyc_types.specs.Series.{never};
 ghost use Rattle.cyc_types.specs.Reasons.{bad_now};
 ghost use Rattle.cyc_types.specs.Counting.{no_counts};
@@ -52,7 +53,7 @@ fn bring_back<R: Raise>(
 )
     requires now { now < never }
     requires number { number < length cpus.old.cpus }
-    requires few { length cpus.old.cpus ≤ 16 }
+    requires few { length cpus.old.cpus ≤ most_cpus }
     requires position { position < length records.old.list }
     requires everywhere { (r : TheRecord) → IsRecord records.old.list position r → is_everywhere r.placement ≡ true }
     requires fits { (r : TheRecord) → IsRecord records.old.list position r
@@ -82,7 +83,7 @@ fn bring_back<R: Raise>(
 fn bring_all_back<R: Raise>(cpus: &mut Cpus<R>, records: &mut Records, number: u32, now: Moment)
     requires now { now < never }
     requires number { number < length cpus.old.cpus }
-    requires few { length cpus.old.cpus ≤ 16 }
+    requires few { length cpus.old.cpus ≤ most_cpus }
     requires rising { HasRisingIds records.old.list }
     requires counts { HaveCounts records.old.list }
     requires empty { OfCpu number (λ cpu. cpu.cyclics ≡ []) cpus.old }

@@ -1,6 +1,7 @@
 //! The counts of a cyclic whose record says where it is.
 
 ghost use Rattle.std.specs.Prelude.{◌≡◌, ◌≤◌, ◌*◌, ◌^◌, ℕ, List, Bool, map, true};
+ghost use Rattle.cyc_types.specs.Limits.{most_cpus};
 ghost use Rattle.cyc_places.specs.declared.record.Placement.TheVariants.{On};
 ghost use Rattle.cyc_places.specs.declared.record.Record.{Record};
 ghost use Rattle.cyc_agreement.specs.Cpus.{Works};
@@ -23,8 +24,8 @@ fn ask_on<R: Raise>(cpus: &mut Cpus<R>, id: CyclicId, number: u32) -> SystemTota
         × Works R.Raise (map (asked id) way) cpus.old cpus.new × GoingOn way result }
     ensures holds { (records : List Record) (last : ℕ) → Holds (system cpus.old records last)
         → Holds (system cpus.new records last) }
-    ensures expired { result.expired ≤ 16 * 2 ^ 64 }
-    ensures lost { result.lost ≤ 16 * 2 ^ 64 }
+    ensures expired { result.expired ≤ most_cpus * 2 ^ 64 }
+    ensures lost { result.lost ≤ most_cpus * 2 ^ 64 }
 {
     let Some(part) = cpus.cpu_mut(number).totals(id) else {
         unreachable!()
@@ -44,8 +45,8 @@ fn ask_at<R: Raise>(cpus: &mut Cpus<R>, id: CyclicId, placement: Placement) -> S
         × Works R.Raise (map (asked id) way) cpus.old cpus.new × GoingOn way result }
     ensures holds { (records : List Record) (last : ℕ) → Holds (system cpus.old records last)
         → Holds (system cpus.new records last) }
-    ensures expired { result.expired ≤ 16 * 2 ^ 64 }
-    ensures lost { result.lost ≤ 16 * 2 ^ 64 }
+    ensures expired { result.expired ≤ most_cpus * 2 ^ 64 }
+    ensures lost { result.lost ≤ most_cpus * 2 ^ 64 }
 {
     match placement {
         Placement::On { cpu, bound: _ } => ask_on(cpus, id, cpu),

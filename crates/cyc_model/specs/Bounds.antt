@@ -1,7 +1,8 @@
 -- How great the numbers of a run can get.
 use Rattle.std.specs.Prelude.{◌≡◌, ℕ, ◌+◌, ◌*◌, ◌^◌, ◌<◌, ◌≤◌, List, length, Some}
 use Rattle.cyc_types.specs.Series.{late}
-use Rattle.cyc_script.specs.Limits.{most_steps, most_cpus}
+use Rattle.cyc_types.specs.Limits.{most_cpus}
+use Rattle.cyc_script.specs.Limits.{most_steps}
 use Rattle.cyc_script.specs.declared.step.Step.{Step}
 use Rattle.cyc_model.specs.Cpu.{Cyclic, cyclic_of}
 use Rattle.cyc_model.specs.State.{State, cpu_of}

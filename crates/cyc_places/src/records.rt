@@ -6,13 +6,14 @@ ghost use Rattle.std.specs.Bool.{OnTrue, OnFalse};
 ghost use Rattle.std.specs.List.{slice_get};
 ghost use Rattle.cyc_finder.specs.Sorted.{Rises, IsAt};
 ghost use Rattle.cyc_types.specs.declared.refusal.Refusal.TheVariants.{Memory};
+ghost use Rattle.cyc_types.specs.Limits.{most_cpus};
 ghost use Rattle.cyc_types.specs.Counting.{no_counts};
 ghost use Rattle.cyc_places.specs.Places.{RecordsView, IsRecord, HasNoRecord, new_record, with_placement, with_ended, ended_on};
 ghost use Rattle.cyc_places.specs.Places.{summed, HasRisingIds, HaveCounts, HaveAllCounts, IsReceiptOf};
 
-use crate::record::{CPUS, Placement, Record};
+use crate::record::{Placement, Record};
 use cyc_finder::{HINTS, HasId, hint_of, search};
-use cyc_types::{CyclicId, Level, Receipt, Refusal, Sent};
+use cyc_types::{CPUS, CyclicId, Level, Receipt, Refusal, Sent};
 use std::alloc::Global;
 use std::collections::VecDeque;
 use std::marker::Model;
@@ -125,7 +126,7 @@ impl Records {
             id,
             level,
             placement,
-            ended: [Sent { sent: 0, lost: 0 }; CPUS],
+            ended: [Sent { sent: 0, lost: 0 }; CPUS as usize],
         };
         self.list.push_back_reserved(kept);
         self.ids.push_back_reserved(RecordId { id });
@@ -211,7 +212,7 @@ impl Records {
     /// A stay of the cyclic has ended on the CPU of this number with these counts.
     pub fn add_ended(&mut self, position: usize, cpu: usize, counts: Sent)
         requires here { position < length self.old.list }
-        requires cpu { cpu < CPUS }
+        requires cpu { cpu < most_cpus }
         requires counted { counts.lost ≤ counts.sent }
         requires fits { (r : Record) → IsRecord self.old.list position r → ((ended_on cpu r).sent + counts.sent < 2 ^ 64)
             × ((ended_on cpu r).lost + counts.lost < 2 ^ 64) }
@@ -230,7 +231,7 @@ impl Records {
     /// gives.
     pub fn take_ended(&mut self, position: usize, cpu: usize) -> Sent
         requires here { position < length self.old.list }
-        requires cpu { cpu < CPUS }
+        requires cpu { cpu < most_cpus }
         ensures counts { (r : Record) → IsRecord self.old.list position r → result ≡ ended_on cpu r }
         ensures list { (r : Record) → IsRecord self.old.list position r
             → self.new.list ≡ slice_set self.old.list position (with_ended cpu no_counts r) }

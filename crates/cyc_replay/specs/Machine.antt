@@ -2,7 +2,8 @@
 use Rattle.std.specs.Prelude.{◌≡◌, ℕ, ◌-◌, ◌^◌, ◌<◌, ◌≤◌, true, List, length, map, slice_index_or, Option, Some, None}
 use Rattle.cyc_types.specs.declared.receipt.Receipt.{Receipt}
 use Rattle.cyc_types.specs.Tally.{TallyView, tally_count}
-use Rattle.cyc_script.specs.Limits.{most_steps, most_cpus}
+use Rattle.cyc_types.specs.Limits.{most_cpus}
+use Rattle.cyc_script.specs.Limits.{most_steps}
 use Rattle.cyc_script.specs.declared.step.Step.{Step}
 use Rattle.cyc_model.specs.State.{State}
 use Rattle.cyc_model.specs.Places.{is_unknown}

@@ -1,5 +1,6 @@
 -- A system over levels that no other thread uses, as the definition of a script has it.
 use Rattle.std.specs.Prelude.{◌≡◌, ℕ, ◌<◌, ◌≤◌, Bool, List, [], ◌∷◌, length, map}
+use Rattle.cyc_types.specs.Limits.{most_cpus}
 use Rattle.cyc_types.specs.declared.firing.Sent.{Sent}
 use Rattle.cyc_types.specs.declared.level.Level.{Level}
 use Rattle.cyc_types.specs.Counting.{no_counts}
@@ -54,7 +55,7 @@ AreTied v = (n : ℕ) (cpu : CpuView Tables) → IsCpu n cpu v → IsTied cpu
 -- each of these records has the counts of 16 CPUs, and none of one that isn't among so many
 abbrev pub AllFull : ℕ → List Record → Type 0
 AllFull cpus rs = (k : ℕ) (r : Record) → IsRecord rs k r
-    → (length r.ended ≡ 16) × ((n : ℕ) → cpus ≤ n → ended_on n r ≡ no_counts)
+    → (length r.ended ≡ most_cpus) × ((n : ℕ) → cpus ≤ n → ended_on n r ≡ no_counts)
 
 -- what is true of every system over plain levels: its CPUs and its records agree, the ids of these rise, they have ended stays
 -- on its CPUs alone, and on each CPU the cyclics are tied to its levels

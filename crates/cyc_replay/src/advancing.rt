@@ -1,6 +1,7 @@
 //! The word that sets the clock.
 
 ghost use Rattle.std.specs.Prelude.{◌≡◌, ◌≤◌, ◌<◌, ◌+◌, ℕ, [], List, length, string_bytes, IfSome, IfNone, IfErr, OnOk};
+ghost use Rattle.cyc_types.specs.Limits.{most_cpus};
 ghost use Rattle.cyc_types.specs.Series.{never};
 ghost use Rattle.cyc_types.specs.Tally.{TallyView};
 ghost use Rattle.cyc_core.specs.Tables.{Tables};
@@ -21,7 +22,7 @@ use crate::system_laws::{advance_law, kept_law};
 use cyc_core::LevelCore;
 use cyc_system::System;
 use cyc_text::{RunFault, write_fired};
-use cyc_types::{Moment, Refusal, Tally};
+use cyc_types::{CPUS, Moment, Refusal, Tally};
 
 /// What fires made.
 #[derive(Clone, Copy, Drop)]
@@ -35,15 +36,15 @@ pub struct Made {
 /// How many CPUs a system has.
 pub fn count_cpus(system: &System<LevelCore>) -> u32
     ensures count { result ≡ length system.now.cpus.cpus }
-    ensures few { result ≤ 16 }
+    ensures few { result ≤ most_cpus }
 {
     system.law();
-    for cpu in 0..16 {
+    for cpu in 0..CPUS {
         if system.len(cpu).is_none() {
             return cpu;
         }
     }
-    16
+    CPUS
 }
 
 /// The CPU of this number fires at the machine's clock, where it is online. The tally refuses no call.

@@ -28,7 +28,7 @@ use cyc_script::Softint;
 use cyc_soft::Ran;
 use cyc_system::{SoftFault, System, others_law};
 use cyc_text::{RunFault, write_ran};
-use cyc_types::{CyclicId, Receipt, Refusal, Soft, Tally};
+use cyc_types::{CPUS, CyclicId, Receipt, Refusal, Soft, Tally};
 use cyc_words::{Names, poll};
 use std::alloc::AllocError;
 use std::fmt::Write;
@@ -76,7 +76,7 @@ fn least_open(system: &System<LevelCore>, above: u64) -> u64
 {
     system.law();
     let mut least = u64::MAX;
-    for cpu in 0..16 {
+    for cpu in 0..CPUS {
         least = least.min(open_above(system, cpu, above));
     }
     least

@@ -23,7 +23,7 @@ use Rattle.cyc_script.specs.declared.stop.Stop.{Stop}
 use Rattle.cyc_script.specs.declared.stop.Stop.TheVariants.{NoJson}
 use Rattle.cyc_script.specs.declared.stop.Stop.TheVariants as stop
 use Rattle.cyc_script.specs.Answers.{Answers, Fails, refusal_of}
-use Rattle.cyc_script.specs.Limits.{most_cpus}
+use Rattle.cyc_types.specs.Limits.{most_cpus}
 use Rattle.cyc_script.specs.Parameters.{at_most, whole_in}
 use Rattle.cyc_script.specs.Script.{Content, number_between, is_key, keys_of, has_keys, cpus_in, cpus_of, ceiling_in, ceiling_of}
 use Rattle.cyc_script.specs.Script.{values_of, within_limit, content_of, formed, parsed}

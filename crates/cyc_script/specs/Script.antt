@@ -11,7 +11,8 @@ use Rattle.cyc_types.specs.declared.refusal.Refusal.{Refusal}
 use Rattle.cyc_types.specs.declared.refusal.Refusal.TheVariants.{ScriptSyntax, ScriptShape}
 use Rattle.cyc_script.specs.declared.script.Script.{Script}
 use Rattle.cyc_script.specs.declared.step.Step.{Step}
-use Rattle.cyc_script.specs.Limits.{most_bytes, most_cpus, most_steps}
+use Rattle.cyc_types.specs.Limits.{most_cpus}
+use Rattle.cyc_script.specs.Limits.{most_bytes, most_steps}
 use Rattle.cyc_script.specs.Parameters.{number_in}
 use Rattle.cyc_script.specs.Steps.{first_context, steps_of}
 use Rattle.cyc_script.specs.Words.{list_of, ◌>>=◌}

@@ -21,12 +21,9 @@ use crate::script::Script;
 use crate::step::Step;
 use crate::stop::Stop;
 use crate::tokens::take_steps;
-use cyc_types::{Ceiling, Refusal};
+use cyc_types::{CPUS, Ceiling, Refusal};
 use json::{Reader, Scratch, Token};
 use std::alloc::Global;
-
-/// The most CPUs that a script may have.
-const MOST_CPUS: u32 = 16;
 
 /// What the members of a script's object say so far: of two with the same key the last one stands.
 #[derive(Drop)]
@@ -113,7 +110,7 @@ fn member<'a>(
     match key {
         "steps" => steps(alloc, reader, parts, object),
         "cpus" => {
-            object.cpus = number_between(&next_part(reader, 126)?, 1, MOST_CPUS);
+            object.cpus = number_between(&next_part(reader, 126)?, 1, CPUS);
             Ok(())
         }
         "ceiling" => {

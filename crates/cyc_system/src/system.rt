@@ -2,6 +2,7 @@
 //! makes the call, and the counts are asked.
 
 ghost use Rattle.std.specs.Prelude.{◌≡◌, ◌-◌, ◌<◌, ◌≤◌, [], All, length, IfOk, IfErr};
+ghost use Rattle.cyc_types.specs.Limits.{most_cpus};
 ghost use Rattle.cyc_types.specs.declared.refusal.Refusal.TheVariants.{Memory};
 ghost use Rattle.cyc_cpu_laws.specs.Cpu.{IsFresh};
 ghost use Rattle.cyc_cpu_laws.specs.Soft.{raise_tables, Interrupts};
@@ -63,7 +64,7 @@ impl<R: Raise + Drop> System<R> {
         first_id: CyclicId,
     ) -> Result<System<R>, Refusal>
         requires some { 0 < length ends.items }
-        requires few { length ends.items ≤ 16 }
+        requires few { length ends.items ≤ most_cpus }
         requires fresh { All (λ e. IsFresh (R.view e.0) × IsFresh (R.view e.1)) ends.items }
         ensures ok { IfOk result (λ system. system
             ≡ record { cpus = new_cpus most ends.items; records = []; last = first_id - 1 }) }

@@ -1,6 +1,7 @@
 //! The word that sets the clock.
 
 ghost use Rattle.std.specs.Prelude.{◌≡◌, ◌<◌, ◌≤◌, ℕ, length, None, IfOk, IfErr, IfNone, IfSome};
+ghost use Rattle.cyc_types.specs.Limits.{most_cpus};
 ghost use Rattle.cyc_types.specs.Series.{never};
 ghost use Rattle.cyc_threads.specs.StepCalls.{Advances, IsReady, IsFirstRefused, refusal_at, refusal_of};
 ghost use Rattle.cyc_threads.specs.Steps.{AdvanceHalts};
@@ -9,7 +10,7 @@ use crate::halt::Halt;
 use crate::progress::{Progress, sound};
 use cyc_cpu::{FireRefused, Fired};
 use cyc_system_workers::{Advanced, advance};
-use cyc_types::{Calls, Moment, Raise, Refusal};
+use cyc_types::{CPUS, Calls, Moment, Raise, Refusal};
 use std::alloc::Global;
 use std::sync::Wait;
 use std::thread::Threads;
@@ -38,11 +39,11 @@ fn refusal_at(answers: &[Option<Result<Fired, FireRefused>>], cpu: u32) -> Optio
 
 /// The CPU with the smallest number whose fire was refused, and why.
 fn first_refused(answers: &[Option<Result<Fired, FireRefused>>]) -> Option<(u32, Refusal)>
-    requires few { length answers.now ≤ 16 }
+    requires few { length answers.now ≤ most_cpus }
     ensures none { IfNone result ((n : ℕ) → refusal_at answers.now n ≡ None) }
     ensures some { IfSome result (λ r. IsFirstRefused answers.now r.0 r.1) }
 {
-    for cpu in 0..16 {
+    for cpu in 0..CPUS {
         if let Some(why) = refusal_at(answers, cpu) {
             return Some((cpu, why));
         }

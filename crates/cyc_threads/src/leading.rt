@@ -1,6 +1,7 @@
 //! What the thread that leads a run has before its first step.
 
 ghost use Rattle.std.specs.Prelude.{◌≡◌, ◌<◌, ◌≤◌, [], All, map, length, replicate, IfOk, IfErr};
+ghost use Rattle.cyc_types.specs.Limits.{most_cpus};
 ghost use Rattle.cyc_types.specs.declared.refusal.Refusal.TheVariants.{Memory};
 ghost use Rattle.cyc_cpu.specs.Cpu.{IsFresh};
 ghost use Rattle.cyc_agreement.specs.Cpus.{new_cpus};
@@ -27,7 +28,7 @@ pub(crate) fn lead<R: Raise + Drop, C: Drop>(
     names: usize,
 ) -> Result<Progress<R, C>, Refusal>
     requires some { 0 < length ends.items }
-    requires few { length ends.items ≤ 16 }
+    requires few { length ends.items ≤ most_cpus }
     requires fresh { All (λ e. IsFresh (R.view e.0) × IsFresh (R.view e.1)) ends.items }
     requires leads { length leads.items ≡ length ends.items }
     ensures cpus { IfOk result (λ p. p.side.system.cpus ≡ new_cpus most ends.items) }
