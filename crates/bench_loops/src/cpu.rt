@@ -1,5 +1,4 @@
-//! What the benchmark of a CPU calls from Rust: whole runs of fires over two plain levels.
-#![tactic(auto)]
+//! A CPU: whole runs of fires over two plain levels.
 
 ghost use Rattle.std.specs.Prelude.{◌≡◌, None, IfOk, OnOk};
 

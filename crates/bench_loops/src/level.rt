@@ -1,5 +1,4 @@
-//! What the benchmark measures: whole loops of calls, exported to a driver in Rust.
-#![tactic(auto)]
+//! A plain level: whole loops of calls.
 
 ghost use Rattle.std.specs.Prelude.{◌+◌, ◌-◌, ◌<◌, ◌≤◌, ◌^◌, IfOk};
 ghost use Rattle.cyc_types.specs.Limits.{cyclics};

@@ -1,4 +1,4 @@
-//! What the benchmark calls from Rust of the timer wheel of tokio-util, as the kit has ported it: the same run of expirations.
+//! The timer wheel of tokio-util, as the kit has ported it: the same run of expirations.
 
 use cyc_types::{CYCLICS, Refusal};
 use futures::util::wheel::Wheel;

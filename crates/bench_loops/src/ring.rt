@@ -1,5 +1,4 @@
-//! What the benchmark of the ring calls from Rust: whole loops of calls on both ends of one ring, in one thread.
-#![tactic(auto)]
+//! A ring: whole loops of calls on both of its ends, in one thread.
 
 ghost use Rattle.std.specs.Prelude.{◌≡◌, ◌<◌, ◌≤◌};
 ghost use Rattle.cyc_types.specs.Limits.{cyclics};

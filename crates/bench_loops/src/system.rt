@@ -1,5 +1,4 @@
-//! What the benchmark of several CPUs calls from Rust: whole runs of calls of a system of 16 CPUs over plain levels.
-#![tactic(auto)]
+//! Several CPUs: whole runs of calls of a system of 16 CPUs over plain levels.
 
 use cyc_core::LevelCore;
 use cyc_replay::{System, begin};

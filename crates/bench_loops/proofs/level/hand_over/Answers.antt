@@ -1,5 +1,5 @@
 use Rattle.bench_sides.proofs.Rounds.{may_raise, raise_ready}
-use Rattle.bench_level.proofs.hand_over.Goals as goal
+use Rattle.bench_loops.proofs.level.hand_over.Goals as goal
 
 pub raise-raised-requires : goal.raise-raised-requires
 raise-raised-requires c = may_raise c.args.ids c.args.most c.args.id _ c.requires.ready c.requires.id.0 c.requires.id.1

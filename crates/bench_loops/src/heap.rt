@@ -1,7 +1,4 @@
-//! What the benchmark of the heap calls from Rust: a whole run of expirations over `ExpiryHeap`.
-#![tactic(auto)]
-
-pub mod queue;
+//! The heap: a whole run of expirations over `ExpiryHeap`.
 
 use cyc_heap::ExpiryHeap;
 use cyc_types::{CYCLICS, CyclicId, Index, Moment, Refusal};

@@ -1,7 +1,7 @@
 use Rattle.std.proofs.Common.{rules}
 use Rattle.std.specs.Prelude.{IsSome}
-use Rattle.bench_level.proofs.Rounds.{finish_hand}
-use Rattle.bench_level.proofs.finish_next.Goals as goal
+use Rattle.bench_loops.proofs.Rounds.{finish_hand}
+use Rattle.bench_loops.proofs.level.finish_next.Goals as goal
 
 pub returns-in-Last : goal.returns-in-Last
 returns-in-Last c = let some : IsSome c.args.core.now.drainer_hand = search rules in
