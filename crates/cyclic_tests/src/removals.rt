@@ -1,7 +1,7 @@
 //! Runs of scripts that remove cyclics.
 
 use crate::tests::gives_texts;
-use cyc_machine::read_script;
+use cyc_script::read_script;
 use cyc_types::Refusal;
 
 /// Scripts, each with its text.

@@ -2,10 +2,10 @@
 
 ghost use Rattle.std.specs.Prelude.{◌≡◌, ◌<◌, None, false};
 
-use cyc_machine::{
-    Command, Fault, Out, PutFailed, RunFault, Sink, command_of, read_script, replay, status_of,
-};
-use cyc_script::Script;
+use cyc_command::{Command, command_of};
+use cyc_replay::replay;
+use cyc_script::{Script, read_script};
+use cyc_text::{Fault, Out, PutFailed, RunFault, Sink, status_of};
 use cyc_types::{CYCLICS, Refusal};
 use std::alloc::{AllocError, Global};
 use std::fmt::Write;

@@ -1,7 +1,8 @@
 //! A sink that fails at each of its puts in turn, over a script of three CPUs.
 
 use crate::tests::{script_of, stopped};
-use cyc_machine::{RunFault, Script};
+use cyc_script::Script;
+use cyc_text::RunFault;
 use std::alloc::Global;
 
 /// All words, with calls that are lost at the ceiling, and removals that answer later. `tools/timeline` gives this text too.
