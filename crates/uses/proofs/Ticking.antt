@@ -77,7 +77,7 @@ module _ (law : HighLaw) (now : ℕ) (s t : Running Tasks Tables) where
     f.last ∷ f.rest,
     f.listed,
     (λ id. let a = law now f.made s.cpu.cyclics t.cpu.cyclics (sides s.calls s.cpu) (sides f.at t.cpu) e.lost f.makes id in
-    let b = f.counted id in omega (arith, a, b)),
+        let b = f.counted id in omega (arith, a, b)),
   )
 
   -- where an id was called, the last call asks for a switch
