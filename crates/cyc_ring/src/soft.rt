@@ -1,13 +1,12 @@
 //! The soft interrupt over a ring, and what its answer `idle` means there.
-#![tactic(auto)]
 
 ghost use Rattle.std.specs.Prelude.{IfOk, IsTrue};
 ghost use Rattle.cyc_types.specs.Levels.{as_level, handler_at};
 ghost use Rattle.cyc_soft.specs.Serving.{IsSoftint, soft_side};
 ghost use Rattle.cyc_ring.specs.Ends.{drain_end, FoundIdle};
 
-use cyc_ring::DrainEnd;
-use cyc_ring::laws::idle_is_found;
+use crate::DrainEnd;
+use crate::laws::idle_is_found;
 use cyc_soft::{Ran, SoftRefused};
 use cyc_types::{Calls, Soft};
 

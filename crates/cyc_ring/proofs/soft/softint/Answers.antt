@@ -1,5 +1,5 @@
 use Rattle.std.proofs.lemmas.Result.{IfOk-weaker}
-use Rattle.cyc_ring_soft.proofs.softint.Goals as goal
+use Rattle.cyc_ring.proofs.soft.softint.Goals as goal
 
 pub returns-clause-found : goal.returns-clause-found
 returns-clause-found g c =
