@@ -1,7 +1,8 @@
 //! Several CPUs: whole runs of calls of a system of 16 CPUs over plain levels.
 
 use cyc_core::LevelCore;
-use cyc_replay::{System, begin};
+use cyc_replay::begin;
+use cyc_system::System;
 use cyc_types::{Ceiling, CyclicId, Level, Moment, Refusal, Soft, Tally, When};
 use std::alloc::Global;
 

@@ -1,7 +1,7 @@
 //! A cyclic is added.
 
 ghost use Rattle.std.specs.Prelude.{◌<◌, length};
-ghost use Rattle.cyc_cpu_laws.specs.Calls.{Reserve};
+ghost use Rattle.cyc_cpu.specs.Calls.{Reserve};
 ghost use Rattle.cyc_agreement.specs.Cpus.{on, DoesAt};
 
 use crate::system::System;

@@ -1,13 +1,13 @@
 //! One CPU fires.
 
 ghost use Rattle.std.specs.Prelude.{◌≡◌, ◌<◌, length};
-ghost use Rattle.cyc_cpu_laws.specs.Calls.{no_interrupts, Fire};
+ghost use Rattle.cyc_cpu.specs.Calls.{no_interrupts, Fire};
 ghost use Rattle.cyc_agreement.specs.Cpus.{on, running_cpus, RunsAt};
 ghost use Rattle.cyc_agreement.specs.System.{running_system};
 
 use crate::system::System;
 use cyc_agreement::Cpus;
-use cyc_cpu_laws::{FireRefused, Fired};
+use cyc_timers::{FireRefused, Fired};
 use cyc_types::{Calls, Moment, Raise, Refusal};
 
 /// A fire that is refused before its first expiration.

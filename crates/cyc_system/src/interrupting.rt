@@ -1,14 +1,14 @@
 //! The soft interrupt of one CPU.
 
 ghost use Rattle.std.specs.Prelude.{◌≡◌, ◌<◌, length};
-ghost use Rattle.cyc_cpu_laws.specs.Soft.{raise_tables, Interrupts};
-ghost use Rattle.cyc_cpu_laws.specs.Calls.{SoftInterrupt as CpuSoftInterrupt};
+ghost use Rattle.cyc_cpu.specs.Soft.{raise_tables, Interrupts};
+ghost use Rattle.cyc_cpu.specs.Calls.{SoftInterrupt as CpuSoftInterrupt};
 ghost use Rattle.cyc_agreement.specs.Cpus.{on, running_cpus, RunsAt};
 ghost use Rattle.cyc_agreement.specs.System.{running_system};
 
 use crate::system::System;
 use cyc_agreement::Cpus;
-use cyc_cpu_laws::LevelCore;
+use cyc_core::LevelCore;
 use cyc_soft::{Ran, SoftRefused};
 use cyc_types::{Calls, Soft};
 

@@ -21,7 +21,7 @@ mod system;
 
 pub use asking::CpuOrOmni;
 pub use cyc_agreement::{SystemRemoval, SystemTotals, others_law};
-pub use cyc_cpu_laws::{FireRefused, Fired};
+pub use cyc_timers::{FireRefused, Fired};
 pub use interrupting::SoftFault;
 pub use laws::{away_law, ids_law};
 pub use splitting::Desk;
