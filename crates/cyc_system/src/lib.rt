@@ -7,13 +7,11 @@
 mod adding;
 mod asking;
 mod binding;
-mod everywhere;
 mod finding;
 mod firing;
 mod interrupting;
 mod laws;
-mod moving;
-mod removing;
+mod over_cpus;
 mod reprogramming;
 mod splitting;
 mod suspending;
