@@ -34,7 +34,6 @@ mod turning;
 
 pub use adding::{add_omni, enter};
 pub use cpus::Cpus;
-pub use cyc_cpu::Removal;
 pub use finding::{is_leaving, is_leaving_at};
 pub use going_offline::offline;
 pub use juggling::juggle;

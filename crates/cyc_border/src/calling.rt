@@ -8,8 +8,9 @@ ghost use Rattle.cyc_border.specs.Border.{add_numbers, grant, stopped_at, handed
 use crate::cpu::Cpu;
 use crate::granted::Granted;
 use crate::numbers::{Denied, level_of};
-use cyc_cpu::{FireRefused, Fired, Hard};
+use cyc_cpu::Hard;
 use cyc_soft::{Ran, SoftRefused};
+use cyc_timers::{FireRefused, Fired};
 use cyc_types::{CyclicId, Level, Moment, Raise, Refusal, Soft, When};
 
 /// What is granted where the caller has called this handler, or none.

@@ -14,7 +14,6 @@ mod suspension;
 
 pub use absence::absence_law;
 pub use accounts::{account_core_law, account_law};
-pub use cyc_cpu::{FireRefused, Fired, Hard, LevelCore};
 pub use passing::passing_law;
 pub use receipts::{balance_law, receipt_law};
 pub use settling::{settling_core_law, settling_law};

@@ -34,8 +34,6 @@ mod system_laws;
 mod words;
 
 pub use beginning::begin;
-pub use cyc_system::System;
-pub use cyc_text::RunFault;
 pub use laws::runs_are_sound;
 pub use report::put_reports;
 pub use script::{put_steps, replay, run_script};

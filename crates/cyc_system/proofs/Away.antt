@@ -11,21 +11,21 @@ use Rattle.cyc_types.specs.Runs.{Goes, lost_by}
 use Rattle.cyc_types.specs.declared.firing.Raised.TheVariants.{First, More, Lost}
 use Rattle.cyc_types.specs.declared.level.Level.{Level}
 use Rattle.cyc_types.specs.declared.level.Level.TheVariants as at
-use Rattle.cyc_cpu_laws.specs.Fired.{Fired}
-use Rattle.cyc_cpu_laws.specs.FireRefused.{FireRefused}
-use Rattle.cyc_cpu_laws.specs.Acts.{Sides, AreRaises}
-use Rattle.cyc_cpu_laws.specs.Made.{Makes, HasCounts}
-use Rattle.cyc_cpu_laws.specs.Quiet.{LoadsThenLooks}
+use Rattle.cyc_timers.specs.declared.fire.Fired.{Fired}
+use Rattle.cyc_timers.specs.declared.fire.FireRefused.{FireRefused}
+use Rattle.cyc_cpu.specs.Acts.{Sides, AreRaises}
+use Rattle.cyc_cpu.specs.Made.{Makes, HasCounts}
+use Rattle.cyc_cpu.specs.Quiet.{LoadsThenLooks}
 use Rattle.cyc_types.specs.Expirations as expire
 use Rattle.cyc_types.specs.Expirations.{Expiration, expirations, times_of, all_after}
 use Rattle.cyc_types.specs.Timers.{Timer}
 use Rattle.cyc_types.specs.Pairs.{EachTwo}
 use Rattle.cyc_agreement.specs.Rows.{Cyclic, timers}
-use Rattle.cyc_cpu_laws.specs.Cpu.{CpuView, Running, SameCpu}
-use Rattle.cyc_cpu_laws.specs.Laws.{IsLawful}
-use Rattle.cyc_cpu_laws.specs.Losses.{IsUnder, IsSpared}
-use Rattle.cyc_cpu_laws.specs.Moving.{Inquires}
-use Rattle.cyc_cpu_laws.specs.Calls.{Changes, Does, Fire, AskSettled, no_interrupts}
+use Rattle.cyc_cpu.specs.Cpu.{CpuView, Running, SameCpu}
+use Rattle.cyc_cpu.specs.Laws.{IsLawful}
+use Rattle.cyc_cpu.specs.Losses.{IsUnder, IsSpared}
+use Rattle.cyc_cpu.specs.Moving.{Inquires}
+use Rattle.cyc_cpu.specs.Calls.{Changes, Does, Fire, AskSettled, no_interrupts}
 use Rattle.cyc_system.specs.Splitting.{GoesOn, IsSameEnd, ComesBack, AllComeBack}
 
 -- ---- two lists

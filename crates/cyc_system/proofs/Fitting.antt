@@ -14,11 +14,11 @@ use Rattle.cyc_types.specs.declared.Raise.{Ghosts as Raise}
 use Rattle.cyc_types.specs.declared.firing.Sent.{Sent}
 use Rattle.cyc_types.specs.Counting.{no_counts}
 use Rattle.cyc_agreement.specs.Rows.{Cyclic}
-use Rattle.cyc_cpu_laws.specs.Made.{HasCounts}
-use Rattle.cyc_cpu_laws.specs.Taken.{Taken}
-use Rattle.cyc_cpu_laws.specs.Cpu.{CpuView, HasNoCyclic, HasRisingIds}
-use Rattle.cyc_cpu_laws.specs.Laws.{IsLawful}
-use Rattle.cyc_cpu_laws.specs.Calls.{AskPending, Reserve, TakeNow}
+use Rattle.cyc_cpu.specs.Made.{HasCounts}
+use Rattle.cyc_cpu.specs.declared.moving.Taken.{Taken}
+use Rattle.cyc_cpu.specs.Cpu.{CpuView, HasNoCyclic, HasRisingIds}
+use Rattle.cyc_cpu.specs.Laws.{IsLawful}
+use Rattle.cyc_cpu.specs.Calls.{AskPending, Reserve, TakeNow}
 use Rattle.cyc_cpu_laws.specs.Accounts.{expired_of, entered_by, left_by}
 use Rattle.cyc_cpu_laws.proofs.Shifts.{changes_shift, shift_sums}
 use Rattle.cyc_places.specs.declared.record.Placement.TheVariants as stands

@@ -10,14 +10,14 @@ use Rattle.cyc_types.specs.declared.moment.When.{When}
 use Rattle.cyc_types.specs.declared.refusal.Refusal.{Refusal}
 use Rattle.cyc_soft.specs.declared.Ran.{Ran}
 use Rattle.cyc_soft.specs.declared.SoftRefused.{SoftRefused}
-use Rattle.cyc_cpu_laws.specs.Cpu.{Running}
+use Rattle.cyc_cpu.specs.Cpu.{Running}
 use Rattle.cyc_agreement.specs.System.{SystemView, RunningSystem}
 use Rattle.cyc_agreement.specs.Adding.{add_request, Adds}
 use Rattle.cyc_agreement.specs.Binding.{Unbinds, Binds}
 use Rattle.cyc_types.specs.declared.receipt.Receipt.{Receipt}
 use Rattle.cyc_types.specs.declared.refusal.JuggleReport.{JuggleReport}
-use Rattle.cyc_cpu_laws.specs.CpuRemoval.{Removal}
-use Rattle.cyc_cpu_laws.specs.CpuRemoval.TheVariants.{Done, Kept}
+use Rattle.cyc_cpu.specs.declared.removing.Removal.{Removal}
+use Rattle.cyc_cpu.specs.declared.removing.Removal.TheVariants.{Done, Kept}
 use Rattle.cyc_agreement.specs.System.{ids_on}
 use Rattle.cyc_agreement.specs.declared.removing.SystemRemoval.{SystemRemoval}
 use Rattle.cyc_agreement.specs.declared.removing.SystemRemoval.TheVariants as over

@@ -4,8 +4,8 @@ use Rattle.std.specs.Option.{option_map}
 use Rattle.cyc_types.specs.Firing.{FiringView}
 use Rattle.cyc_types.specs.Pairs.{EachTwo}
 use Rattle.cyc_agreement.specs.Rows.{Cyclic}
-use Rattle.cyc_cpu_laws.specs.Cpu.{CpuView}
-use Rattle.cyc_cpu_laws.specs.Losses.{IsUnder}
+use Rattle.cyc_cpu.specs.Cpu.{CpuView}
+use Rattle.cyc_cpu.specs.Losses.{IsUnder}
 
 -- The cyclic has its id, its level and its interval, and its counts are no smaller. One that had lost nothing has lost nothing
 -- yet where its expirations are at most the ceiling of its level.

@@ -1,8 +1,8 @@
 //! A cyclic is bound to a CPU, or no more.
 
 ghost use Rattle.std.specs.Prelude.{◌≡◌, ◌≢◌, ◌<◌, ◌≤◌, length};
-ghost use Rattle.cyc_cpu_laws.specs.Cpu.{HasNoCyclic};
-ghost use Rattle.cyc_cpu_laws.specs.Removal.{HasCyclic};
+ghost use Rattle.cyc_cpu.specs.Cpu.{HasNoCyclic};
+ghost use Rattle.cyc_cpu.specs.Removal.{HasCyclic};
 ghost use Rattle.cyc_agreement.specs.Cpus.{OfCpu};
 ghost use Rattle.cyc_agreement.specs.Binding.{GoesTo};
 ghost use Rattle.cyc_agreement.specs.Shifting.{move_of};

@@ -6,11 +6,9 @@
 
 mod asking;
 mod binding;
-mod everywhere;
 mod finding;
 mod laws;
-mod moving;
-mod removing;
+mod over_cpus;
 mod reprogramming;
 mod splitting;
 mod suspending;
@@ -18,7 +16,7 @@ mod system;
 
 pub use asking::CpuOrOmni;
 pub use cyc_agreement::{SystemRemoval, SystemTotals, others_law};
-pub use cyc_cpu_laws::{FireRefused, Fired};
+pub use cyc_timers::{FireRefused, Fired};
 pub use laws::{away_law, ids_law};
 pub use splitting::Desk;
 pub use system::{SoftFault, System};

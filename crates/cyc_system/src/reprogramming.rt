@@ -1,8 +1,8 @@
 //! A cyclic, or a component, gets another next expiration.
 
 ghost use Rattle.std.specs.Prelude.{◌≡◌, ◌≢◌, ◌<◌, ◌&&◌, length, Ok, Some};
-ghost use Rattle.cyc_cpu_laws.specs.Removal.{HasCyclic};
-ghost use Rattle.cyc_cpu_laws.specs.Calls.{Reprogram as CpuReprogram};
+ghost use Rattle.cyc_cpu.specs.Removal.{HasCyclic};
+ghost use Rattle.cyc_cpu.specs.Calls.{Reprogram as CpuReprogram};
 ghost use Rattle.cyc_agreement.specs.Cpus.{OfCpu, on, DoesAt};
 
 use crate::system::System;

@@ -4,18 +4,19 @@
 ghost use Rattle.std.specs.Prelude.{◌≡◌, ◌-◌, ◌<◌, ◌≤◌, [], All, length, IfOk, IfErr};
 ghost use Rattle.cyc_types.specs.Limits.{most_cpus};
 ghost use Rattle.cyc_types.specs.declared.refusal.Refusal.TheVariants.{Memory};
-ghost use Rattle.cyc_cpu_laws.specs.Cpu.{IsFresh};
-ghost use Rattle.cyc_cpu_laws.specs.Soft.{raise_tables, Interrupts};
-ghost use Rattle.cyc_cpu_laws.specs.Calls.{no_interrupts, Fire, Reserve, SoftInterrupt as CpuSoftInterrupt};
+ghost use Rattle.cyc_cpu.specs.Cpu.{IsFresh};
+ghost use Rattle.cyc_cpu.specs.Soft.{raise_tables, Interrupts};
+ghost use Rattle.cyc_cpu.specs.Calls.{no_interrupts, Fire, Reserve, SoftInterrupt as CpuSoftInterrupt};
 ghost use Rattle.cyc_agreement.specs.Cpus.{new_cpus, on, running_cpus, DoesAt, RunsAt};
 ghost use Rattle.cyc_agreement.specs.System.{running_system};
 ghost use Rattle.cyc_agreement.specs.Agreement.{Agrees};
 ghost use Rattle.cyc_agreement.specs.Counts.{IsFit, AreLawful};
 
 use cyc_agreement::{Cpus, SystemTotals, enter};
-use cyc_cpu_laws::{FireRefused, Fired, LevelCore};
+use cyc_core::LevelCore;
 use cyc_places::{Placement, Records};
 use cyc_soft::{Ran, SoftRefused};
+use cyc_timers::{FireRefused, Fired};
 use cyc_types::{Calls, CyclicId, Level, Moment, Raise, Refusal, Soft, When};
 use std::alloc::Global;
 use std::marker::Model;

@@ -8,6 +8,11 @@ pub mod Parts
 pub mod Gone
 pub mod Numbering
 pub mod Settling
+pub mod Totalling
+pub mod Suspension
+pub mod Sparing
+pub mod Kinds
+pub mod Pending
 pub use Rattle.cyc_cpu_laws.specs.Accounts
 pub use Rattle.cyc_cpu_laws.specs.Cores
 pub use Rattle.cyc_cpu_laws.specs.Settled

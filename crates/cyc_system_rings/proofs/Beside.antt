@@ -39,7 +39,7 @@ use Rattle.cyc_system_laws.specs.SystemCalls.{SystemCall, Changes, Add, AddOmni,
 use Rattle.cyc_system_laws.specs.SystemCalls.{Suspend, Resume, Reprogram, ReprogramOn, Juggle, Offline, Online, FireOne}
 use Rattle.cyc_system_laws.specs.SystemCalls.{SoftInterrupt}
 use Rattle.cyc_system_laws.proofs.Idle.{IsIdle}
-use Rattle.cyc_system_sums.proofs.Components.{find_insert}
+use Rattle.cyc_system_laws.proofs.Components.{find_insert}
 use Rattle.cyc_system_rings.proofs.Walks.{May, Needs, Keeps, kept}
 
 -- ---- lists

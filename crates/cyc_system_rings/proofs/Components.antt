@@ -51,7 +51,7 @@ use Rattle.cyc_system_laws.proofs.Found.{stays_found}
 use Rattle.cyc_system_laws.proofs.Counts.{counts_same}
 use Rattle.cyc_system_laws.proofs.Kept.{stays_kept}
 use Rattle.cyc_system_laws.proofs.Looked.{look_kept}
-use Rattle.cyc_system_sums.proofs.Given.{no_counts_yet}
+use Rattle.cyc_system_laws.proofs.Given.{no_counts_yet}
 use Rattle.cyc_system_rings.specs.Leading.{LeadCall, Make, FireAll, AskAll}
 use Rattle.cyc_system_rings.specs.Events.{given_everywhere, if_own, event_in, events_in, AllAccepted, AcceptedSteps}
 use Rattle.cyc_system_rings.specs.Events.{KeepsComponents}

@@ -45,7 +45,7 @@ use Rattle.cyc_system_laws.specs.Sound.{IsSound}
 use Rattle.cyc_system_laws.specs.Keeping.{over_stays, stay_of}
 use Rattle.cyc_system_laws.proofs.Flow.{on_cpu}
 use Rattle.cyc_system_laws.proofs.Found.{stays_found}
-use Rattle.cyc_system_sums.proofs.Given.{receipt_all}
+use Rattle.cyc_system_laws.proofs.Given.{receipt_all}
 use Rattle.cyc_types.specs.declared.receipt.Receipt.{Receipt}
 use Rattle.cyc_system_rings.specs.Leading.{LeadCall, Make, FireAll, AskAll}
 use Rattle.cyc_system_rings.proofs.Raising.{sums_same, changes_long, stands}

@@ -36,7 +36,7 @@ use Rattle.cyc_system_laws.proofs.Found.{stays_found}
 use Rattle.cyc_system_laws.proofs.Counts.{counts_same}
 use Rattle.cyc_system_laws.proofs.Kept.{stays_kept}
 use Rattle.cyc_system_laws.proofs.Looked.{look_kept}
-use Rattle.cyc_system_sums.proofs.Given.{no_counts_yet}
+use Rattle.cyc_system_laws.proofs.Given.{no_counts_yet}
 
 -- an answer is no refusal
 pub ok_err : {A E : Type 0} {x : A} {y : E} → Ok x ≡ Err y → ⊥

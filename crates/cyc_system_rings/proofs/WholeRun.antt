@@ -44,7 +44,7 @@ use Rattle.cyc_expected.specs.Course.{Passes, Course, Idle, Single, OnEach, Told
 use Rattle.cyc_system_laws.specs.Sound.{IsSound}
 use Rattle.cyc_system_laws.specs.Keeping.{EndsRemoval}
 use Rattle.cyc_system_laws.proofs.Counts.{counts_same}
-use Rattle.cyc_system_sums.proofs.Given.{no_counts_yet, receipt_all}
+use Rattle.cyc_system_laws.proofs.Given.{no_counts_yet, receipt_all}
 use Rattle.cyc_system_rings.specs.Leading.{LeadCall, Make, FireAll, AskAll}
 use Rattle.cyc_system_rings.specs.Rings.{receipt_of, first_of, receipt_in, counts_in}
 use Rattle.cyc_system_rings.specs.Empty.{IsEmpty}

@@ -6,8 +6,9 @@ ghost use Rattle.cyc_thread_rings.specs.Rings.{AreSeated, IsAttached};
 
 use crate::levels::{Levels, Seated};
 use cyc_ring::{DrainEnd, RaiseEnd, Ring};
+use cyc_soft::SoftSide;
 use cyc_types::Calls;
-use cyc_workers::{Handlers, Seats, SoftSide};
+use cyc_workers::{Handlers, Seats};
 use std::alloc::{AllocError, Global};
 
 /// The ends of a CPU's two rings, that of its lock level first, and its handlers beside them.

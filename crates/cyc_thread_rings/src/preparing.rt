@@ -10,8 +10,9 @@ use crate::levels::Levels;
 use crate::working::Drainer;
 use crossbeam_utils::sync::Parker;
 use cyc_ring::{DrainEnd, RaiseEnd};
+use cyc_soft::SoftSide;
 use cyc_types::Refusal;
-use cyc_workers::{Lead, SoftSide, Wakers};
+use cyc_workers::{Lead, Wakers};
 use std::alloc::{AllocError, Global};
 use std::sync::Arc;
 

@@ -8,8 +8,8 @@ ghost use Rattle.cyc_threads.specs.Steps.{AdvanceHalts};
 
 use crate::halt::Halt;
 use crate::progress::{Progress, sound};
-use cyc_cpu::{FireRefused, Fired};
 use cyc_system_workers::{Advanced, advance};
+use cyc_timers::{FireRefused, Fired};
 use cyc_types::{CPUS, Calls, Moment, Raise, Refusal};
 use std::alloc::Global;
 use std::sync::Wait;

@@ -11,7 +11,8 @@ ghost use Rattle.cyc_words.specs.declared.named.Named.TheVariants.{Nothing};
 ghost use Rattle.cyc_threads.specs.Running.{most};
 
 use crate::progress::{Progress, begin};
-use cyc_system_workers::{System, SystemSide};
+use cyc_system::System;
+use cyc_system_workers::SystemSide;
 use cyc_types::{CyclicId, Raise, Refusal};
 use cyc_workers::Lead;
 use std::alloc::Global;

@@ -4,7 +4,8 @@ ghost use Rattle.std.specs.Prelude.{◌≡◌, replicate, IfOk};
 ghost use Rattle.cyc_words.specs.declared.named.Named.TheVariants as named;
 ghost use Rattle.cyc_system_laws.specs.Sound.{IsSound};
 
-use cyc_system_workers::{System, SystemSide};
+use cyc_system::System;
+use cyc_system_workers::SystemSide;
 use cyc_types::{Moment, Raise};
 use cyc_words::Names;
 use std::alloc::{AllocError, Global};

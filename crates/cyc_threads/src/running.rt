@@ -22,6 +22,7 @@ use crate::reporting::report_text;
 use crate::working::{Worked, work_all};
 use cyc_ring::{Closed, DrainEnd, RaiseEnd, Ring};
 use cyc_script::Script;
+use cyc_soft::SoftSide;
 use cyc_system_workers::SystemSide;
 use cyc_text::{RunFault, Sink};
 use cyc_thread_rings::{
@@ -29,7 +30,6 @@ use cyc_thread_rings::{
     open_rings, prepare, seat_all, unseat_all,
 };
 use cyc_types::{Calls, Refusal};
-use cyc_workers::SoftSide;
 use std::alloc::{AllocError, Global};
 use std::sync::Wait;
 use std::thread::Threads;

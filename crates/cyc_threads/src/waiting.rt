@@ -12,9 +12,10 @@ ghost use Rattle.cyc_threads.specs.Steps.{IsTold};
 
 use crate::halt::Halt;
 use crate::progress::{Progress, sound};
-use cyc_system_workers::{Asked, Lead, Signals, settle};
+use cyc_system_workers::{Asked, settle};
 use cyc_types::{Calls, CyclicId, Raise};
 use cyc_words::poll;
+use cyc_workers::{Lead, Signals};
 use std::sync::Wait;
 use std::thread;
 

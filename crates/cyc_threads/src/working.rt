@@ -10,11 +10,12 @@ use crate::halt::Halt;
 use crate::progress::Progress;
 use crate::stepping::take_steps;
 use cyc_script::Script;
+use cyc_soft::SoftSide;
 use cyc_thread_rings::{
     Drainer, Fire, Levels, first_refusal, join_all, soft_sides, start_all, stop_all,
 };
 use cyc_types::{Calls, Drain, Raise, Refusal};
-use cyc_workers::{Drained, Signals, SoftSide, Wakers};
+use cyc_workers::{Drained, Signals, Wakers};
 use std::alloc::Global;
 use std::sync::{Arc, Wait};
 use std::thread;

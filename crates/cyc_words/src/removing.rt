@@ -10,8 +10,9 @@ use crate::answer::WordAnswer;
 use crate::changing::id_of;
 use crate::named::{Named, Names};
 use crate::word::sound;
+use cyc_agreement::SystemRemoval;
 use cyc_script::Name;
-use cyc_system::{System, SystemRemoval};
+use cyc_system::System;
 use cyc_types::{CyclicId, Raise, Receipt, Refusal};
 
 /// The name has what the beginning of its cyclic's removal answered.

@@ -5,7 +5,8 @@ ghost use Rattle.cyc_cpu.specs.Calls.{Fire, no_interrupts};
 ghost use Rattle.cyc_cpu_laws.specs.Runs.{Steps};
 
 use crate::wakers::Wakers;
-use cyc_cpu::{FireRefused, Fired, Hard};
+use cyc_cpu::Hard;
+use cyc_timers::{FireRefused, Fired};
 use cyc_types::{Calls, Moment, Raise};
 
 /// The firing side of a CPU, and the handlers of its high level.

@@ -10,7 +10,8 @@ use crate::records::{
     CyclicFired, CyclicReceipt, CyclicTotals, fired_of, receipt_of, stopped_of, totals_of,
 };
 use cyc_border::numbers::Denied;
-use cyc_cpu::{FireRefused, Fired, Removal, Totals};
+use cyc_cpu::{Removal, Totals};
+use cyc_timers::{FireRefused, Fired};
 use cyc_types::{CyclicId, Receipt, Refusal};
 
 /// What is answered where the caller has not done what it owes.

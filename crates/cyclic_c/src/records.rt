@@ -4,8 +4,9 @@ ghost use Rattle.std.specs.Prelude.{◌≡◌};
 ghost use Rattle.cyclic_c.specs.Records.{IsFired, IsRefused, IsTotals, IsReceipt, IsBookOut};
 
 use cyc_border::numbers::Denied;
-use cyc_cpu::{FireRefused, Fired, Totals};
+use cyc_cpu::Totals;
 use cyc_ring::Book;
+use cyc_timers::{FireRefused, Fired};
 use cyc_types::Receipt;
 
 /// What a fire did.

@@ -18,7 +18,7 @@ use Rattle.cyc_system.specs.System.{RunningSystem, SystemView, is_omnipresent, i
 use Rattle.cyc_system_laws.specs.Keeping.{EndsRemoval, SameRecord, SameStays, level_known}
 use Rattle.cyc_system_laws.specs.Sound.{IsSound}
 use Rattle.cyc_system_laws.specs.SoftFault.{SoftFault}
-use Rattle.cyc_system_sums.specs.Totalling.{Steps, expirations_along, losses_along}
+use Rattle.cyc_system_laws.specs.Totalling.{Steps, expirations_along, losses_along}
 use Rattle.uses.specs.System.{KeepsCyclics}
 
 -- ---- what is kept by one call and then by another is kept by both

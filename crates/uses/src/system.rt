@@ -9,8 +9,7 @@ ghost use Rattle.uses.specs.System.{KeepsCyclics, ServesThenOffline};
 use cyc_cpu::LevelCore;
 use cyc_soft::Ran;
 use cyc_system::{SoftFault, System};
-use cyc_system_laws::{counts_law, stays_law};
-use cyc_system_sums::{expirations_core_law, interrupts_law, offlines_law};
+use cyc_system_laws::{counts_law, expirations_core_law, interrupts_law, offlines_law, stays_law};
 use cyc_types::{Calls, Raise, Refusal, Soft};
 
 /// Takes a CPU offline, over any firing ends. Refuses as `System::offline`, and takes the memory that it takes.
