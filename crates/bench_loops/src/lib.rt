@@ -1,4 +1,4 @@
-//! What the drivers of the benchmark call: whole loops of calls over a level, a ring, the heap, a timer wheel, a CPU and a system.
+//! What the drivers of the benchmark call: loops of calls over a level, a ring, the heap, a timer wheel, a CPU and a system.
 #![tactic(auto)]
 
 pub mod cpu;

@@ -56,8 +56,11 @@ module _ {R : Type 0} (v w : CpusView R) (rs rs' : List Record) (last id place :
   stood n h = let (k, r, is, own, stands, on) = a.known n id (d.fewer n h) in
       let same : r ≡ d.before = same_some (sym is
       ∙ subst (λ i. IsRecord rs i d.before) (sym (one_record rs place k d.before r rising d.was is (own ∙ sym named))) d.was)
-      in
-      (subst (λ p. Stands n p) (ap (λ (q : Record). q.placement) same ∙ sym d.same_placement) stands, online_same v w n d.online ∙ on)
+      in (
+        subst (λ p. Stands n p) (ap (λ (q : Record). q.placement) same
+            ∙ sym d.same_placement) stands,
+        online_same v w n d.online ∙ on,
+      )
 
   was_stood : (n : ℕ) → has n id v ≡ true → Stands n d.after.placement
   was_stood n h = let (k, r, is, own, stands, on) = a.known n id h in
@@ -125,7 +128,8 @@ module _ {R : Type 0} (v w : CpusView R) (rs rs' : List Record) (last id place :
         (stood m still).0)) ∙ still
     by_home j n bound q (inr (ne, at, other)) p = d.others n q.id (apart q other) ∙ a.home j n bound q at p
 
-    by_everywhere : (j n : ℕ) (q : Record) → Old j q → is_everywhere q.placement ≡ true → is_online n w ≡ true → (has n q.id w ≡ true)
+    by_everywhere : (j n : ℕ) (q : Record) → Old j q → is_everywhere q.placement ≡ true → is_online n w ≡ true
+        → (has n q.id w ≡ true)
         ⊎ ((k : ℕ) × (removal_on k w ≡ Some q.id))
     unfolding Old
     by_everywhere j n q (inl (e, f)) p up = inr (m, open_there ∙ ap Some (sym (ap (λ (y : Record). y.id) f ∙ id_now)))

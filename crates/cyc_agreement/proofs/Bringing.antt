@@ -80,7 +80,8 @@ module _ {R : Type 0} (firing : Raise R) (n now : ℕ) (v : CpusView R)
 
   pub bringing_more : (k : ℕ) (w u : CpusView R) (qs ps : List Record) (r : Record) → Bringing k w qs → IsRecord rs k r
       → is_staying v r ≡ true
-      → Works firing (return_at n now r.id r.level (ended_on n r) r.placement) w u → ps ≡ slice_set qs k (with_ended n no_counts r)
+      → Works firing (return_at n now r.id r.level (ended_on n r) r.placement) w u
+      → ps ≡ slice_set qs k (with_ended n no_counts r)
       → Bringing (k + 1) u ps
   bringing_more k w u qs ps r b is stays did list = record {
     list = list ∙ (λ i. slice_set (b.list i) k (sym (ap (λ c. cond c (with_ended n no_counts r) r) stays) i))

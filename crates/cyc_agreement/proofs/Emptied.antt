@@ -95,7 +95,8 @@ module _ {R : Type 0} (firing : Raise R) (source : ℕ) (v : CpusView R)
         (λ ne. has_same n q.id ne ∙ ap (λ id. has n id v) same.id ∙ a.home k n bound r at (sym same.placement ∙ place)));
     everywhere = λ k n q is all on. (let (r, at, same) = back k q is in
         let ne : n ≢ source = (λ e. false_true (sym off ∙ ap (λ m. is_online m t.cpus) (sym e) ∙ on)) in
-        by_everywhere k n r q at same ne (a.everywhere k n r at (ap is_everywhere (sym same.placement) ∙ all) (sym (up n ne) ∙ on)));
+        by_everywhere k n r q at same ne (a.everywhere k n r at (ap is_everywhere (sym same.placement) ∙ all) (sym (up n ne)
+        ∙ on)));
     ended = λ k n q is h. (let (r, at, same) = back k q is in let ne = apart n q.id h in
         same.ended n ne ∙ a.ended k n r at (ap (λ id. has n id v) (sym same.id) ∙ sym (has_same n q.id ne) ∙ h));
     single = λ k n q is one. (let (r, at, same) = back k q is in let too = ap is_everywhere (sym same.placement) ∙ one in

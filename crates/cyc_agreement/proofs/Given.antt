@@ -82,7 +82,8 @@ module _ {R : Type 0} (s : SystemView R) (id : ℕ) (level : Level) (place : Pla
       → has n r.id w ≡ true
   unfolding x
   by_home k n bound r (inl is) p = b.others n r.id (old k r is) ∙ a.home k n bound r is p
-  by_home k n bound r (inr e) p = ap (λ (q : Record). has n q.id w) e ∙ c.home n bound (sym (ap (λ (q : Record). q.placement) e) ∙ p)
+  by_home k n bound r (inr e) p = ap (λ (q : Record). has n q.id w) e
+      ∙ c.home n bound (sym (ap (λ (q : Record). q.placement) e) ∙ p)
 
   by_everywhere : (k n : ℕ) (r : Record) → (IsRecord s.records k r) ⊎ (r ≡ x) → is_everywhere r.placement ≡ true
       → is_online n w ≡ true

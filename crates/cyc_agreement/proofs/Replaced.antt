@@ -90,7 +90,12 @@ module _ {R : Type 0} (s : SystemView R) (k d : ℕ) (bound was : Bool) (home : 
         online_same s.cpus w n b.online ∙ up,
       ))
 
-  pub agrees_replaced : Agrees (record { cpus = w; records = slice_set s.records k (with_placement (On d bound) r); last = s.last })
+  pub agrees_replaced : Agrees (record {
+    cpus = w;
+    records = slice_set s.records k (with_placement (On d bound) r);
+    last =
+        s.last;
+  })
   unfolding now
   agrees_replaced = record {
     known = by_known;

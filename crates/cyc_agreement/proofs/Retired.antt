@@ -88,7 +88,8 @@ taken_off firing source place id taken v w rise spot takes =
     let before : ids_on source v ≡ ids_of takes.before = Who.ids_there v source takes.before takes.after takes.here in
     let spot2 : slice_get (ids_on source v) l.position ≡ Some id = ap (λ ids. slice_get ids l.position) before
     ∙ slice_get-map Who.id_in takes.before.cyclics l.position
-    ∙ ap (option_map Who.id_in) (slice_get-get_or takes.before.cyclics l.position c l.here.0 ∙ ap Some l.here.1) ∙ ap Some l.named in
+    ∙ ap (option_map Who.id_in) (slice_get-get_or takes.before.cyclics l.position c l.here.0 ∙ ap Some l.here.1)
+    ∙ ap Some l.named in
     let own : l.position ≡ place = one_place (ids_on source v) l.position place id rise spot2 spot in record {
       ids = ap (λ u. ids_on source u) takes.rest ∙ Who.ids_now v source takes.before takes.after takes.here
           ∙ ap (λ cs. map Who.id_in cs) l.cyclics ∙ map_remove Who.id_in takes.before.cyclics l.position

@@ -111,7 +111,8 @@ left firing id source target place v w taken apart rise spot
     ∙ Who.ids_there b source takes.before takes.after takes.here in
     let spot2 : slice_get (ids_on source v) l.position ≡ Some id = ap (λ ids. slice_get ids l.position) before
     ∙ slice_get-map Who.id_in takes.before.cyclics l.position
-    ∙ ap (option_map Who.id_in) (slice_get-get_or takes.before.cyclics l.position c l.here.0 ∙ ap Some l.here.1) ∙ ap Some l.named in
+    ∙ ap (option_map Who.id_in) (slice_get-get_or takes.before.cyclics l.position c l.here.0 ∙ ap Some l.here.1)
+    ∙ ap Some l.named in
     let own : l.position ≡ place = one_place (ids_on source v) l.position place id rise spot2 spot in
     let after : ids_on source d ≡ ids_of takes.after = ap (λ u. ids_on source u) takes.rest
     ∙ Who.ids_now b source takes.before takes.after takes.here in
@@ -194,7 +195,8 @@ module _ {R : Type 0} (firing : Raise R) (source place id : ℕ) (s t : SystemVi
         ended = λ m y held. ended_at d k r is records m y held;
       }
     where
-      ended_at : (d k : ℕ) (r : Record) → IsRecord s.records k r → t.records ≡ slice_set s.records k (with_placement (On d false) r)
+      ended_at : (d k : ℕ) (r : Record) → IsRecord s.records k r
+          → t.records ≡ slice_set s.records k (with_placement (On d false) r)
           → (m : ℕ) (y : Record) → IsRecord t.records m y
           → (q : Record) × IsRecord s.records m q × ((n : ℕ) → ended_on n y ≡ ended_on n q)
       ended_at d k r is records m y held = dite (ℕ_discrete m k)

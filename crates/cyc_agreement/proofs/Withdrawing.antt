@@ -72,7 +72,8 @@ module _ {R : Type 0} (v : CpusView R) (n id place : ℕ) (x y : CpuView R) (at 
   here_is = ap (λ o. among id (option_map_or ids_of o [])) (get_set_same v.cpus n y (slice_get_within v.cpus n x at))
 
   -- the record afterwards
-  pub withdrawn : (rs' : List Record) (after : Record) → rs' ≡ slice_set rs place after → after.id ≡ r.id → after.placement ≡ r.placement
+  pub withdrawn : (rs' : List Record) (after : Record) → rs' ≡ slice_set rs place after → after.id ≡ r.id
+      → after.placement ≡ r.placement
       → ((m : ℕ) → has m id (with_cpu v n y) ≡ true → ended_on m after ≡ ended_on m r)
       → ((m : ℕ) → has m id v ≡ false → ended_on m after ≡ ended_on m r)
       → ((m most : ℕ) → most_on m v ≡ Some most → (ended_on m r).sent ≤ most → (ended_on m after).sent ≤ most)

@@ -26,7 +26,8 @@ pub(crate) fn begin_on<R: Raise>(
     number: u32,
 ) -> Result<SystemRemoval, Refusal>
     requires holds { (last : ℕ) × Holds (system cpus.old records.old.list last) }
-    requires own { (r : Record) × (bound : Bool) × IsRecord records.old.list position r × (r.id ≡ id) × (r.placement ≡ On number bound) }
+    requires own { (r : Record) × (bound : Bool) × IsRecord records.old.list position r × (r.id ≡ id)
+        × (r.placement ≡ On number bound) }
     ensures did { (last : ℕ) → BeginsRemoval R.Raise id result (system cpus.old records.old.list last)
         (system cpus.new records.new.list last) }
     ensures holds { (last : ℕ) → Holds (system cpus.old records.old.list last) → Holds (system cpus.new records.new.list last) }
@@ -58,7 +59,8 @@ pub(crate) fn poll_on<R: Raise>(
     number: u32,
 ) -> Result<Option<Receipt>, Refusal>
     requires holds { (last : ℕ) × Holds (system cpus.old records.old.list last) }
-    requires own { (r : Record) × (bound : Bool) × IsRecord records.old.list position r × (r.id ≡ id) × (r.placement ≡ On number bound) }
+    requires own { (r : Record) × (bound : Bool) × IsRecord records.old.list position r × (r.id ≡ id)
+        × (r.placement ≡ On number bound) }
     ensures did { (last : ℕ) → PollsRemoval R.Raise id result (system cpus.old records.old.list last)
         (system cpus.new records.new.list last) }
     ensures holds { (last : ℕ) → Holds (system cpus.old records.old.list last) → Holds (system cpus.new records.new.list last) }

@@ -147,7 +147,8 @@ owns handler n index online (BeginRemove id (Ok (Done receipt))) s t rising goes
     clear_ties n id (mark_here n id (shown_cpu online s.cpu)).cpu (mark_known n id (shown_cpu online s.cpu) h.known)
 owns handler n index online (BeginRemove id (Ok (Kept kept))) s t rising goes ((still, opens), calls) h =
     mark_ties n id (shown_cpu online s.cpu)
-    (λ high. opens.soft (sym (level_found online opens.position id opens.cyclic s.cpu rising opens.here opens.named) ∙ high)) h.known
+    (λ high. opens.soft (sym (level_found online opens.position id opens.cyclic s.cpu rising opens.here opens.named)
+    ∙ high)) h.known
 owns handler n index online (BeginRemove id (Err e)) s t rising goes d h = h
 owns handler n index online (PollRemove (Some receipt)) s t rising goes d h =
     clear_ties n receipt.id (shown_cpu online s.cpu) h.known

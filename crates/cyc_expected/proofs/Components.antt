@@ -194,7 +194,8 @@ stays_entry id e s is shut = by (entry id s.placed) refl is
         let one = entry_filter (λ q. not (is_leaving q.id s)) id p s.placed at
         (ap (λ (k : ℕ). not (is_leaving k s)) (entry_id id p s.placed at) ∙ ap not shut) in (
           p,
-          entry_filter (λ q. is_on_all q.placement) id p (filter (λ q. not (is_leaving q.id s)) s.placed) one (ap is_on_all place),
+          entry_filter (λ q. is_on_all q.placement) id p (filter (λ q. not (is_leaving q.id s)) s.placed) one (ap is_on_all
+              place),
           place,
         )
 

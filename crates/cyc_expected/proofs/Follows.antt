@@ -154,7 +154,8 @@ module _ (texts : List (List ℕ)) (f : ℕ → ℕ) (step name : ℕ) (s : Stat
       by None is (OnEach v ms) k = absurd (
           let a = subst (λ cpu. first_refusal (cpu_refusals cpu (id_of r.name s) s) ≡ None) is all in
           let single = not_omnipresent (id_of r.name s) s (none_first (omnipresent (id_of r.name s) s) [] a).0 in
-          let wrong : true ≡ false = sym (ap is_everywhere k.course_is.placement) ∙ (ap (λ i. is_omnipresent i s) (sym e) ∙ single) in
+          let wrong : true ≡ false = sym (ap is_everywhere k.course_is.placement) ∙ (ap (λ i. is_omnipresent i s) (sym e)
+          ∙ single) in
           cc)
       by (Some n) is (OnEach v ms) k =
           let a = on_all n (subst (λ cpu. first_refusal (cpu_refusals cpu (id_of r.name s) s) ≡ None) is all) in

@@ -59,7 +59,8 @@ module _ (id : ℕ) where
   Stays s t = IsSome (placement_of id s) → IsSome (placement_of id t)
 
   stays_placed : (s t : State) → t.placed ≡ s.placed → Stays s t
-  stays_placed s t same known = ap (λ ps. is_some (option_map (λ (p : Placed). p.placement) (find (λ p. p.id == id) ps))) same ∙ known
+  stays_placed s t same known = ap (λ ps. is_some (option_map (λ (p : Placed). p.placement) (find (λ p. p.id == id) ps))) same
+      ∙ known
 
   stays_given : (name : ℕ) (place : Placement) (s : State) → Stays s (given name place s)
   stays_given name place s known = by (placement_of id s) refl known

@@ -170,4 +170,5 @@ place_known id s p rise is = by (entry id s.placed) refl is
     by (Some q) at e = entry_within 0 s.last_id id s.placed rise q at
 
 pub place_new : (s : State) → RiseTo 0 s.placed s.last_id → placement_of (s.last_id + 1) s ≡ None
-place_new s rise = ap (option_map (λ (q : Placed). q.placement)) (entry_above 0 s.last_id (s.last_id + 1) s.placed rise (omega arith))
+place_new s rise = ap (option_map (λ (q : Placed). q.placement)) (entry_above 0 s.last_id (s.last_id + 1) s.placed rise (omega
+    arith))

@@ -67,7 +67,8 @@ everywhere_shown : (level : Level) (p : RecordPlacement) → is_everywhere (Some
 everywhere_shown level (placements.On cpu bound) = refl
 everywhere_shown level (placements.Everywhere first skew) = refl
 
-everywhere_of : (o : Option Record) → is_everywhere (place_in o) ≡ option_map_or (λ (r : Record). everywhere_in r.placement) o false
+everywhere_of : (o : Option Record) → is_everywhere (place_in o) ≡ option_map_or (λ (r : Record). everywhere_in r.placement) o
+    false
 everywhere_of None = refl
 everywhere_of (Some r) = everywhere_shown r.level r.placement
 

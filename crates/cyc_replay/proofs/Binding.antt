@@ -134,69 +134,72 @@ went_to indexes id source target o s = followed_by
     (λ t. nothing (put_at id (On target true) t))
 
 module _ (id source target : ℕ) (x : Cyclic) (s : State) (v w : SystemView Tables) (sys : IsSystem v) (h : ShowsSystem s v)
-    (records : Records id (placements.On target true) v w) (ne : source ≢ target) (d : Went id source target x v.cpus w.cpus) where
-  middle_is : d.middle ≡ slice_set s.cpus source (take_here source id (get_or s.cpus source absent)).cpu
-  middle_is = d.left ∙ ap (λ cs. slice_set cs source (take_here source id (get_or cs source absent)).cpu) (sym h.cpus)
+    (records : Records id (placements.On target true) v w) (ne : source ≢ target) (d : Went id source target x v.cpus w.cpus)
+  where
+    middle_is : d.middle ≡ slice_set s.cpus source (take_here source id (get_or s.cpus source absent)).cpu
+    middle_is = d.left ∙ ap (λ cs. slice_set cs source (take_here source id (get_or cs source absent)).cpu) (sym h.cpus)
 
-  abbrev taking : List Act
-  taking = (take_here source id (get_or s.cpus source absent)).acts
+    abbrev taking : List Act
+    taking = (take_here source id (get_or s.cpus source absent)).acts
 
-  abbrev coming : ℕ → List Act
-  coming index = (enter_here target index x
-      (get_or (slice_set s.cpus source (take_here source id (get_or s.cpus source absent)).cpu) target absent)).acts
+    abbrev coming : ℕ → List Act
+    coming index = (enter_here target index x
+        (get_or (slice_set s.cpus source (take_here source id (get_or s.cpus source absent)).cpu) target absent)).acts
 
-  target_same : get_or (slice_set s.cpus source (take_here source id (get_or s.cpus source absent)).cpu) target absent
-      ≡ get_or s.cpus target absent
-  target_same = get_or-set_other s.cpus source target _ absent (λ e. ne (sym e))
+    target_same : get_or (slice_set s.cpus source (take_here source id (get_or s.cpus source absent)).cpu) target absent
+        ≡ get_or s.cpus target absent
+    target_same = get_or-set_other s.cpus source target _ absent (λ e. ne (sym e))
 
-  can_enter : (index : ℕ) → index ≡ d.index → (soft : Soft)
-      → AllCanBeAdmitted (events_at target soft (coming index)) (level_at soft (get_or s.cpus target absent))
-  can_enter index is soft = subst (λ c. AllCanBeAdmitted (events_at target soft (coming index)) (level_at soft c)) target_same
-      (subst (λ b. b) (λ z. AllCanBeAdmitted (events_at target soft
-      (enter_here target (sym is z) x (get_or (middle_is z) target absent)).acts)
-      (level_at soft (get_or (middle_is z) target absent))) (d.free soft))
+    can_enter : (index : ℕ) → index ≡ d.index → (soft : Soft)
+        → AllCanBeAdmitted (events_at target soft (coming index)) (level_at soft (get_or s.cpus target absent))
+    can_enter index is soft = subst (λ c. AllCanBeAdmitted (events_at target soft (coming index)) (level_at soft c)) target_same
+        (subst (λ b. b) (λ z. AllCanBeAdmitted (events_at target soft
+        (enter_here target (sym is z) x (get_or (middle_is z) target absent)).acts)
+        (level_at soft (get_or (middle_is z) target absent))) (d.free soft))
 
-  can_all : (index : ℕ) → index ≡ d.index → (n : ℕ) (soft : Soft)
-      → AllCanBeAdmitted (events_at n soft ((taking ++ coming index) ++ [])) (level_at soft (get_or s.cpus n absent))
-  can_all index is n soft = subst (λ acts. AllCanBeAdmitted (events_at n soft acts) (level_at soft (get_or s.cpus n absent)))
-      (sym (append-nil (taking ++ coming index)))
-      (subst (λ es. AllCanBeAdmitted es (level_at soft (get_or s.cpus n absent)))
-      (sym (events_append n soft taking (coming index))) (dite (ℕ_discrete n target) there elsewhere))
-    where
-      there : n ≡ target → AllCanBeAdmitted (events_at n soft taking ++ events_at n soft (coming index))
-          (level_at soft (get_or s.cpus n absent))
-      there e = subst (λ es. AllCanBeAdmitted (es ++ events_at n soft (coming index)) (level_at soft (get_or s.cpus n absent)))
-          (sym (other_events taking source n soft (local_take source id (get_or s.cpus source absent)).on (λ k. ne (sym k ∙ e))))
-          (subst (λ k. AllCanBeAdmitted (events_at k soft (coming index)) (level_at soft (get_or s.cpus k absent))) (sym e)
-          (can_enter index is soft))
+    can_all : (index : ℕ) → index ≡ d.index → (n : ℕ) (soft : Soft)
+        → AllCanBeAdmitted (events_at n soft ((taking ++ coming index) ++ [])) (level_at soft (get_or s.cpus n absent))
+    can_all index is n soft = subst (λ acts. AllCanBeAdmitted (events_at n soft acts) (level_at soft (get_or s.cpus n absent)))
+        (sym (append-nil (taking ++ coming index)))
+        (subst (λ es. AllCanBeAdmitted es (level_at soft (get_or s.cpus n absent)))
+        (sym (events_append n soft taking (coming index))) (dite (ℕ_discrete n target) there elsewhere))
+      where
+        there : n ≡ target → AllCanBeAdmitted (events_at n soft taking ++ events_at n soft (coming index))
+            (level_at soft (get_or s.cpus n absent))
+        there e = subst (λ es. AllCanBeAdmitted (es ++ events_at n soft (coming index)) (level_at soft (get_or s.cpus n absent)))
+            (sym (other_events taking source n soft (local_take source id (get_or s.cpus source absent)).on
+            (λ k. ne (sym k ∙ e))))
+            (subst (λ k. AllCanBeAdmitted (events_at k soft (coming index)) (level_at soft (get_or s.cpus k absent))) (sym e)
+            (can_enter index is soft))
 
-      elsewhere : n ≢ target → AllCanBeAdmitted (events_at n soft taking ++ events_at n soft (coming index))
-          (level_at soft (get_or s.cpus n absent))
-      elsewhere other = subst (λ es. AllCanBeAdmitted (events_at n soft taking ++ es) (level_at soft (get_or s.cpus n absent)))
-          (sym (other_events (coming index) target n soft (local_enter target index x _).on other))
-          (subst (λ es. AllCanBeAdmitted es (level_at soft (get_or s.cpus n absent))) (sym (append-nil (events_at n soft taking)))
-          (none_admitted taking n soft (level_at soft (get_or s.cpus n absent))
-          (take_none source id (get_or s.cpus source absent))))
+        elsewhere : n ≢ target → AllCanBeAdmitted (events_at n soft taking ++ events_at n soft (coming index))
+            (level_at soft (get_or s.cpus n absent))
+        elsewhere other = subst (λ es. AllCanBeAdmitted (events_at n soft taking ++ es) (level_at soft (get_or s.cpus n absent)))
+            (sym (other_events (coming index) target n soft (local_enter target index x _).on other))
+            (subst (λ es. AllCanBeAdmitted es (level_at soft (get_or s.cpus n absent)))
+            (sym (append-nil (events_at n soft taking)))
+            (none_admitted taking n soft (level_at soft (get_or s.cpus n absent))
+            (take_none source id (get_or s.cpus source absent))))
 
-  went_comes : (indexes : ℕ → ℕ) (step : ℕ) → indexes s.admissions ≡ d.index
-      → ComesTo (d.index ∷ []) s (told (accepted_line step) (went_to indexes id source target (Some x) s)) w
-  went_comes indexes step is = record {
-    shows = replaced_shows s _ v w h sys.rising id target true records
-        (sym (d.cpus ∙ (λ z. slice_set (middle_is z) target
-        (enter_here target (sym is z) x (get_or (middle_is z) target absent)).cpu)))
-        (replaced_twice id (On target true) _ s.placed) (λ i m. refl) refl;
-    admissions = refl;
-    free = can_all (indexes s.admissions) is;
-  }
+    went_comes : (indexes : ℕ → ℕ) (step : ℕ) → indexes s.admissions ≡ d.index
+        → ComesTo (d.index ∷ []) s (told (accepted_line step) (went_to indexes id source target (Some x) s)) w
+    went_comes indexes step is = record {
+      shows = replaced_shows s _ v w h sys.rising id target true records
+          (sym (d.cpus ∙ (λ z. slice_set (middle_is z) target
+          (enter_here target (sym is z) x (get_or (middle_is z) target absent)).cpu)))
+          (replaced_twice id (On target true) _ s.placed) (λ i m. refl) refl;
+      admissions = refl;
+      free = can_all (indexes s.admissions) is;
+    }
 
-  went_quiet : (indexes : ℕ → ℕ) → indexes s.admissions ≡ d.index → (q : ℕ)
-      → calls_of q (went_to indexes id source target (Some x) s).acts ≡ 0
-  went_quiet indexes is q =
-      let all = ap (λ acts. calls_of q acts) (append-nil (taking ++ coming (indexes s.admissions))) in
-      let whole = calls_append q taking (coming (indexes s.admissions)) in
-      let first = ap (λ cs. calls_of q (take_here source id (get_or cs source absent)).acts) h.cpus ∙ d.took q in
-      let rest = (λ z. calls_of q (enter_here target (is z) x (get_or (sym middle_is z) target absent)).acts) ∙ d.came q in
-      omega (arith, all, whole, first, rest)
+    went_quiet : (indexes : ℕ → ℕ) → indexes s.admissions ≡ d.index → (q : ℕ)
+        → calls_of q (went_to indexes id source target (Some x) s).acts ≡ 0
+    went_quiet indexes is q =
+        let all = ap (λ acts. calls_of q acts) (append-nil (taking ++ coming (indexes s.admissions))) in
+        let whole = calls_append q taking (coming (indexes s.admissions)) in
+        let first = ap (λ cs. calls_of q (take_here source id (get_or cs source absent)).acts) h.cpus ∙ d.took q in
+        let rest = (λ z. calls_of q (enter_here target (is z) x (get_or (sym middle_is z) target absent)).acts) ∙ d.came q in
+        omega (arith, all, whole, first, rest)
 
 -- ---- the reasons for a refusal
 

@@ -274,7 +274,8 @@ kept_polls id (p ∷ way) v w h (u, did, rest) =
 
 kept_answers : (id : ℕ) (receipt : Receipt) (v u w : SystemView Tables) → Kept v u → Answers id receipt u w → Kept v w
 kept_answers id receipt v u w k a = record {
-  half = half_parts (record u { records = remove u.records a.position }) w (half_gone u a.position k.half) a.cpus a.records a.last;
+  half = half_parts (record u { records = remove u.records a.position }) w (half_gone u a.position k.half) a.cpus a.records
+      a.last;
   most = λ n. ap (most_on n) a.cpus ∙ k.most n;
   room = λ wanted all. subst (HaveRoomFor wanted) (sym a.cpus) (k.room wanted all);
 }
@@ -381,7 +382,8 @@ changes_keep (Bind id None answer) v w h (inr (none, (ok, n, home, cpus, records
     kept_placed id _ v v w (kept_same v v h refl) cpus records
 changes_keep (Bind id (Some n) answer) v w h (inl (e, some, said, same)) = kept_same v w h same
 changes_keep (Bind id (Some n) (Ok done)) v w h (inr (none, (home, at, goes, records))) =
-    kept_placed id (placements.On n true) v (record v { cpus = w.cpus }) w (kept_goes id home n (Ok tt) v w.cpus h goes) refl records
+    kept_placed id (placements.On n true) v (record v { cpus = w.cpus }) w (kept_goes id home n (Ok tt) v w.cpus h goes) refl
+    records
 changes_keep (Bind id (Some n) (Err e)) v w h (inr (none, (home, at, goes, records, last))) =
     kept_parts v (record v { cpus = w.cpus }) w (kept_goes id home n (Err e) v w.cpus h goes) refl records last
 changes_keep (BeginRemove id answer) v w h (inl (e, some, said, same)) = kept_same v w h same

@@ -64,7 +64,8 @@ replaced_shown id zero n b r (x ∷ rs) rising is named =
     let own : x.id ≡ id = ap (λ (q : Record). q.id) same ∙ named in
     let rest = all_others id (On n b) rs (λ j q there. let less = rising 0 (suc j) x q (omega arith) refl there in
     λ e. absurd (omega (arith, less, e, own))) in
-    (λ z. (named_so id (On n b) (shown_record x) own ∙ ap (λ (q : Record). record { id = q.id; placement = On n b }) same) z ∷ rest z)
+    (λ z. (named_so id (On n b) (shown_record x) own ∙ ap (λ (q : Record). record { id = q.id; placement = On n b }) same) z ∷
+    rest z)
 replaced_shown id (suc k) n b r (x ∷ rs) rising is named =
     let less = rising 0 (suc k) x r (omega arith) refl is in
     (λ z. named_other id (On n b) (shown_record x) (λ e. absurd (omega (arith, less, e, named))) z

@@ -70,7 +70,10 @@ stay_by : (p : RecordPlacement) (level : Level) (id : ℕ) (leaves : Bool) (r : 
     (kept_rs : List Record)
     → shown_record r ≡ record { id = id; placement = shown_placement level p }
     → filter (λ (q : Placed). is_on_all q.placement) ps ≡ map shown_record kept_rs
-    → filter (λ (q : Placed). is_on_all q.placement) (cond (not leaves) (record { id = id; placement = shown_placement level p } ∷ ps) ps)
+    → filter (λ (q : Placed). is_on_all q.placement) (cond (not leaves) (record {
+      id = id;
+      placement = shown_placement level p;
+    } ∷ ps) ps)
     ≡ map shown_record (cond (everywhere_in p && not leaves) (r ∷ kept_rs) kept_rs)
 stay_by (placements.On n bound) level id true r rs ps kept_rs is rest = rest
 stay_by (placements.On n bound) level id false r rs ps kept_rs is rest = rest

@@ -45,7 +45,8 @@ placed_begins id (n ∷ ns) s = placed_begins id ns (begin plain id n s).state �
 -- ---- the other cyclics
 
 unknown_same : (j : ℕ) (s t : State) → t.placed ≡ s.placed → is_unknown j t ≡ is_unknown j s
-unknown_same j s t same = ap (λ ps. not (is_some (option_map (λ (p : Placed). p.placement) (find (λ (p : Placed). p.id == j) ps))))
+unknown_same j s t same = ap (λ ps. not (is_some (option_map (λ (p : Placed). p.placement) (find (λ (p : Placed). p.id == j)
+    ps))))
     same
 
 unknown_forgotten : (id j : ℕ) (t : State) → j ≢ id → is_unknown j (forgotten id t) ≡ is_unknown j t

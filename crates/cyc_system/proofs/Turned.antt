@@ -264,14 +264,17 @@ module _ {R : Type 0} (firing : Raise R) where
   whole_still s t h agrees rising now lawful whole m n id e here =
       let (k, r, is, named, there, on) = agrees.known n id here in by k r is named there (is_everywhere r.placement) refl
     where
-      same_placement : (a b : ℕ) (r q : Record) → Stands a r.placement → Stands b q.placement → r ≡ q → is_everywhere r.placement ≡ false → a ≡ b
-      same_placement a b r q p x same single = alike r.placement p (subst (λ (z : Record). Stands b z.placement) (sym same) x) single
+      same_placement : (a b : ℕ) (r q : Record) → Stands a r.placement → Stands b q.placement → r ≡ q
+          → is_everywhere r.placement ≡ false → a ≡ b
+      same_placement a b r q p x same single = alike r.placement p (subst (λ (z : Record). Stands b z.placement) (sym same) x)
+          single
         where
           alike : (place : _) → Stands a place → Stands b place → is_everywhere place ≡ false → a ≡ b
           alike (stands.On c bound) p x single = sym p ∙ x
           alike (stands.Everywhere first skew) p x single = absurd (false_true (sym single))
 
-      by : (k : ℕ) (r : Record) → IsRecord t.records k r → r.id ≡ id → Stands n r.placement → (b : Bool) → is_everywhere r.placement ≡ b
+      by : (k : ℕ) (r : Record) → IsRecord t.records k r → r.id ≡ id → Stands n r.placement → (b : Bool)
+          → is_everywhere r.placement ≡ b
           → removal_on n t.cpus ≡ Some id
       by k r is named there true every =
           let (j, q, at, same, whole_before, back) = h.omni rising k r is every in

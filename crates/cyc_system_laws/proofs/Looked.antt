@@ -77,7 +77,8 @@ find_more p [] x fails = ap (λ t. cond t (Some x) None) fails
 find_more p (z ∷ xs) x fails = ap (λ o. cond (p z) (Some z) o) (find_more p xs x fails)
 
 module _ {R B : Type 0} (firing : Raise R) (h : Record → B) (none : B)
-    (placed : (r : Record) (n : ℕ) (bound : Bool) → is_everywhere r.placement ≡ false → h (with_placement (stands.On n bound) r) ≡ h r)
+    (placed : (r : Record) (n : ℕ) (bound : Bool) → is_everywhere r.placement ≡ false
+    → h (with_placement (stands.On n bound) r) ≡ h r)
     (ended : (r : Record) (n : ℕ) (c : Sent) → h (with_ended n c r) ≡ h r) (id : ℕ) where
   -- what is read in the record of the id
   abbrev pub look : SystemView R → B

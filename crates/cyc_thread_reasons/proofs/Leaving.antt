@@ -86,7 +86,8 @@ all_at P xs k x all at = subst P (get_or_from_slice_get xs k x x at) (all k x (s
 omni_is : {R : Type 0} (s : SystemView R) (k id : ℕ) (r : Record) → HasRisingIds s.records → IsRecord s.records k r → r.id ≡ id
     → is_omnipresent id s ≡ is_placed_everywhere r.placement
 omni_is s k id r rising is named =
-    ap (λ o. option_map_or (λ (q : Record). is_placed_everywhere q.placement) o false) (record_here id k r s.records rising is named)
+    ap (λ o. option_map_or (λ (q : Record). is_placed_everywhere q.placement) o false) (record_here id k r s.records rising is
+    named)
 
 module _ {C R : Type 0} (firing : Raise R) (names given : ℕ) (told : Known) (s : SystemView R) (p : Progress R C)
     (rising : HasRisingIds s.records) (settled : AllSettled firing.view s.cpus.cpus)

@@ -163,7 +163,8 @@ module _ {R : Type 0} (firing : Raise R) (n : ℕ) where
   Stopped ids report s t turns = (0 < report.pending) ⊎ ((place : ℕ) × (turn : RefusedTurn R)
       × (slice_get (refused_turns firing n ids report s t turns) place ≡ Some turn) × Later turn.before.cpus t.cpus)
 
-  one_place : (s : SystemView R) (id : ℕ) (a b : Bool) → HasRisingIds s.records → HasPlacement id n a s → HasPlacement id n b s → a ≡ b
+  one_place : (s : SystemView R) (id : ℕ) (a b : Bool) → HasRisingIds s.records → HasPlacement id n a s
+      → HasPlacement id n b s → a ≡ b
   one_place s id a b rising (k, r, is, named, place) (j, q, at, same, there) =
       let e = one_record s.records k j r q rising is at (same ∙ sym named) in
       bound_same (sym place ∙ ap (λ (x : Record). x.placement)

@@ -70,7 +70,8 @@ module _ {C R : Type 0} (firing : Raise R) (names given : ℕ) (told : Known) (s
 
       by : (k : ℕ) × (r : Record) × IsRecord s.side.system.records k r × (r.id ≡ id) → has_on n id s.side.system.cpus ≡ true
       by (k, r, is, named) = either r named (w.sound.agrees.everywhere k n r is
-          (everywhere_place r.placement ∙ ap has_components (sym (stands_at s.side.system.records k r id h.rising is named)) ∙ all)
+          (everywhere_place r.placement ∙ ap has_components (sym (stands_at s.side.system.records k r id h.rising is named))
+          ∙ all)
           (up firing names given told s h n ∙ on))
 
   on_low : (n : ℕ) → is_known_up n told ≡ true → n < length s.side.system.cpus.cpus

@@ -80,7 +80,8 @@ everywhere_place (Everywhere first skew) = refl
 pub unknown_stands : {R : Type 0} (id : ℕ) (s : SystemView R) → is_unknown id s ≡ not (is_there (stands id s))
 unknown_stands id s = by (record_of id s)
   where
-    by : (o : Option Record) → not (is_some o) ≡ not (is_there (option_map_or (λ (r : Record). whereabouts_of r.placement) o Absent))
+    by : (o : Option Record) → not (is_some o) ≡ not (is_there (option_map_or (λ (r : Record). whereabouts_of r.placement) o
+        Absent))
     by None = refl
     by (Some r) = sym (ap not (here_place r.placement))
 
@@ -167,7 +168,8 @@ module _ (id : ℕ) where
   -- a record that has the same whereabouts
   set_same : (rs : List Record) (k : ℕ) (r x : Record) → IsRecord rs k r → x.id ≡ r.id
       → whereabouts_of x.placement ≡ whereabouts_of r.placement → stands_in id (slice_set rs k x) ≡ stands_in id rs
-  set_same rs k r x is same place = look_set (λ (q : Record). q.id == id) (λ (q : Record). whereabouts_of q.placement) Absent rs k r x
+  set_same rs k r x is same place = look_set (λ (q : Record). q.id == id) (λ (q : Record). whereabouts_of q.placement) Absent
+      rs k r x
       is (ap (λ (i : ℕ). i == id) same) place
 
   -- a record of another id

@@ -43,7 +43,8 @@ IsTurnPutOff {R} s turn = (turn.why ≡ Memory) ⊎ ((turn.why ≡ Expanding)
 
 -- the cyclics of this CPU had their turns, with which it came from one system to the other, and one of them was put off
 abbrev pub IsLeft : {R : Type 0} → Raise R → ℕ → SystemView R → SystemView R → Type 0
-IsLeft {R} firing n s t = (report : JuggleReport) × (moves : MovesAway firing n report s t) × (position : ℕ) × (turn : RefusedTurn R)
+IsLeft {R} firing n s t = (report : JuggleReport) × (moves : MovesAway firing n report s t) × (position : ℕ)
+    × (turn : RefusedTurn R)
     × (slice_get (refused_turns firing n (single_ids n s) report s t moves) position ≡ Some turn) × IsTurnPutOff s turn
 
 module _ {C R : Type 0} (handler : Calls C) (firing : Raise R) where

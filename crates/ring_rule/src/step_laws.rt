@@ -2,9 +2,9 @@
 //!
 //! Where it may be made, a step keeps the ring's rule, and it is its one event of the level, or none: whatever the other side
 //! did, the log gains this step and nothing else, its record has the next position and is true there, and a lawful level stands
-//! then. `specs/FiringSteps.antt` and `specs/SoftSteps.antt` say when each step may be made, on which word, and what it tells. A clause
-//! here, the function of `ring_steps` that stands on it and the record that the step adds have one name. The functions do
-//! nothing: each one's contract is a law.
+//! then. `specs/FiringSteps.antt` and `specs/SoftSteps.antt` say when each step may be made, on which word, and what it tells.
+//! A clause here, the function of `ring_steps` that stands on it and the record that the step adds have one name. The functions
+//! do nothing: each one's contract is a law.
 
 ghost use Rattle.ring_rule.specs.FiringSteps.{AdmitLaw, LoadLaw, LoadToRaiseLaw, AddLaw, StoreLaw, PublishLaw, MarkLaw, ClearLaw};
 ghost use Rattle.ring_rule.specs.FiringSteps.{SwitchLaw, LoadSoftBankLaw};

@@ -43,7 +43,11 @@ loop-position-preserved g c =
     let k = c.loop-position.position in
     let i = c.loop-position.invariant in
     let (x, at) = get_some c.args.cpus.now.cpus c.args.number c.requires.number in
-    let (r, old) = get_some rs k (let t = c.loop-position-test.true in let n = c.len-position-end.ensures in omega (arith, t, n)) in
+    let (r, old) = get_some rs k (let t = c.loop-position-test.true in let n = c.len-position-end.ensures in omega (
+      arith,
+      t,
+      n,
+    )) in
     let is = now_at _ _ _ _ _ _ _ _ r i old in
     let same = sym (still_staying _ _ _ _ _ x at _ _ _ i r) ∙ sym (c.is_staying.ensures r is) in
     elim c.if-is_staying.branch [

@@ -17,7 +17,11 @@ loop-position-preserved g c =
     let rs = c.args.records.now.list in
     let k = c.loop-position.position in
     let i = c.loop-position.invariant in
-    let (r, at) = get_some rs k (let t = c.loop-position-test.true in let n = c.len-position-end.ensures in omega (arith, t, n)) in
+    let (r, at) = get_some rs k (let t = c.loop-position-test.true in let n = c.len-position-end.ensures in omega (
+      arith,
+      t,
+      n,
+    )) in
     elim c.if-is_staying.branch [
       | then-is_staying w ↦ (let e = passing_count p k rs r _ at (sym (c.is_staying.ensures r at) ∙ w.if-is_staying.true) in
           let d = w.count-is in omega (arith, e, i, d))

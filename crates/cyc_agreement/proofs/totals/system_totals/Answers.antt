@@ -19,7 +19,8 @@ pub returns-clause-did : goal.returns-clause-did
 returns-clause-did g c last =
     let (r, is, own) = c.in_ok-position.ensures.some in
     let rs = c.args.records.now.list in let x = c.at-record.result.now in
-    let e = record_read c.args.id c.in_ok-position.position x rs c.law.ensures.rising c.in_ok-position.ensures.some c.at-record.ensures in
+    let e = record_read c.args.id c.in_ok-position.position x rs c.law.ensures.rising c.in_ok-position.ensures.some
+    c.at-record.ensures in
     let (way, cpus, works, on) = c.ask_each-going_on.ensures.did in (
       way,
       x,

@@ -18,7 +18,8 @@ at-record-requires g c = let (r, is, own) = c.in_ok-position.ensures.some in
 
 pub ask_at-going_on-requires : goal.ask_at-going_on-requires
 ask_at-going_on-requires g c =
-    let v = c.args.cpus.now in let rs = c.args.records.now.list in let k = c.in_ok-position.position in let (last, h) = c.requires in
+    let v = c.args.cpus.now in let rs = c.args.records.now.list in let k = c.in_ok-position.position in let (last, h) =
+    c.requires in
     let x = c.at-record.result.now in
     let e = record_read c.args.id k x rs c.law.ensures.rising c.in_ok-position.ensures.some c.at-record.ensures in record {
       home = λ n bound home. (
@@ -31,7 +32,8 @@ pub returns-clause-did : goal.returns-clause-did
 returns-clause-did g c last =
     let (r, is, own) = c.in_ok-position.ensures.some in
     let rs = c.args.records.now.list in let x = c.at-record.result.now in
-    let e = record_read c.args.id c.in_ok-position.position x rs c.law.ensures.rising c.in_ok-position.ensures.some c.at-record.ensures in
+    let e = record_read c.args.id c.in_ok-position.position x rs c.law.ensures.rising c.in_ok-position.ensures.some
+    c.at-record.ensures in
     let (way, cpus, works, on) = c.ask_at-going_on.ensures.did in (
       way,
       x,

@@ -48,7 +48,8 @@ returns-in-Ok-clause-agrees g c last a = let (r, is, named, place) = c.requires.
     let shifts = subst (λ i. Shifts g.R.Raise (move_of i c.args.source c.in-Some.target)
     (Ok tt) c.args.cpus.now c.shift.new.self) (sym named) c.in-Ok.ensures in
     subst (λ rs. Agrees (record { cpus = c.shift.new.self; records = rs; last = last })) (sym (c.set_placement.ensures r is))
-    (MayGo.agrees_moved s a c.law-2.ensures.rising c.args.source c.in-Some.target c.args.position r is place (sym c.in-Some.ensures)
+    (MayGo.agrees_moved s a c.law-2.ensures.rising c.args.source c.in-Some.target c.args.position r is place (sym
+    c.in-Some.ensures)
     g.R.Raise c.law.ensures c.shift.new.self shifts)
 
 pub returns-in-Pending-clause-agrees : goal.returns-in-Pending-clause-agrees
@@ -56,7 +57,8 @@ returns-in-Pending-clause-agrees g c last a = let (r, is, named, place) = c.requ
     let s = system_of c.args.cpus.now c.args.records.now last in
     let shifts = subst (λ i. Shifts g.R.Raise (move_of i c.args.source c.in-Some.target)
     (Err c.in-Err.why) c.args.cpus.now c.shift.new.self) (sym named) c.in-Err.ensures in
-    MayGo.agrees_stayed s a c.law-2.ensures.rising c.args.source c.in-Some.target c.args.position r is place (sym c.in-Some.ensures)
+    MayGo.agrees_stayed s a c.law-2.ensures.rising c.args.source c.in-Some.target c.args.position r is place (sym
+    c.in-Some.ensures)
     g.R.Raise c.law.ensures c.shift.new.self c.in-Err.why shifts
 
 pub returns-in_default-why : goal.returns-in_default-why

@@ -47,10 +47,10 @@ same_row rows j k x r is_x is same = sym is_x.1 ∙ ap (λ n. get_or rows n x) s
 pub unreachable-requires : goal.unreachable-requires
 unreachable-requires g c =
     let rows = c.args.table.now.rows in
-    let low : c.loop-position._place < length rows =
+    let low : c.loop-position._position < length rows =
     (let a = c.loop-position-test.true in let b = c.len-position-end.ensures.value in omega (arith, a, b)) in
-    let (r, is) = row_here rows c.loop-position._place low in
-    walk_on (λ (x : Row). x.timer.id) rows c.loop-position.passed c.loop-position._place c.loop-position.invariant.walk r low
+    let (r, is) = row_here rows c.loop-position._position low in
+    walk_on (λ (x : Row). x.timer.id) rows c.loop-position.passed c.loop-position._position c.loop-position.invariant.walk r low
     c.in_default.ensures.none
 
 pub load_pend-pend-requires-clause-lock : goal.load_pend-pend-requires-clause-lock
@@ -72,7 +72,8 @@ returns-then-pend-gt0-clause-lock g c = asked_more g.R.Raise Lock c.record-kept.
 
 pub returns-then-pend-gt0-clause-low : goal.returns-then-pend-gt0-clause-low
 returns-then-pend-gt0-clause-low g c = asked_more g.R.Raise Low c.record-kept.result.level
-    c.in-Some.found.0 c.load_pend-pend.result c.args.low.now c.loop-position.low c.load_pend-pend.new.low c.loop-position.invariant.low
+    c.in-Some.found.0 c.load_pend-pend.result c.args.low.now c.loop-position.low c.load_pend-pend.new.low
+    c.loop-position.invariant.low
     c.load_pend-pend.ensures.low
 
 pub returns-then-pend-gt0-clause-pending : goal.returns-then-pend-gt0-clause-pending
@@ -97,18 +98,19 @@ loop-position-preserved g c =
     let zero : n ≡ 0 = (let a = c.if-pend-gt0.false in omega (arith, a)) in
     let (k, r, is, named, there, next) = c.in-Some.ensures.some in
     let level = (c.record-kept.ensures k r is there).0 in
-    let low : c.loop-position._place < length rows =
+    let low : c.loop-position._position < length rows =
     (let a = c.loop-position-test.true in let b = c.len-position-end.ensures.value in omega (arith, a, b)) in
-    let here : k ≡ c.loop-position._place =
-    walk_next (λ (x : Row). x.timer.id) rows c.loop-position.passed c.loop-position._place inv.walk k r low next in
+    let here : k ≡ c.loop-position._position =
+    walk_next (λ (x : Row). x.timer.id) rows c.loop-position.passed c.loop-position._position inv.walk k r low next in
     record {
-      walk = walk_more (λ (x : Row). x.timer.id) rows c.loop-position.passed c.loop-position._place inv.walk c.law.ensures.rising id _
-          (at_row rows k c.loop-position._place id r is named here) refl;
+      walk = walk_more (λ (x : Row). x.timer.id) rows c.loop-position.passed c.loop-position._position inv.walk
+          c.law.ensures.rising id _
+          (at_row rows k c.loop-position._position id r is named here) refl;
       lock = asked_more g.R.Raise Lock own id n c.args.lock.now c.loop-position.lock c.load_pend-pend.new.lock
           inv.lock e.lock;
       low = asked_more g.R.Raise Low own id n c.args.low.now c.loop-position.low c.load_pend-pend.new.low inv.low
           e.low;
-      quiet_lock = λ j x less is_x at. elim (cases_eq j c.loop-position._place) [
+      quiet_lock = λ j x less is_x at. elim (cases_eq j c.loop-position._position) [
         | inl same ↦
             (let one : x ≡ r = same_row rows j k x r is_x is (same ∙ sym here) in
             ap (λ q. seen_of q (g.R.Raise.view c.load_pend-pend.new.lock)) (ap (λ (y : Row). y.timer.id) one ∙ named)
@@ -122,7 +124,7 @@ loop-position-preserved g c =
             c.load_pend-pend.new.lock e.lock in
             omega (arith, was, lower))
       ];
-      quiet_low = λ j x less is_x at. elim (cases_eq j c.loop-position._place) [
+      quiet_low = λ j x less is_x at. elim (cases_eq j c.loop-position._position) [
         | inl same ↦
             (let one : x ≡ r = same_row rows j k x r is_x is (same ∙ sym here) in
             ap (λ q. seen_of q (g.R.Raise.view c.load_pend-pend.new.low)) (ap (λ (y : Row). y.timer.id) one ∙ named)

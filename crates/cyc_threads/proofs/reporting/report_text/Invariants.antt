@@ -4,4 +4,5 @@ use Rattle.cyc_threads.specs.Reporting.{report_text}
 use Rattle.cyc_threads.proofs.reporting.report_text.Given as goal
 
 abbrev pub invariant-loop-position : goal.invariant-loop-position
-invariant-loop-position l = string_bytes l.text ≡ report_text (take l.position (map string_bytes l.names)) (take l.position l.lines)
+invariant-loop-position l = string_bytes l.text ≡ report_text (take l.position (map string_bytes l.names)) (take l.position
+    l.lines)

@@ -40,7 +40,8 @@ invariant_of-self c =
       subst HaveCounts (sym e) (counts_removed rs c.args.position c.self.invariant.1),
       subst HaveAllCounts (sym e) (all_removed rs c.args.position c.self.invariant.2),
       λ _. omega (arith, len, cap, small),
-      on_some c.remove-2.result _ (there_too c) c.remove-2.ensures.items ∙ ap (λ ids. remove ids c.args.position) c.self.invariant.4
+      on_some c.remove-2.result _ (there_too c) c.remove-2.ensures.items
+          ∙ ap (λ ids. remove ids c.args.position) c.self.invariant.4
           ∙ sym (ap (map id_in) (gone c) ∙ map_removed id_in c.self.inside.list.items c.args.position),
       λ _. omega (arith, less, room, tight),
     )

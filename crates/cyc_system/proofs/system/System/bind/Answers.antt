@@ -29,7 +29,8 @@ invariant_of-self g c =
     let q = subst (λ (x : SystemView _). IsPresent c.args.id c.in-Some.position r x) (sym c.self.view_is) p in
     let st = standing s c.args.id c.in-Some.position c.in-On.home c.in-On.bound r c.at.result.now c.self.invariant.0.agrees
     c.law-2.ensures.rising q c.at.ensures c.in-On.is in
-    let done = agrees_replaced s c.in-Some.position c.in-On.home false c.in-On.bound c.in-On.home c.at.result.now c.self.inside.cpus
+    let done = agrees_replaced s c.in-Some.position c.in-On.home false c.in-On.bound c.in-On.home c.at.result.now
+    c.self.inside.cpus
     c.self.invariant.0.agrees c.law-2.ensures.rising c.at.ensures c.in-On.is
     (but_same c.at.result.now.id c.self.inside.cpus c.self.inside.cpus (same_none c.self.inside.cpus)) st.online st.own_here
     st.own_only in
@@ -192,6 +193,13 @@ returns g c =
         c.in-On.home,
         (c.in-On.bound, home),
         c.in_ok-go.ensures,
-        (c.in-Some.position, c.at.result.now, c.at.ensures, st.named, c.set_placement-2.ensures c.at.result.now c.at.ensures, refl),
+        (
+          c.in-Some.position,
+          c.at.result.now,
+          c.at.ensures,
+          st.named,
+          c.set_placement-2.ensures c.at.result.now c.at.ensures,
+          refl,
+        ),
       ),
     )))
