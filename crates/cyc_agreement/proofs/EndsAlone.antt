@@ -21,7 +21,7 @@ use Rattle.cyc_agreement.specs.Holding.{Holds}
 use Rattle.cyc_agreement.specs.declared.removing.SystemRemoval.TheVariants as system_removal
 use Rattle.cyc_agreement.specs.Removing.{BeginsRemoval, counts_of}
 use Rattle.cyc_agreement.specs.Polling.{PollsRemoval}
-use Rattle.cyc_agreement.specs.Withdrawing.{system, WithdrawsAt}
+use Rattle.cyc_agreement.specs.Withdrawing.{system, Withdraws, LeavesAt}
 use Rattle.cyc_agreement.proofs.CpuSpots.{get_set_same, changed, cpu_there}
 use Rattle.cyc_agreement.proofs.Spots.{get_some, same_some, none_some}
 use Rattle.cyc_agreement.proofs.One.{begun, polled, less_done, less_ended, done_fits, ended_fits, leaving_is, removal_there}
@@ -84,7 +84,8 @@ module _ {R : Type 0} (firing : Raise R) (v : CpusView R) (rs : List Record) (fi
 
     -- the removal is done as it begins
     module _ (receipt : Receipt) (e : Changes firing x (BeginRemove id (Ok (Done receipt))) y) where
-      done_at : WithdrawsAt n id place v (with_cpu v n y) rs (slice_set rs place (ended_with receipt))
+      done_at : Withdraws id place v (with_cpu v n y) rs (slice_set rs place (ended_with receipt))
+          × LeavesAt n id v (with_cpu v n y)
       done_at = at_end v n id place x y at (begun firing id x y law (Done receipt) e) rs own.0 own.2
           (slice_set rs place (ended_with receipt)) (summed (ended_on n own.0) (counts_of receipt))
           (home_has v rs first id place n h.agrees rising own) (less_done firing id x y law receipt e).gone
@@ -112,7 +113,7 @@ module _ {R : Type 0} (firing : Raise R) (v : CpusView R) (rs : List Record) (fi
 
     -- it stays open
     module _ (kept : ℕ) (e : Changes firing x (BeginRemove id (Ok (Kept kept))) y) where
-      opens_at : WithdrawsAt n id place v (with_cpu v n y) rs rs
+      opens_at : Withdraws id place v (with_cpu v n y) rs rs × LeavesAt n id v (with_cpu v n y)
       opens_at = at_open v n id place x y at (begun firing id x y law (Kept kept) e) rs own.0 own.2 rs refl
 
       pub stays_open : (last total : ℕ) → total ≡ kept → BeginsRemoval firing id (Ok (system_removal.Kept total))
@@ -129,7 +130,8 @@ module _ {R : Type 0} (firing : Raise R) (v : CpusView R) (rs : List Record) (fi
     module _ (was : x.removal ≡ Some id) (was_laws : (m : ℕ) (z : CpuView R) → IsCpu m z v → IsLawful firing.view z)
         (was_open : OfCpu n (λ cpu. true ≡ is_leaving_here id cpu) v) where
       module _ (receipt : Receipt) (e : Changes firing x (PollRemove (Some receipt)) y) where
-        ended_at : WithdrawsAt n id place v (with_cpu v n y) rs (slice_set rs place (ended_with receipt))
+        ended_at : Withdraws id place v (with_cpu v n y) rs (slice_set rs place (ended_with receipt))
+            × LeavesAt n id v (with_cpu v n y)
         ended_at = at_end v n id place x y at (polled firing id x y law (Some receipt) was e) rs own.0 own.2
             (slice_set rs place (ended_with receipt)) (summed (ended_on n own.0) (counts_of receipt))
             (home_has v rs first id place n h.agrees rising own) (less_ended firing id x y law receipt was e).gone
@@ -154,7 +156,7 @@ module _ {R : Type 0} (firing : Raise R) (v : CpusView R) (rs : List Record) (fi
             ended_at laws false over refl)
 
       module _ (e : Changes firing x (PollRemove None) y) where
-        waits_at : WithdrawsAt n id place v (with_cpu v n y) rs rs
+        waits_at : Withdraws id place v (with_cpu v n y) rs rs × LeavesAt n id v (with_cpu v n y)
         waits_at = at_open v n id place x y at (polled firing id x y law None was e) rs own.0 own.2 rs refl
 
         waiting : y.removal ≡ Some id

@@ -42,7 +42,6 @@ pub record Withdraws {R : Type 0} (id position : ℕ) (v w : CpusView R) (rs rs'
   pub bounded : (n most : ℕ) → most_on n v ≡ Some most → (ended_on n before).sent ≤ most → (ended_on n after).sent ≤ most
 
 -- it may have left the CPU of this number, and no other; and if not, its removal is open there
-pub record WithdrawsAt {R : Type 0} (n id position : ℕ) (v w : CpusView R) (rs rs' : List Record) : Type 0 where
-  pub withdraws : Withdraws id position v w rs rs'
+pub record LeavesAt {R : Type 0} (n id : ℕ) (v w : CpusView R) : Type 0 where
   pub leaving : has n id w ≡ true → removal_on n w ≡ Some id
   pub elsewhere : (m : ℕ) → m ≢ n → slice_get w.cpus m ≡ slice_get v.cpus m

@@ -10,7 +10,7 @@ ghost use Rattle.cyc_types.specs.Counting.{no_counts};
 ghost use Rattle.cyc_agreement.specs.System.{has, removal_on};
 ghost use Rattle.cyc_agreement.specs.Removing.{BeginsOn, counts_of, kept_in};
 ghost use Rattle.cyc_agreement.specs.Polling.{PollsOn};
-ghost use Rattle.cyc_agreement.specs.Withdrawing.{system, Owns, WithdrawsAt};
+ghost use Rattle.cyc_agreement.specs.Withdrawing.{system, Owns, Withdraws, LeavesAt};
 
 use crate::cpus::Cpus;
 use cyc_cpu::Removal;
@@ -51,7 +51,8 @@ pub(crate) fn begin_at<R: Raise>(
     ensures did { (last : ℕ) → (found : TheRemoval) × (result ≡ kept_in found)
         × BeginsOn R.Raise id number found (system cpus.old records.old.list last) (system cpus.new records.new.list last) }
     ensures few { result < 2 ^ 32 }
-    ensures withdraws { WithdrawsAt number id position cpus.old cpus.new records.old.list records.new.list }
+    ensures withdraws { Withdraws id position cpus.old cpus.new records.old.list records.new.list
+        × LeavesAt number id cpus.old cpus.new }
 {
     cpus.law();
     let most = cpus.cpu(number).most();
@@ -81,7 +82,8 @@ pub(crate) fn poll_at<R: Raise>(
     requires open_here { removal_on number cpus.old ≡ Some id }
     ensures did { (last : ℕ) → (answer : Option TheReceipt)
         × PollsOn R.Raise id number answer (system cpus.old records.old.list last) (system cpus.new records.new.list last) }
-    ensures withdraws { WithdrawsAt number id position cpus.old cpus.new records.old.list records.new.list }
+    ensures withdraws { Withdraws id position cpus.old cpus.new records.old.list records.new.list
+        × LeavesAt number id cpus.old cpus.new }
 {
     cpus.law();
     let most = cpus.cpu(number).most();

@@ -56,21 +56,24 @@ pub record MayPlace {R : Type 0} (id : ℕ) (carried : Sent) (v : CpuView R) : T
   pub lost : carried.lost ≤ carried.sent
   pub most : carried.sent ≤ v.most
 
--- a cyclic was added: memory for it was taken, the size grew where it had to and was allowed to, and it was put in
-pub record Adds {R : Type 0} (firing : Raise R)
-    (id : ℕ) (level : Level) (when : When) (now : ℕ) (v w : CpuView R) : Type 0 where
+-- the cyclic that an add brings at this moment
+abbrev pub added_cyclic : ℕ → Level → When → ℕ → Cyclic
+added_cyclic id level when now = new_cyclic id level when.interval (first when.start when.interval now)
+
+-- this cyclic was added: memory for it was taken, the size grew where it had to and was allowed to, and it was put in
+pub record Adds {R : Type 0} (firing : Raise R) (c : Cyclic) (v w : CpuView R) : Type 0 where
   -- the CPU with the memory, and then with the size
   pub reserved : CpuView R
   pub widened : CpuView R
   pub reserves : Reserves firing 1 v reserved
   pub allowed : MayWiden firing.view 1 reserved
   pub widens : Widens firing 1 reserved widened
-  pub enters : Places firing (new_cyclic id level when.interval (first when.start when.interval now)) widened w
+  pub enters : Places firing c widened w
 
 -- what a call does that reaches no handler
 abbrev pub Changes : {R : Type 0} → Raise R → CpuView R → CpuCall → CpuView R → Type 0
 Changes firing v (Add id level when now (Ok done)) w =
-    HasNoCyclic id v.cyclics × (now ≢ never) × Adds firing id level when now v w
+    HasNoCyclic id v.cyclics × (now ≢ never) × Adds firing (added_cyclic id level when now) v w
 Changes firing v (Add id level when now (Err BadNow)) w = HasNoCyclic id v.cyclics × (now ≡ never) × (w ≡ v)
 Changes firing v (Add id level when now (Err e)) w =
     HasNoCyclic id v.cyclics × (now ≢ never) × Looked firing v w × WhyNotReserved firing.view 1 v w e

@@ -86,7 +86,7 @@ module _ {C R : Type 0} (handler : Calls C) (firing : Raise R) (id : ℕ) where
 
   pub stays_off : (s t : Running C R) (way : List CpuCall) → IsLawful firing.view s.cpu → IsOff firing.view id s.cpu
       → All (PutsNot id) way →
-      (run : FoldsTo D s way t) → StaysOff handler.count firing.view D id s way t run
+      (run : FoldsTo D s way t) → StaysOff handler.count firing.view D id run
   stays_off s t [] law gone not run = record {
     off = subst (λ (x : Running C R). IsOff firing.view id x.cpu) run gone;
     uncalled = ap (λ (x : Running C R). handler.count x.calls id) (sym run);

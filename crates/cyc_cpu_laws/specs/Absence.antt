@@ -10,7 +10,7 @@ use Rattle.cyc_cpu_laws.specs.Accounts.{account_in}
 
 -- after this run the id is still off the CPU, and in it no handler of it was called, and no end was raised for it
 pub record StaysOff {C R : Type 0} (count : C → ℕ → ℕ) (view : R → FiringView)
-    (D : Running C R → CpuCall → Running C R → Type 0) (id : ℕ) (s : Running C R) (way : List CpuCall) (t : Running C R)
+    (D : Running C R → CpuCall → Running C R → Type 0) (id : ℕ) {s t : Running C R} {way : List CpuCall}
     (run : FoldsTo D s way t) : Type 0 where
   pub off : IsOff view id t.cpu
   pub uncalled : count t.calls id ≡ count s.calls id

@@ -19,5 +19,5 @@ pub fn absence_law<C: Calls, R: Raise>()
     ensures { (id : ℕ) (s t : Running C R) (way : List CpuCall) → IsLawful R.view s.cpu
         → IsOff R.view id s.cpu → All (PutsNot id) way
         → (run : FoldsTo (Steps C.Calls R.Raise no_interrupts) s way t)
-        → StaysOff C.count R.view (Steps C.Calls R.Raise no_interrupts) id s way t run }
+        → StaysOff C.count R.view (Steps C.Calls R.Raise no_interrupts) id run }
 {}

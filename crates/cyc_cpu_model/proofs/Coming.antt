@@ -13,7 +13,7 @@ use Rattle.cyc_core.specs.Tables.{Tables, level_of}
 use Rattle.cyc_timers.specs.Rows.{Cyclic as Timed}
 use Rattle.cyc_timers.specs.Acts.{same_level}
 use Rattle.cyc_cpu.specs.Cpu.{CpuView, HasRisingIds, Looked, Reserves, Widens, Places, size_for, bank_for, least_bank}
-use Rattle.cyc_cpu.specs.Calls.{Adds}
+use Rattle.cyc_cpu.specs.Calls.{Adds, added_cyclic}
 use Rattle.cyc_cpu.specs.Soft.{raise_tables}
 use Rattle.cyc_model.specs.Cpu.{Cpu, nothing_here}
 use Rattle.cyc_model.specs.Moving.{put_in, place_here, widen_here, enter_here, switch_here, least_bank as model_least}
@@ -128,7 +128,7 @@ widened n more online v w wd =
 -- ---- an add
 
 pub added : (n id now : ℕ) (online : Bool) (level : Level) (when : When) (v w : CpuView Tables)
-    → (a : Adds raise_tables id level when now v w)
+    → (a : Adds raise_tables (added_cyclic id level when now) v w)
     → HasRisingIds w.cyclics → shown_cpu online w
     ≡ (enter_here n a.enters.index (new_cyclic id level when.start when.interval now) (shown_cpu online v)).cpu
 added n id now online level when v w a rising =

@@ -18,7 +18,7 @@ use Rattle.cyc_core.specs.Tables.{Tables, level_of}
 use Rattle.cyc_timers.specs.Rows.{Cyclic as Timed}
 use Rattle.cyc_timers.specs.Acts.{same_level}
 use Rattle.cyc_cpu.specs.Cpu.{CpuView, Places}
-use Rattle.cyc_cpu.specs.Calls.{Adds}
+use Rattle.cyc_cpu.specs.Calls.{Adds, added_cyclic}
 use Rattle.cyc_cpu.specs.Soft.{raise_tables}
 use Rattle.cyc_model.specs.Acts.{Act, At, Call, at_own, same_soft, events_at}
 use Rattle.cyc_model.specs.Cpu.{Cpu, nothing_here, then_here, handler_level_of}
@@ -203,7 +203,7 @@ place_free n online x soft v w p =
     (λ e. enabled_at (same_level Low x.timer.level) x.timer.id p.index v.low w.low p.low (ap (same_level Low) e))
 
 pub add_free : (n id now : ℕ) (online : Bool) (level : Level) (series : When) (soft : Soft) (v w : CpuView Tables)
-    (a : Adds raise_tables id level series now v w)
+    (a : Adds raise_tables (added_cyclic id level series now) v w)
     → AllCanBeAdmitted (events_at n soft (enter_here n a.enters.index (new_cyclic id level series.start series.interval now)
     (shown_cpu online v)).acts) (level_at soft (shown_cpu online v))
 add_free n id now online level series soft v w a =

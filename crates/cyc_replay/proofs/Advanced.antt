@@ -55,7 +55,7 @@ pub begins : (step now : ℕ) (s : State) (m : Machine) → step ≤ most_steps 
     → s.suspended ≡ false
     → HasFired tally_count 0 (fired_and_lost 0 0) (at_clock now s) (running_system m.tally m.system)
     (running_system m.tally m.system)
-    → IsAdvancing step 0 0 0 s (running_system m.tally m.system) (record m { clock = now })
+    → IsAdvancing step 0 (fired_and_lost 0 0) s (running_system m.tally m.system) (record m { clock = now })
 begins step now s m few r h before awake fired = record {
   reached = r;
   few = few;
@@ -76,7 +76,7 @@ begins step now s m few r h before awake fired = record {
 
 -- the clock is the one that was set
 pub fired_at : (step n expired lost now : ℕ) (s : State) (first : RunningSystem TallyView Tables) (t : Machine)
-    → IsAdvancing step n expired lost s first t → t.clock ≡ now
+    → IsAdvancing step n (fired_and_lost expired lost) s first t → t.clock ≡ now
     → HasFired tally_count n (fired_and_lost expired lost) (at_clock now s) first (running_system t.tally t.system)
 fired_at step n expired lost now s first t a clock =
     subst (λ k. HasFired tally_count n (fired_and_lost expired lost) (at_clock k s) first (running_system t.tally t.system))
@@ -84,8 +84,9 @@ fired_at step n expired lost now s first t a clock =
 
 -- after the last fire
 pub advanced : (step k n expired lost now : ℕ) (s : State) (first : RunningSystem TallyView Tables) (t : Machine)
-    → IsAdvancing step n expired lost s first t → t.clock ≡ now → now < never
-    → IsAdvanced tally_count now expired lost s first (running_system t.tally t.system) → Comes [] s (advance k now s) t
+    → IsAdvancing step n (fired_and_lost expired lost) s first t → t.clock ≡ now → now < never
+    → IsAdvanced tally_count now (fired_and_lost expired lost) s first (running_system t.tally t.system)
+    → Comes [] s (advance k now s) t
 advanced step k n expired lost now s first t a clock before d =
     let still = still_fires now (online_cpus s) (record s { clock = now }) in
     let o = d.comes k in

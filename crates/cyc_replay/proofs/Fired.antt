@@ -176,7 +176,7 @@ why_of d (Err e) = e.why
 -- ---- no fire is refused
 
 module _ (step n expired lost : ℕ) (s : State) (first : RunningSystem TallyView Tables) (m : Machine)
-    (a : IsAdvancing step n expired lost s first m)
+    (a : IsAdvancing step n (fired_and_lost expired lost) s first m)
     (low : n < length m.system.cpus.cpus) where
   low_ones : (k : ℕ) → Has k (online_below n (at_clock m.clock s)) → k < length s.cpus
   low_ones k has = has_low k (length s.cpus) (online_below n (at_clock m.clock s))
@@ -245,22 +245,22 @@ length_shown (o ∷ os) [] long = refl
 length_shown (o ∷ os) (v ∷ vs) long = ap suc (length_shown os vs (omega (arith, long)))
 
 pub many_here : (step n expired lost : ℕ) (s : State) (first : RunningSystem TallyView Tables) (m : Machine)
-    → IsAdvancing step n expired lost s first m
+    → IsAdvancing step n (fired_and_lost expired lost) s first m
     → length s.cpus ≡ length m.system.cpus.cpus
 many_here step n expired lost s first m a =
     sym (length_fires m.clock (online_below n (at_clock m.clock s)) (at_clock m.clock s))
     ∙ ap length a.fired.comes.shows.cpus ∙ length_shown m.system.cpus.online m.system.cpus.cpus a.system.agrees.long
 
 pub low_here : (step n expired lost : ℕ) (s : State) (first : RunningSystem TallyView Tables) (m : Machine)
-    → IsAdvancing step n expired lost s first m
+    → IsAdvancing step n (fired_and_lost expired lost) s first m
     → n < length m.system.cpus.cpus → n < length s.cpus
 low_here step n expired lost s first m a low = let e = many_here step n expired lost s first m a in omega (arith, low, e)
 
 pub passed_on : (step n expired lost : ℕ) (s : State) (first : RunningSystem TallyView Tables) (m t : Machine)
-    → IsAdvancing step n expired lost s first m
+    → IsAdvancing step n (fired_and_lost expired lost) s first m
     → running_system t.tally t.system ≡ running_system m.tally m.system → t.clock ≡ m.clock → SameNames m t
     → HasFired tally_count (n + 1) (fired_and_lost expired lost) (at_clock m.clock s) first (running_system m.tally m.system)
-    → IsAdvancing step (n + 1) (expired + 0) (lost + 0) s first t
+    → IsAdvancing step (n + 1) (fired_and_lost (expired + 0) (lost + 0)) s first t
 passed_on step n expired lost s first m t a same clock names next =
     let system = ap (λ (r : RunningSystem TallyView Tables). r.system) same in
     let tally = ap (λ (r : RunningSystem TallyView Tables). r.calls) same in

@@ -238,7 +238,7 @@ module _ {C : Type 0} (handler : Calls C) where
 
   pub has_ended : (now n expired lost : ℕ) (m : State) (s t : RunningSystem C Tables) → n ≡ length m.cpus
       → HasFired handler.count n (fired_and_lost expired lost) (at_clock now m) s t
-      → IsAdvanced handler.count now expired lost m s t
+      → IsAdvanced handler.count now (fired_and_lost expired lost) m s t
   has_ended now n expired lost m s t end h =
       let all : online_below n m ≡ online_cpus m = ap (λ j. numbers_from 0 (λ (c : Cpu). c.online) (take j m.cpus)) end
       ∙ ap (numbers_from 0 (λ (c : Cpu). c.online)) (take-length m.cpus) in

@@ -42,8 +42,8 @@ abbrev pub HasFired : {C : Type 0} → (C → ℕ → ℕ) → ℕ → Expiratio
 HasFired count n all m s t = HaveFired count (online_below n m) all m s t
 
 -- the system did what the word advance does at this moment, and the line of the word tells these two numbers
-pub record IsAdvanced {C : Type 0} (count : C → ℕ → ℕ) (now expired lost : ℕ) (m : State)
+pub record IsAdvanced {C : Type 0} (count : C → ℕ → ℕ) (now : ℕ) (all : Expirations) (m : State)
     (s t : RunningSystem C Tables) : Type 0 where
   pub comes : (step : ℕ) → ComesTo [] m (advance step now m) t.system
-  pub line : (step : ℕ) → (advance step now m).line ≡ fired step expired lost
+  pub line : (step : ℕ) → (advance step now m).line ≡ fired step all.expired all.lost
   pub called : (step id : ℕ) → count t.calls id ≡ count s.calls id + calls_of id (advance step now m).acts

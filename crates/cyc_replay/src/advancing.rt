@@ -14,6 +14,7 @@ ghost use Rattle.cyc_model.specs.Advance.{advance};
 ghost use Rattle.cyc_replay.specs.Machine.{Holds, IsReached};
 ghost use Rattle.cyc_text.specs.Status.{IsMemory};
 ghost use Rattle.cyc_replay.specs.Words.{Comes, TakesWord};
+ghost use Rattle.cyc_replay.specs.SystemAdvancing.{fired_and_lost};
 ghost use Rattle.cyc_replay.specs.Advancing.{IsAdvancing};
 
 use crate::lines::write_answer;
@@ -50,11 +51,11 @@ pub fn count_cpus(system: &System<LevelCore>) -> u32
 /// The CPU of this number fires at the machine's clock, where it is online. The tally refuses no call.
 fn fire_cpu(machine: &mut Machine, cpu: u32) -> Made
     requires ready { (step expired lost : ℕ) × (s : State) × (first : RunningSystem TallyView Tables)
-        × IsAdvancing step cpu expired lost s first machine.old }
+        × IsAdvancing step cpu (fired_and_lost expired lost) s first machine.old }
     requires there { cpu < length machine.old.system.cpus.cpus }
     ensures next { (step expired lost : ℕ) (s : State) (first : RunningSystem TallyView Tables)
-        → IsAdvancing step cpu expired lost s first machine.old
-        → IsAdvancing step (cpu + 1) (expired + result.expired) (lost + result.lost) s first machine.new }
+        → IsAdvancing step cpu (fired_and_lost expired lost) s first machine.old
+        → IsAdvancing step (cpu + 1) (fired_and_lost (expired + result.expired) (lost + result.lost)) s first machine.new }
     ensures clock { machine.new.clock ≡ machine.old.clock }
     ensures many { length machine.new.system.cpus.cpus ≡ length machine.old.system.cpus.cpus }
     ensures few_expired { result.expired < 18446744073709551616 }
@@ -84,9 +85,11 @@ fn fire_cpu(machine: &mut Machine, cpu: u32) -> Made
 /// The CPUs fire at the machine's clock, by rising number, where they are online. The tally refuses no call.
 fn fire_all(machine: &mut Machine) -> Made
     requires ready { (step : ℕ) × (s : State) × (first : RunningSystem TallyView Tables)
-        × IsAdvancing step 0 0 0 s first machine.old }
-    ensures all { (step : ℕ) (s : State) (first : RunningSystem TallyView Tables) → IsAdvancing step 0 0 0 s first machine.old
-        → IsAdvancing step (length machine.old.system.cpus.cpus) result.expired result.lost s first machine.new }
+        × IsAdvancing step 0 (fired_and_lost 0 0) s first machine.old }
+    ensures all { (step : ℕ) (s : State) (first : RunningSystem TallyView Tables)
+        → IsAdvancing step 0 (fired_and_lost 0 0) s first machine.old
+        → IsAdvancing step (length machine.old.system.cpus.cpus) (fired_and_lost result.expired result.lost) s first
+        machine.new }
     ensures clock { machine.new.clock ≡ machine.old.clock }
 {
     let cpus = count_cpus(&machine.system);

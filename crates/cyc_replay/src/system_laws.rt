@@ -261,7 +261,8 @@ pub fn advance_law<C: Calls>()
         → HasFired C.count n (fired_and_lost expired lost) m s t → is_online n t.system.cpus ≡ false
         → HasFired C.count (n + 1) (fired_and_lost expired lost) m s t }
     ensures ends { (now n expired lost : ℕ) (m : State) (s t : RunningSystem C Tables) → n ≡ length m.cpus
-        → HasFired C.count n (fired_and_lost expired lost) (at_clock now m) s t → IsAdvanced C.count now expired lost m s t }
+        → HasFired C.count n (fired_and_lost expired lost) (at_clock now m) s t
+        → IsAdvanced C.count now (fired_and_lost expired lost) m s t }
 {}
 
 /// A `softint` of a system that no handler stops is what the word `softint` does before it polls removals; or both are refused.
