@@ -19,8 +19,8 @@ use Rattle.cyc_types.specs.Expirations.{Expiration, expirations, after, all_afte
 use Rattle.cyc_types.specs.Timers.{Timer, HasDistinctIds, IsSound, earliest}
 use Rattle.cyc_types.proofs.Firings.{Firing, fire_start}
 use Rattle.cyc_timers.specs.Rows.{Cyclic, timers}
-use Rattle.cyc_timers.specs.Acts.{ids_at, is_at, is_of, same_level, timer_of, lost_after}
-use Rattle.cyc_timers.specs.Made.{Makes, Stops}
+use Rattle.cyc_timers.specs.Acts.{ids_at, is_at, is_of, same_level, timer_of, lost_after, acting}
+use Rattle.cyc_timers.specs.Made.{Makes, Stops, fire_state}
 use Rattle.cyc_timers.specs.declared.fire.Fired.{Fired}
 use Rattle.cyc_timers.specs.declared.fire.FireRefused.{FireRefused}
 use Rattle.cyc_timers.proofs.Making.{same_id}
@@ -137,9 +137,10 @@ module _ {R : Type 0} (firing : Raise R) (now : ℕ) (soon : now < never) where
   -- a part, as handlers that write down would have it
   as_noted : (high : Option ℕ) (xs : List Expiration) (ids : List ℕ) (x y : CpuView R) (left : Granted) (lost : ℕ)
       → ids_at High (timers x.cyclics) xs ≡ pending high →
-      Makes (at_level granted_called High) granted_count firing now xs x.cyclics y.cyclics (sides (grant high) x)
-      (sides left y) lost →
-      Makes (at_level notes High) noted firing now xs x.cyclics y.cyclics (sides ids x) (sides (ids ++ pending high) y) lost
+      Makes (acting (at_level granted_called High) granted_count firing) now xs (fire_state x.cyclics (sides (grant high) x))
+      (fire_state y.cyclics (sides left y)) lost →
+      Makes (acting (at_level notes High) noted firing) now xs (fire_state x.cyclics (sides ids x))
+      (fire_state y.cyclics (sides (ids ++ pending high) y)) lost
   as_noted high xs ids x y left lost is m = record {
     acts = record {
       lock_way = m.acts.lock_way;
@@ -163,7 +164,8 @@ module _ {R : Type 0} (firing : Raise R) (now : ℕ) (soon : now < never) where
     pub fires : Firing now made (timers v.cyclics) (timers s.cpu.cyclics)
     pub sound : All IsSound (timers s.cpu.cyclics)
     pub same : SameCpu (marked s.cpu.suspended v) s.cpu
-    pub makes : Makes (at_level notes High) noted firing now made v.cyclics s.cpu.cyclics (sides [] v) (sides ids s.cpu) lost
+    pub makes : Makes (acting (at_level notes High) noted firing) now made (fire_state v.cyclics (sides [] v))
+        (fire_state s.cpu.cyclics (sides ids s.cpu)) lost
     pub next : ComesNext now s.high (timers s.cpu.cyclics)
 
   at_start : (v : CpuView R) → All IsSound (timers v.cyclics) → Stands v [] [] 0 (paused None v)
@@ -200,7 +202,8 @@ module _ {R : Type 0} (firing : Raise R) (now : ℕ) (soon : now < never) where
   goes_on : (v : CpuView R) (made xs rest : List Expiration) (ids more : List ℕ) (lost lost' : ℕ) (s t : Paused R)
       → HasDistinctIds (timers v.cyclics) → Stands v made ids lost s →
       expirations now (timers s.cpu.cyclics) ≡ xs ++ rest → SameCpu s.cpu t.cpu →
-      Makes (at_level notes High) noted firing now xs s.cpu.cyclics t.cpu.cyclics (sides ids s.cpu) (sides more t.cpu) lost' →
+      Makes (acting (at_level notes High) noted firing) now xs (fire_state s.cpu.cyclics (sides ids s.cpu))
+      (fire_state t.cpu.cyclics (sides more t.cpu)) lost' →
       (expirations now (timers t.cpu.cyclics) ≡ rest → ComesNext now t.high (timers t.cpu.cyclics)) →
       Stands v (made ++ xs) more (lost + lost') t × (expirations now (timers t.cpu.cyclics) ≡ rest)
   goes_on v made xs rest ids more lost lost' s t distinct at listed same m next =
@@ -269,8 +272,9 @@ module _ {R : Type 0} (firing : Raise R) (now : ℕ) (soon : now < never) where
   abbrev Whole : CpuView R → CpuView R → ℕ → Fired → List ℕ → ℕ → Type 0
   Whole v w expired last ids lost = MayFire now (awake v) × SameCpu (awake v) w
       × (expired ≡ length (expirations now (timers v.cyclics))) × (last.next ≡ earliest (timers w.cyclics))
-      × Makes (at_level notes High) noted firing now (expirations now (timers v.cyclics)) v.cyclics w.cyclics (sides [] v)
-      (sides ids w) lost
+      × Makes (acting (at_level notes High) noted firing) now (expirations now (timers v.cyclics)) (fire_state v.cyclics (sides
+      [] v))
+      (fire_state w.cyclics (sides ids w)) lost
 
   -- after a call that makes nothing it stands where it stood
   rests : (call : PartCall) (v : CpuView R) (made : List Expiration) (ids : List ℕ) (lost : ℕ) (s t : Paused R)
@@ -343,10 +347,12 @@ module _ {R : Type 0} (firing : Raise R) (now : ℕ) (soon : now < never) where
         b,
         omega (arith, c, both, count, sum_expired),
         d,
-        subst (λ n. Makes (at_level notes High) noted firing now (expirations now (timers v.cyclics)) v.cyclics w.cyclics
-            (sides [] v) (sides (ids ++ (pending s.high ++ handed_out (Err e ∷ parts))) w) n) lost_are
-            (subst (λ ns. Makes (at_level notes High) noted firing now (expirations now (timers v.cyclics)) v.cyclics w.cyclics
-            (sides [] v) (sides ns w) ((lost + e.lost) + (sum_by lost_of parts + last.lost))) ids_are makes),
+        subst (λ n. Makes (acting (at_level notes High) noted firing) now (expirations now (timers v.cyclics)) (fire_state
+            v.cyclics (sides [] v))
+            (fire_state w.cyclics (sides (ids ++ (pending s.high ++ handed_out (Err e ∷ parts))) w)) n) lost_are
+            (subst (λ ns. Makes (acting (at_level notes High) noted firing) now (expirations now (timers v.cyclics))
+            (fire_state v.cyclics (sides [] v))
+            (fire_state w.cyclics (sides ns w)) ((lost + e.lost) + (sum_by lost_of parts + last.lost))) ids_are makes),
       )
 
   -- a fire that was refused counts for nothing
@@ -402,12 +408,14 @@ module _ {R : Type 0} (firing : Raise R) (now : ℕ) (soon : now < never) where
         wakes v w at'.same (same.suspended ∙ may.awake),
         omega (arith, long, both, expired),
         next,
-        subst (λ n. Makes (at_level notes High) noted firing now (expirations now (timers v.cyclics)) v.cyclics w.cyclics
-            (sides [] v) (sides (ids ++ (pending s.high ++ handed_out [])) w) n) lost_are
-            (subst (λ ns. Makes (at_level notes High) noted firing now (expirations now (timers v.cyclics)) v.cyclics w.cyclics
-            (sides [] v) (sides ns w) (lost + last.lost)) ids_are
-            (subst (λ ys. Makes (at_level notes High) noted firing now ys v.cyclics w.cyclics (sides [] v)
-            (sides (ids ++ pending s.high) w) (lost + last.lost)) (sym whole) at'.makes)),
+        subst (λ n. Makes (acting (at_level notes High) noted firing) now (expirations now (timers v.cyclics)) (fire_state
+            v.cyclics (sides [] v))
+            (fire_state w.cyclics (sides (ids ++ (pending s.high ++ handed_out [])) w)) n) lost_are
+            (subst (λ ns. Makes (acting (at_level notes High) noted firing) now (expirations now (timers v.cyclics))
+            (fire_state v.cyclics (sides [] v))
+            (fire_state w.cyclics (sides ns w)) (lost + last.lost)) ids_are
+            (subst (λ ys. Makes (acting (at_level notes High) noted firing) now ys (fire_state v.cyclics (sides [] v))
+            (fire_state w.cyclics (sides (ids ++ pending s.high) w)) (lost + last.lost)) (sym whole) at'.makes)),
       )
   through v w (Suspends ∷ calls) last made ids lost s distinct at stops (m, done, rest) =
       let (at', high) = rests Suspends v made ids lost s m at tt done in
@@ -434,6 +442,7 @@ module _ {R : Type 0} (firing : Raise R) (now : ℕ) (soon : now < never) where
         b,
         omega (arith, c),
         d,
-        subst (λ l. Makes (at_level notes High) noted firing now (expirations now (timers v.cyclics)) v.cyclics w.cyclics
-            (sides [] v) (sides (handed_out parts) w) l) n makes,
+        subst (λ l. Makes (acting (at_level notes High) noted firing) now (expirations now (timers v.cyclics)) (fire_state
+            v.cyclics (sides [] v))
+            (fire_state w.cyclics (sides (handed_out parts) w)) l) n makes,
       )

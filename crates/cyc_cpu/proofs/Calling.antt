@@ -26,6 +26,8 @@ use Rattle.cyc_cpu.specs.Cpu.{CpuView, Running, SameCpu, Makes, WhyStopped, Look
 use Rattle.cyc_cpu.specs.Calls.{CpuCall, Fire, SoftInterrupt, Add, Place, Reprogram, AskPending, AskTotals, AskRoom, Reserve}
 use Rattle.cyc_cpu.specs.Calls.{Widen, BeginRemove, PollRemove, TakeNow, AskSettled, Suspend, Resume, Changes, Does, Stopped}
 use Rattle.cyc_cpu.specs.Calls.{MayFire, WhyNoFire}
+use Rattle.cyc_timers.specs.Acts.{acting}
+use Rattle.cyc_timers.specs.Made.{fire_state}
 
 module _ {C R : Type 0} (handler : Calls C) (firing : Raise R)
     (interrupts : Soft → ℕ → Result Ran SoftRefused → Running C R → Running C R → Type 0) (now : ℕ) (s t : Running C R)
@@ -33,12 +35,14 @@ module _ {C R : Type 0} (handler : Calls C) (firing : Raise R)
   -- a fire that is not refused at once
   pub fired : (answer : Result Fired FireRefused) → IfOk answer (λ r. r.expired ≡ length (expirations now (timers s.cpu.cyclics)))
       → IfOk answer (λ r. r.next ≡ earliest (timers t.cpu.cyclics))
-      → IfOk answer (λ r. Makes (at_level handler.called High) handler.count firing now
-      (expirations now (timers s.cpu.cyclics)) s.cpu.cyclics t.cpu.cyclics (sides s.calls s.cpu) (sides t.calls t.cpu) r.lost)
+      → IfOk answer (λ r. Makes (acting (at_level handler.called High) handler.count firing) now (expirations now (timers
+      s.cpu.cyclics)) (fire_state s.cpu.cyclics (sides s.calls s.cpu))
+      (fire_state t.cpu.cyclics (sides t.calls t.cpu)) r.lost)
       → IfErr answer (λ e. (made : List Expiration) × (last : Expiration) × (rest : List Expiration)
       × (expirations now (timers s.cpu.cyclics) ≡ made ++ last ∷ rest) × (length made ≡ e.expired) × (at : C)
-      × Makes (at_level handler.called High) handler.count firing now made s.cpu.cyclics t.cpu.cyclics (sides s.calls s.cpu)
-      (sides at t.cpu) e.lost
+      × Makes (acting (at_level handler.called High) handler.count firing) now made (fire_state s.cpu.cyclics (sides s.calls
+      s.cpu))
+      (fire_state t.cpu.cyclics (sides at t.cpu)) e.lost
       × ((id : ℕ) → handler.count t.calls id ≡ handler.count at id)
       × WhyStopped handler.may_refuse s.cpu.most at last (timers t.cpu.cyclics) e.why)
       → Does handler firing interrupts s (Fire now answer) t

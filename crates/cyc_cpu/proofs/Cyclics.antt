@@ -6,7 +6,7 @@ use Rattle.std.proofs.Common.{ap, sym, subst, ◌∙◌}
 use Rattle.std.proofs.Math.ListN.{set}
 use Rattle.std.proofs.lemmas.List.{length-map, get_or_default, get_or-map, map-set, map-append, take-map, drop-map}
 use Rattle.cyc_timers.specs.Rows.{Row, Cyclic, IsRow, IsRising, HasNo, cyclic_of, cyclics_of}
-use Rattle.cyc_timers.specs.Ends.{IsEnd, IsCounted, IsHard}
+use Rattle.cyc_timers.specs.Ends.{IsEnd, IsCounted, IsHard, both}
 use Rattle.cyc_types.specs.declared.Raise.{Ghosts as Raise}
 use Rattle.cyc_types.specs.Firing.{FiringView}
 use Rattle.cyc_types.specs.declared.level.Level.{Level}
@@ -94,7 +94,7 @@ counted_cyclics most rows counted k d low =
 
 -- the cyclic whose removal is open
 pub removed_cyclic : {R : Type 0} (view : R → FiringView) (size most : ℕ) (removal : Option ℕ) (lock low : R) (rows : List Row)
-    (id : ℕ) → IsHard view size most removal lock low rows → removal ≡ Some id → IsRemoved id (cyclics_of rows)
+    (id : ℕ) → IsHard view size most removal (both lock low) rows → removal ≡ Some id → IsRemoved id (cyclics_of rows)
 removed_cyclic view size most removal lock low rows id h is = elim (h.is_open id is) [
   | inl m ↦ (let (k, r, row, named, at) = h.ready.lock_end.marked_here id m in (
     k,
@@ -116,7 +116,7 @@ removed_cyclic view size most removal lock low rows id h is = elim (h.is_open id
 
 -- no removal is open of an id that is not here
 pub not_removed : {R : Type 0} (view : R → FiringView) (size most : ℕ) (removal : Option ℕ) (lock low : R) (rows : List Row)
-    (id : ℕ) → IsHard view size most removal lock low rows → HasNo id rows → removal ≢ Some id
+    (id : ℕ) → IsHard view size most removal (both lock low) rows → HasNo id rows → removal ≢ Some id
 not_removed view size most removal lock low rows id h none is = elim (h.is_open id is) [
   | inl m ↦ (let (k, r, row, named, at) = h.ready.lock_end.marked_here id m in absurd (no_row id rows k r none row named))
   | inr m ↦ (let (k, r, row, named, at) = h.ready.low_end.marked_here id m in absurd (no_row id rows k r none row named))

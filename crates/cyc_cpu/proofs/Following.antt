@@ -35,7 +35,8 @@ use Rattle.cyc_types.specs.Expirations.{Expiration, all_after, expirations, time
 use Rattle.cyc_types.specs.Timers.{Timer}
 use Rattle.cyc_timers.specs.Rows.{Cyclic, timers}
 use Rattle.cyc_cpu.specs.declared.removing.Removal.TheVariants.{Done, Kept}
-use Rattle.cyc_timers.specs.Acts.{AreRaises, is_of, timer_of}
+use Rattle.cyc_timers.specs.Acts.{AreRaises, is_of, timer_of, acting}
+use Rattle.cyc_timers.specs.Made.{fire_state}
 use Rattle.cyc_timers.specs.Shares.{share}
 use Rattle.cyc_timers.specs.Quiet.{OnlyLooks, LoadsThenLooks}
 use Rattle.cyc_cpu.specs.Cpu.{CpuView, Running, sides, Makes, Asks, Looked, Reserves, Widens, Places, IsCyclic, HasNoCyclic}
@@ -159,7 +160,8 @@ no_share own id cs made none = ap (λ o. cond (is_of own o) (times_of id made) 0
 
 module _ {C : Type 0} (called : C → ℕ → C → Type 0) (count_of : C → ℕ → ℕ) (id : ℕ) where
   fire_gone : (s t : Running C Tables) (now : ℕ) (made : List Expiration) (lost : ℕ) (at : C) → IsGone id s.cpu
-      → Makes called count_of raise_tables now made s.cpu.cyclics t.cpu.cyclics (sides s.calls s.cpu) (sides at t.cpu) lost
+      → Makes (acting called count_of raise_tables) now made (fire_state s.cpu.cyclics (sides s.calls s.cpu))
+      (fire_state t.cpu.cyclics (sides at t.cpu)) lost
       → ((q : ℕ) → count_of t.calls q ≡ count_of at q) → StaysGone count_of id s t
   fire_gone s t now made lost at h m same = (
     record {

@@ -15,7 +15,7 @@ use Rattle.cyc_types.proofs.Laws.{times_expirations}
 use Rattle.cyc_types.specs.Counting.{no_counts}
 use Rattle.cyc_timers.specs.Rows.{Row, Cyclic, IsRow, IsRising, timers, cyclic_of, cyclics_of}
 use Rattle.cyc_cpu.specs.Cpu.{HasCounts, HasRisingIds, IsRemoved}
-use Rattle.cyc_timers.specs.Ends.{IsEnd, IsHard}
+use Rattle.cyc_timers.specs.Ends.{IsEnd, IsHard, both}
 use Rattle.cyc_cpu.specs.Losses.{IsUnder, IsSpared}
 use Rattle.cyc_cpu.specs.Laws.{IsLawful}
 use Rattle.cyc_cpu.proofs.Cyclics.{admitted_cyclics, rising_cyclics, counted_cyclics, removed_cyclic}
@@ -62,7 +62,7 @@ removed_never id now cs rising (k, c, (within, is), named, soft, still) early =
     ∙ due_later c.timer.moment c.timer.interval now (omega (arith, early, still))
 
 module _ {R : Type 0} (view : R → FiringView) (size room most : ℕ) (removal : Option ℕ) (lock low : R) (rows : List Row)
-    (h : IsHard view size most removal lock low rows) (rising : IsRising rows) where
+    (h : IsHard view size most removal (both lock low) rows) (rising : IsRising rows) where
   -- a cyclic that is under its ceiling has lost nothing here
   pub spared_row : (k : ℕ) (r : Row) → IsRow rows k r → IsSpared (view lock).ceiling (view low).ceiling (cyclic_of r)
   spared_row k r is = by_level r.timer.level refl

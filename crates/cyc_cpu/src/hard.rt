@@ -47,7 +47,7 @@ pub struct Hard<R: Raise> {
 impl<R: Raise> Model for Hard<R> {
     ghost use Rattle.cyc_timers.specs.Rows.{cyclics_of};
     ghost use Rattle.cyc_cpu.specs.Cpu.{CpuView};
-    ghost use Rattle.cyc_timers.specs.Ends.{IsHard};
+    ghost use Rattle.cyc_timers.specs.Ends.{IsHard, both};
 
     ghost Value = { CpuView R };
 
@@ -63,7 +63,7 @@ impl<R: Raise> Model for Hard<R> {
       low = h.low;
     } };
 
-    ghost invariant = { λ h. IsHard R.view h.table.size h.most h.removal h.lock h.low h.table.rows };
+    ghost invariant = { λ h. IsHard R.view h.table.size h.most h.removal (both h.lock h.low) h.table.rows };
 }
 
 /// A fire that made nothing is refused.

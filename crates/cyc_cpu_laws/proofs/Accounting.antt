@@ -31,6 +31,8 @@ use Rattle.cyc_cpu_laws.proofs.Shifts.{changes_shift, shift_sums}
 use Rattle.cyc_cpu_laws.proofs.Fires.{fired_expired, fired_lost}
 use Rattle.cyc_cpu_laws.proofs.Ways.{passes_none, passes_on, passes_ceiling}
 use Rattle.cyc_cpu_laws.specs.Passing.{Passes}
+use Rattle.cyc_timers.specs.Acts.{acting}
+use Rattle.cyc_timers.specs.Made.{fire_state}
 
 -- an account of expirations alone
 abbrev of_fire : List Timer → List Expiration → Account
@@ -100,8 +102,8 @@ module _ {C R : Type 0} (handler : Calls C) (firing : Raise R) where
   -- the expirations of a fire
   fired : (s t : Running C R) (now lost : ℕ) (made : List Expiration) (at : C) → HasDistinctIds (timers s.cpu.cyclics) →
       SameCpu s.cpu t.cpu → ((id : ℕ) → handler.count t.calls id ≡ handler.count at id) →
-      Makes (at_level handler.called High) handler.count firing now made s.cpu.cyclics t.cpu.cyclics (sides s.calls s.cpu)
-      (sides at t.cpu) lost → Proceeds handler.count firing (of_fire (timers s.cpu.cyclics) made) s t
+      Makes (acting (at_level handler.called High) handler.count firing) now made (fire_state s.cpu.cyclics (sides s.calls s.cpu))
+      (fire_state t.cpu.cyclics (sides at t.cpu)) lost → Proceeds handler.count firing (of_fire (timers s.cpu.cyclics) made) s t
   fired s t now lost made at distinct kept same m =
       let ts = timers s.cpu.cyclics in
       let lock : (id : ℕ) → raised_by id m.acts.lock_way ≡ share Lock ts made id =

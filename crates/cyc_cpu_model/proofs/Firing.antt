@@ -19,8 +19,8 @@ use Rattle.cyc_types.specs.Timers.{Timer}
 use Rattle.cyc_types.proofs.Laws.{times_others}
 use Rattle.cyc_core.specs.Tables.{Tables, level_of}
 use Rattle.cyc_timers.specs.Rows.{Cyclic as Timed, timers as timed}
-use Rattle.cyc_timers.specs.Acts.{ids_at, is_at, is_of as is_of_level, timer_of, same_level, lost_after}
-use Rattle.cyc_timers.specs.Made.{Makes}
+use Rattle.cyc_timers.specs.Acts.{ids_at, is_at, is_of as is_of_level, timer_of, same_level, lost_after, acting}
+use Rattle.cyc_timers.specs.Made.{Makes, fire_state}
 use Rattle.cyc_cpu.specs.Cpu.{CpuView, SameCpu}
 use Rattle.cyc_cpu.specs.Soft.{raise_tables}
 use Rattle.cyc_model.specs.Acts.{Act, At, Call, call_of, calls_of, losses_of, losses_in}
@@ -330,8 +330,8 @@ same_timers (c ∷ cs) = ap (λ ts. c.timer ∷ ts) (same_timers cs)
 pub fires_these : {C : Type 0} (called : C → ℕ → C → Type 0) (count : C → ℕ
     → ℕ) (n now lost : ℕ) (online : Bool) (made : List Expiration) (v w : CpuView Tables) (t u : C)
     → AllHere made (map shown v.cyclics)
-    → Makes called count raise_tables now made v.cyclics w.cyclics (record { calls = t; lock = v.lock; low = v.low })
-    (record { calls = u; lock = w.lock; low = w.low }) lost
+    → Makes (acting called count raise_tables) now made (fire_state v.cyclics (record { calls = t; lock = v.lock; low = v.low }))
+    (fire_state w.cyclics (record { calls = u; lock = w.lock; low = w.low })) lost
     → SameCpu v w
     → (shown_cpu online w ≡ (fire_these n now made (shown_cpu online v)).cpu)
     × ((id : ℕ) → count u id ≡ count t id + calls_of id (fire_these n now made (shown_cpu online v)).acts)
@@ -388,9 +388,13 @@ fires_these called count n now lost online made v w t u here m same =
 
 pub fires_here : {C : Type 0} (called : C → ℕ → C → Type 0) (count : C → ℕ
     → ℕ) (n now lost : ℕ) (online : Bool) (v w : CpuView Tables) (t u : C)
-    → Makes called count raise_tables now (expirations now (timed v.cyclics)) v.cyclics w.cyclics
-    (record { calls = t; lock = v.lock; low = v.low })
-    (record { calls = u; lock = w.lock; low = w.low }) lost
+    → Makes (acting called count raise_tables) now (expirations now (timed v.cyclics)) (fire_state v.cyclics (record {
+      calls =
+          t;
+      lock = v.lock;
+      low = v.low;
+    }))
+    (fire_state w.cyclics (record { calls = u; lock = w.lock; low = w.low })) lost
     → SameCpu v w
     → (shown_cpu online w ≡ (fire_here n now (shown_cpu online v)).cpu)
     × ((id : ℕ) → count u id ≡ count t id + calls_of id (fire_here n now (shown_cpu online v)).acts)

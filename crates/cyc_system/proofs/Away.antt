@@ -27,6 +27,8 @@ use Rattle.cyc_cpu.specs.Losses.{IsUnder, IsSpared}
 use Rattle.cyc_cpu.specs.Moving.{Inquires}
 use Rattle.cyc_cpu.specs.Calls.{Changes, Does, Fire, AskSettled, no_interrupts}
 use Rattle.cyc_system.specs.Splitting.{GoesOn, IsSameEnd, ComesBack, AllComeBack}
+use Rattle.cyc_timers.specs.Acts.{acting}
+use Rattle.cyc_timers.specs.Made.{fire_state}
 
 -- ---- two lists
 
@@ -233,7 +235,8 @@ module _ {C R : Type 0} (handler : Calls C) (firing : Raise R) where
   back_made : (x y : CpuView R) (calling : C → ℕ → C → Type 0) (now lost : ℕ) (made : List Expiration) (a b : Sides C R)
       → IsLawful firing.view x → IsLawful firing.view y → SameCpu x y
       → a.lock ≡ x.lock → a.low ≡ x.low → b.lock ≡ y.lock → b.low ≡ y.low
-      → Makes calling handler.count firing now made x.cyclics y.cyclics a b lost → ComesBack firing.view x y
+      → Makes (acting calling handler.count firing) now made (fire_state x.cyclics a)
+      (fire_state y.cyclics b) lost → ComesBack firing.view x y
   back_made x y calling now lost made a b lawful after same al aw bl bw m = record {
     cyclics = fired_each (firing.view x.lock).ceiling (firing.view x.low).ceiling now x.most made
         (λ id n. n + lost_by id m.acts.lock_way + lost_by id m.acts.low_way) x.cyclics y.cyclics

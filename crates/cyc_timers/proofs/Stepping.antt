@@ -17,9 +17,9 @@ use Rattle.cyc_types.proofs.Firings.{Firing, Expires, fire_step, fire_left, fire
 use Rattle.cyc_timers.specs.declared.table.Record.{Record}
 use Rattle.cyc_timers.specs.Rows.{Row, Cyclic, IsRow, IsRising, IsRecordOf, IsFirstAt, timers, timers_of, cyclic_of, cyclics_of}
 use Rattle.cyc_timers.specs.Rows.{with_counts}
-use Rattle.cyc_timers.specs.Acts.{Sides, way_losses, lost_after, timer_of}
-use Rattle.cyc_timers.specs.Ends.{IsEnd, IsReady}
-use Rattle.cyc_timers.specs.Made.{Makes}
+use Rattle.cyc_timers.specs.Acts.{Sides, way_losses, lost_after, timer_of, acting}
+use Rattle.cyc_timers.specs.Ends.{IsEnd, IsReady, both}
+use Rattle.cyc_timers.specs.Made.{Makes, fire_state}
 use Rattle.cyc_timers.proofs.Sparing.{none_high}
 use Rattle.cyc_timers.proofs.Acting.{One, acts_more, losses_on}
 use Rattle.cyc_timers.proofs.Readying.{Advances, ids_apart, end_raised, end_other, counted_still}
@@ -129,13 +129,15 @@ module _ {C R : Type 0} (called : C → ℕ → C → Type 0) (count : C → ℕ
       (made : List Expiration) (rows : List Row) (s : Sides C R) (lost : ℕ) : Type 0 where
     pub rising : IsRising rows
     pub sound : All IsSound (timers_of rows)
-    pub ready : IsReady firing.view size most lock_marked low_marked s.lock s.low rows
+    pub ready : IsReady firing.view size most (both lock_marked low_marked) (both s.lock s.low) rows
     pub fires : Firing now made (timers_of rows0) (timers_of rows)
-    pub makes : Makes called count firing now made (cyclics_of rows0) (cyclics_of rows) s0 s lost
+    pub makes : Makes (acting called count firing) now made (fire_state (cyclics_of rows0) s0)
+        (fire_state (cyclics_of rows) s) lost
     pub few : lost ≤ length made
 
   pub makes_none : (now : ℕ) (cs : List Cyclic) (s : Sides C R) → Firing now [] (timers cs) (timers cs)
-      → Makes called count firing now [] cs cs s s 0
+      → Makes (acting called count firing) now [] (fire_state cs s)
+      (fire_state cs s) 0
   makes_none now cs s f = record {
     acts = record {
       lock_way = [];

@@ -83,17 +83,25 @@ abbrev pub way_losses : List FiringCall → ℕ
 way_losses [] = 0
 way_losses (call ∷ way) = loss_in call + way_losses way
 
+-- how the handlers are called and counted, and what the ends do
+pub record Acting (C R : Type 0) : Type 1 where
+  pub called : C → ℕ → C → Type 0
+  pub count : C → ℕ → ℕ
+  pub firing : Raise R
+
+abbrev pub acting : {C R : Type 0} → (C → ℕ → C → Type 0) → (C → ℕ → ℕ) → Raise R → Acting C R
+acting called count firing = record { called = called; count = count; firing = firing }
+
 -- the handlers of the ids `high` were called, the lock end was raised for the ids `locks` and the low end for the ids
 -- `lows`, each list in order; and nothing else was done to the three
-pub record Acts {C R : Type 0} (called : C → ℕ → C → Type 0) (count : C → ℕ → ℕ) (firing : Raise R)
-    (high locks lows : List ℕ) (s s' : Sides C R) : Type 0 where
+pub record Acts {C R : Type 0} (how : Acting C R) (high locks lows : List ℕ) (s s' : Sides C R) : Type 0 where
   -- what each end did, call by call
   pub lock_way : List FiringCall
   pub low_way : List FiringCall
-  pub called_in_order : FoldsTo called s.calls high s'.calls
-  pub counted : (id : ℕ) → count s'.calls id ≡ count s.calls id + times id high
-  pub lock_goes : Goes firing s.lock lock_way s'.lock
-  pub low_goes : Goes firing s.low low_way s'.low
+  pub called_in_order : FoldsTo how.called s.calls high s'.calls
+  pub counted : (id : ℕ) → how.count s'.calls id ≡ how.count s.calls id + times id high
+  pub lock_goes : Goes how.firing s.lock lock_way s'.lock
+  pub low_goes : Goes how.firing s.low low_way s'.low
   pub lock_raises : AreRaises locks lock_way
   pub low_raises : AreRaises lows low_way
 

@@ -11,9 +11,9 @@ ghost use Rattle.cyc_types.specs.declared.refusal.Refusal.TheVariants.{CountSpen
 ghost use Rattle.cyc_types.specs.Timers.{earliest};
 ghost use Rattle.cyc_types.specs.Expirations.{Expiration, expirations};
 ghost use Rattle.cyc_timers.specs.Rows.{timers_of, cyclics_of};
-ghost use Rattle.cyc_timers.specs.Ends.{IsReady};
-ghost use Rattle.cyc_timers.specs.Made.{Makes, WhyStopped};
-ghost use Rattle.cyc_timers.specs.Acts.{Sides, Acts, RaisedOnce, id_at, way_losses};
+ghost use Rattle.cyc_timers.specs.Ends.{IsReady, both, marks_at};
+ghost use Rattle.cyc_timers.specs.Made.{Makes, WhyStopped, fire_state};
+ghost use Rattle.cyc_timers.specs.Acts.{Sides, Acts, RaisedOnce, acting, id_at, way_losses};
 
 use crate::table::Table;
 use cyc_types::{
@@ -79,8 +79,8 @@ pub fn expire_at<C: Calls, R: Raise>(
 ) -> Result<u64, Refused>
     requires lock { level ≡ Lock → MayRaise id (R.view lock.old) }
     requires low { level ≡ Low → MayRaise id (R.view low.old) }
-    ensures acts { IfOk result (λ lost. (a : Acts (at_level C.called High) C.count R.Raise (id_at High level id)
-        (id_at Lock level id) (id_at Low level id)
+    ensures acts { IfOk result (λ lost. (a : Acts (acting (at_level C.called High) C.count R.Raise)
+        (id_at High level id) (id_at Lock level id) (id_at Low level id)
         (record { calls = calls.old; lock = lock.old; low = low.old })
         (record { calls = calls.new; lock = lock.new; low = low.new }))
         × (lost ≡ way_losses a.lock_way + way_losses a.low_way)) }
@@ -157,29 +157,30 @@ pub fn fire_all<C: Calls, R: Raise>(
     now: Moment,
 ) -> Result<Fired, FireRefused>
     requires now { now < never }
-    requires ready { IsReady R.view table.old.size most (R.view lock.old).marked
-        (R.view low.old).marked lock.old low.old table.old.rows }
+    requires ready { IsReady R.view table.old.size most (marks_at R.view lock.old low.old) (both lock.old low.old)
+        table.old.rows }
 
     // The whole list was made, and no more.
     ensures expired { IfOk result (λ r. r.expired ≡ length (expirations now (timers_of table.old.rows))) }
     ensures next { IfOk result (λ r. r.next ≡ earliest (timers_of table.new.rows)) }
-    ensures made { IfOk result (λ r. Makes (at_level C.called High) C.count R.Raise now
-        (expirations now (timers_of table.old.rows)) (cyclics_of table.old.rows) (cyclics_of table.new.rows)
-        (record { calls = calls.old; lock = lock.old; low = low.old })
-        (record { calls = calls.new; lock = lock.new; low = low.new }) r.lost) }
+    ensures made { IfOk result (λ r. Makes (acting (at_level C.called High) C.count R.Raise) now
+        (expirations now (timers_of table.old.rows))
+        (fire_state (cyclics_of table.old.rows) (record { calls = calls.old; lock = lock.old; low = low.old }))
+        (fire_state (cyclics_of table.new.rows) (record { calls = calls.new; lock = lock.new; low = low.new }))
+        r.lost) }
 
     // The list was made up to an expiration that was refused.
     ensures refused { IfErr result (λ e. (made : List Expiration) × (last : Expiration) × (rest : List Expiration)
         × (expirations now (timers_of table.old.rows) ≡ made ++ last ∷ rest) × (length made ≡ e.expired) × (at : C)
-        × Makes (at_level C.called High) C.count R.Raise now made (cyclics_of table.old.rows) (cyclics_of table.new.rows)
-        (record { calls = calls.old; lock = lock.old; low = low.old })
-        (record { calls = at; lock = lock.new; low = low.new }) e.lost
+        × Makes (acting (at_level C.called High) C.count R.Raise) now made
+        (fire_state (cyclics_of table.old.rows) (record { calls = calls.old; lock = lock.old; low = low.old }))
+        (fire_state (cyclics_of table.new.rows) (record { calls = at; lock = lock.new; low = low.new })) e.lost
         × ((id : ℕ) → C.count calls.new id ≡ C.count at id)
         × WhyStopped C.may_refuse most at last (timers_of table.new.rows) e.why) }
 
     // The CPU is ready for the next.
-    ensures ready { IsReady R.view table.new.size most (R.view lock.old).marked
-        (R.view low.old).marked lock.new low.new table.new.rows }
+    ensures ready { IsReady R.view table.new.size most (marks_at R.view lock.old low.old) (both lock.new low.new)
+        table.new.rows }
     ensures size { table.new.size ≡ table.old.size }
     ensures room { table.new.room ≡ table.old.room }
 {

@@ -77,7 +77,7 @@ stands_for k s R j v at ends = (
 one_longer : (m : List RingStep) (x : RingStep) (log : List RingStep) → m ≡ x ∷ log → length m ≡ length log + 1
 one_longer m x log is = let e = ap length is in omega (arith, e)
 
-operation : (slots seat : ℕ) (me : ThisSeat) (i : ℕ) (f : ℕ → ℕ) → Operation
+abbrev pub operation : (slots seat : ℕ) (me : ThisSeat) (i : ℕ) (f : ℕ → ℕ) → Operation
 operation slots seat me i f = record { slots = slots; seat = seat; me = me; word = i; leaves = f }
 
 -- a step that extends the log is allowed, and tells that such a level stands at its position

@@ -24,6 +24,8 @@ use Rattle.cyc_cpu.specs.Soft.{raise_tables}
 use Rattle.cyc_cpu.specs.Tables.{Tables}
 use Rattle.uses.specs.Tick.{IsCalled, calls_of, tasks_calls}
 use Rattle.uses.specs.declared.tick.Tasks.{Tasks}
+use Rattle.cyc_timers.specs.Acts.{acting}
+use Rattle.cyc_timers.specs.Made.{fire_state}
 
 none_made : (level : Level) (ts : List Timer) (id : ℕ) → share level ts [] id ≡ 0
 none_made level ts id = by (is_of level (timer_of id ts))
@@ -35,7 +37,8 @@ none_made level ts id = by (is_of level (timer_of id ts))
 -- the law of shares, of high level
 abbrev pub HighLaw : Type 0
 HighLaw = (now : ℕ) (made : List Expiration) (cs cs' : List Cyclic) (s s' : Sides Tasks Tables) (lost : ℕ)
-    → Makes (at_level IsCalled High) calls_of raise_tables now made cs cs' s s' lost
+    → Makes (acting (at_level IsCalled High) calls_of raise_tables) now made (fire_state cs s)
+    (fire_state cs' s') lost
     → (id : ℕ) → calls_of s'.calls id ≡ calls_of s.calls id + share High (timers cs) made id
 
 -- ---- a switch

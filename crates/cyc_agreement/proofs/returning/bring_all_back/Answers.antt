@@ -22,8 +22,8 @@ pub bring_back-requires-clause-few : goal.bring_back-requires-clause-few
 bring_back-requires-clause-few g c = let b = so_far _ _ _ _ _ _ _ _ c.loop-position.invariant in
     subst (λ n. n ≤ 16) (sym b.long) c.requires.few
 
-pub bring_back-requires-clause-place : goal.bring_back-requires-clause-place
-bring_back-requires-clause-place g c = let e = many _ _ _ _ _ _ _ _ c.loop-position.invariant in
+pub bring_back-requires-clause-position : goal.bring_back-requires-clause-position
+bring_back-requires-clause-position g c = let e = many _ _ _ _ _ _ _ _ c.loop-position.invariant in
     let t = c.loop-position-test.true in let n = c.len-position-end.ensures in omega (arith, e, t, n)
 
 pub bring_back-requires-clause-fits : goal.bring_back-requires-clause-fits

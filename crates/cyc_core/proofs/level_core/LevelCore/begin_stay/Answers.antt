@@ -41,10 +41,11 @@ invariant_of-self c =
     let free = free_is kept entries sound c.args.index may.3 in
     let made = level_admit (shown a) _ c.args.id c.args.index (read_as c.args.id c.args.index new)
     (finds_admitted kept c.reach.new.kept.items entries c.insert.new.self.entries sound c.reach.ensures.same c.args.id
-    c.args.index c.number-place.result c.number-place.ensures.value new absent free came.told c.reach.ensures.within refl) refl in
+    c.args.index c.number-position.result c.number-position.ensures.value new absent free came.told c.reach.ensures.within
+        refl) refl in
     sound_by a _ (Admit c.args.id c.args.index) c.self.invariant may made
     (admitted_kept kept c.reach.new.kept.items entries c.insert.new.self.entries sound c.reach.ensures.same c.args.id
-    c.args.index c.number-place.result c.number-place.ensures.value new absent free came.told c.reach.ensures.within refl
+    c.args.index c.number-position.result c.number-position.ensures.value new absent free came.told c.reach.ensures.within refl
     (subst (Rises id_in) (sym is) (rises_inserted id_in entries c.args.id k gap sound.ordered entry refl)))
     (omega (arith, c.reach.ensures.capacity)) (omega (arith, came.room)) (omega arith) (omega arith)
 
@@ -61,4 +62,5 @@ returns c =
     let free = free_is kept entries sound c.args.index may.3 in
     rw (← c.self.view_is) (level_admit (shown a) _ c.args.id c.args.index (read_as c.args.id c.args.index new)
     (finds_admitted kept c.reach.new.kept.items entries c.insert.new.self.entries sound c.reach.ensures.same c.args.id
-    c.args.index c.number-place.result c.number-place.ensures.value new absent free came.told c.reach.ensures.within refl) refl)
+    c.args.index c.number-position.result c.number-position.ensures.value new absent free came.told c.reach.ensures.within
+        refl) refl)

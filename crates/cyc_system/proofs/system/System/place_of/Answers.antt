@@ -7,10 +7,10 @@ use Rattle.cyc_system.specs.Asking.{place_of, whereabouts}
 use Rattle.cyc_agreement.proofs.Recording.{record_read, record_none}
 use Rattle.cyc_system.proofs.system.System.place_of.Goals as goal
 
-pub returns-in_err-place : goal.returns-in_err-place
-returns-in_err-place g c = c.from_residual.ensures ∙ sym (ap (λ (s : SystemView _). place_of c.args.id s) (sym c.self.view_is)
+pub returns-in_err-position : goal.returns-in_err-position
+returns-in_err-position g c = c.from_residual.ensures ∙ sym (ap (λ (s : SystemView _). place_of c.args.id s) (sym c.self.view_is)
     ∙ ap (λ o. option_map (λ (r : Record). whereabouts r.placement) o)
-    (record_none c.args.id c.self.inside.records.list c.in_err-place.ensures.none))
+    (record_none c.args.id c.self.inside.records.list c.in_err-position.ensures.none))
 
 pub at-requires : goal.at-requires
 at-requires g c = let (r, is, named) = c.in_ok-position.ensures.some in
