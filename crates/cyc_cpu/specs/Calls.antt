@@ -23,14 +23,13 @@ use Rattle.cyc_timers.specs.declared.fire.FireRefused.{FireRefused}
 use Rattle.cyc_cpu.specs.declared.hard.Totals.{Totals}
 use Rattle.cyc_cpu.specs.declared.moving.Taken.{Taken}
 use Rattle.cyc_cpu.specs.declared.removing.Removal.{Removal}
-use Rattle.cyc_cpu.specs.Cpu.{CpuView, Running, IsCyclic, HasNoCyclic, SameCpu, sides, seen_at, with_moment, cyclic_with}
+use Rattle.cyc_cpu.specs.Cpu.{CpuView, Running, IsCyclic, HasNoCyclic, SameCpu, fired_on, seen_at, with_moment, cyclic_with}
 use Rattle.cyc_cpu.specs.Cpu.{Makes, WhyStopped, Asks, Looked, HasRoom, WhyNoRoom, MayWiden, Reserves, WhyNotReserved, Widens}
 use Rattle.cyc_cpu.specs.Cpu.{Places, new_cyclic}
 use Rattle.cyc_cpu.specs.Losses.{IsSparedAt}
 use Rattle.cyc_cpu.specs.Removal.{Begins, WhyNotBegun, Ends, Waits}
 use Rattle.cyc_cpu.specs.Moving.{TakesNow, WhyNotTaken, IsSettled, Inquires}
 use Rattle.cyc_timers.specs.Acts.{acting}
-use Rattle.cyc_timers.specs.Made.{fire_state}
 
 -- the calls on a CPU that can change anything, each with its parameters and its answer
 pub data CpuCall : Type 0 where
@@ -131,9 +130,8 @@ pub record Stopped {C R : Type 0} (handler : Calls C) (firing : Raise R) (now : 
   pub expired : length made ≡ e.expired
   -- the handlers before the refusal, which changes no count
   pub at : C
-  pub makes : Makes (acting (at_level handler.called High) handler.count firing) now made (fire_state s.cpu.cyclics (sides
-      s.calls s.cpu))
-      (fire_state t.cpu.cyclics (sides at t.cpu)) e.lost
+  pub makes : Makes (acting (at_level handler.called High) handler.count firing) now made
+      (fired_on s.calls s.cpu) (fired_on at t.cpu) e.lost
   pub counted : (id : ℕ) → handler.count t.calls id ≡ handler.count at id
   pub stops : WhyStopped handler.may_refuse s.cpu.most at last (timers t.cpu.cyclics) e.why
 
@@ -145,8 +143,7 @@ abbrev pub Does : {C R : Type 0} → Calls C → Raise R
 Does handler firing interrupts s (Fire now (Ok r)) t = MayFire now s.cpu × SameCpu s.cpu t.cpu
     × (r.expired ≡ length (expirations now (timers s.cpu.cyclics))) × (r.next ≡ earliest (timers t.cpu.cyclics))
     × Makes (acting (at_level handler.called High) handler.count firing) now (expirations now (timers s.cpu.cyclics))
-    (fire_state s.cpu.cyclics (sides s.calls s.cpu))
-    (fire_state t.cpu.cyclics (sides t.calls t.cpu)) r.lost
+    (fired_on s.calls s.cpu) (fired_on t.calls t.cpu) r.lost
 Does handler firing interrupts s (Fire now (Err e)) t =
     (WhyNoFire now s.cpu e.why × (e ≡ record e { expired = 0; lost = 0 }) × (t ≡ s))
     ⊎ (MayFire now s.cpu × SameCpu s.cpu t.cpu × Stopped handler firing now e s t)

@@ -13,6 +13,7 @@ use Rattle.cyc_types.specs.declared.refusal.Refusal.TheVariants as why
 use Rattle.cyc_timers.specs.Rows.{Cyclic}
 use Rattle.cyc_timers.specs.Quiet.{asks_at, admits_at, OnlyLooks}
 use Rattle.cyc_timers.specs.Acts.{Sides}
+use Rattle.cyc_timers.specs.Made.{FireState, fire_state}
 pub use Rattle.cyc_timers.specs.Made.{Makes, WhyStopped, HasCounts}
 pub use Rattle.cyc_timers.specs.Rows.{Rises, IsAt, IsPassed, ComesAfter, IsNextAfter}
 
@@ -44,6 +45,10 @@ running calls v = record { cpu = v; calls = calls }
 -- what a fire acts on of these
 abbrev pub sides : {C R : Type 0} → C → CpuView R → Sides C R
 sides calls v = record { calls = calls; lock = v.lock; low = v.low }
+
+-- what a fire changes of these
+abbrev pub fired_on : {C R : Type 0} → C → CpuView R → FireState C R
+fired_on calls v = fire_state v.cyclics (sides calls v)
 
 -- what was seen of a cyclic at the two ends: at least its outstanding calls
 abbrev pub seen_at : {R : Type 0} → (R → FiringView) → ℕ → CpuView R → ℕ

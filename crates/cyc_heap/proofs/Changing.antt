@@ -5,14 +5,14 @@ use Rattle.std.proofs.Math.ListN.{set}
 use Rattle.cyc_types.specs.Series.{never}
 use Rattle.cyc_heap.specs.declared.entry.Entry.{Entry}
 use Rattle.cyc_heap.specs.Tournament.{key, entry_at, index_of, slots, IsPlayed}
-use Rattle.cyc_heap.specs.Few.{IsFew, IsTournament}
+use Rattle.cyc_heap.specs.Few.{IsFew, IsTournament, extent}
 use Rattle.cyc_heap.specs.Heap.{HeapView, expiration_at, with_moment}
 use Rattle.cyc_heap.proofs.Slots.{slot_used}
 use Rattle.cyc_heap.proofs.Views.{view_of, within, held, leaf_given, moment_slots}
 use Rattle.cyc_heap.proofs.Listed.{set_slots, moved, after}
 
 module _ (is_few : Bool) (few : List Entry) (leaves size given : ℕ) (xs : List Entry) (free : List ℕ) (room : ℕ) (v : HeapView)
-    (h : IsTournament is_few few leaves size given xs free) (is : view_of is_few few leaves size xs room ≡ v) (x : Entry)
+    (h : IsTournament is_few few (extent leaves size given) xs free) (is : view_of is_few few leaves size xs room ≡ v) (x : Entry)
     (has : expiration_at v (index_of x) ≡ Some (key x)) (new : List Entry) (ys : List Entry) (moment : ℕ)
     (valid : moment ≤ never) where
   abbrev pub entry : Entry
@@ -25,7 +25,7 @@ module _ (is_few : Bool) (few : List Entry) (leaves size given : ℕ) (xs : List
   pub changed : length ys ≡ length xs → entry_at ys (index_of x) ≡ entry
       → ((i : ℕ) → i < leaves → i ≢ index_of x → entry_at ys i ≡ entry_at xs i)
       → (is_few ≡ true → IsFew new leaves ys) → (is_few ≡ false → IsPlayed leaves ys)
-      → IsTournament is_few new leaves size given ys free
+      → IsTournament is_few new (extent leaves size given) ys free
   changed long here others heap played = (let (low, used, _) = held is_few few leaves size given xs free room v h is
       (index_of x)
       (key x) has in

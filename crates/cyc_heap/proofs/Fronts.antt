@@ -5,7 +5,7 @@ use Rattle.std.proofs.lemmas.Bool.{cases_lt, false≢true}
 use Rattle.cyc_types.specs.Series.{never}
 use Rattle.cyc_heap.specs.declared.entry.Entry.{Entry}
 use Rattle.cyc_heap.specs.Tournament.{key, entry_at, index_of, free_entry, slots, last_position}
-use Rattle.cyc_heap.specs.Few.{shown, first_of, root_position, HasNo, IsTree, IsFront, IsTournament}
+use Rattle.cyc_heap.specs.Few.{shown, first_of, root_position, HasNo, IsTree, IsFront, IsTournament, extent}
 use Rattle.cyc_heap.specs.Few.{IsChanged}
 use Rattle.cyc_heap.specs.Heap.{HeapView, expiration_at, with_moment, IsEmpty, IsLeast}
 use Rattle.cyc_heap.proofs.Views.{IsTop, view_of, few_or_many, leaf_given, at_past, at_used, at_free, all_free}
@@ -33,8 +33,8 @@ first_is [] some = absurd (omega (arith, some))
 first_is (e ∷ es) some = refl
 
 module _ (is_few : Bool) (held root leaves size given : ℕ) (es : List Entry) (free : List ℕ)
-    (h : IsTournament is_few (take held es) leaves size given (shown is_few held es) free)
-    (f : IsFront is_few held root leaves given es free) where
+    (h : IsTournament is_few (take held es) (extent leaves size given) (shown is_few held es) free)
+    (f : IsFront is_few held root (extent leaves size given) es free) where
   pub entries_long : suc (length es) ≡ 2 * leaves
   entries_long = let long = h.long in let l = length-shown is_few held es in omega (arith, long, l)
 
@@ -225,11 +225,11 @@ module _ (is_few : Bool) (held root leaves size given : ℕ) (es : List Entry) (
         (valid : moment ≤ never)
         (e : IsChanged leaves (index_of x) (record x { moment = moment }) (shown is_few held es) (shown is_few held new))
         (t : IsTree is_few held leaves new) where
-      pub tournament_after : IsTournament is_few (take held new) leaves size given (shown is_few held new) free
+      pub tournament_after : IsTournament is_few (take held new) (extent leaves size given) (shown is_few held new) free
       tournament_after = changed is_few (take held es) leaves size given (shown is_few held es) free room v h is x has
           (take held new) (shown is_few held new) moment valid e.long e.here e.others t.heap t.played
 
-      pub front_after : IsFront is_few held root leaves given new free
+      pub front_after : IsFront is_few held root (extent leaves size given) new free
       front_after = record { first = f.first; used = f.used; most = f.most; none = f.none; front = t.front }
 
       pub slots_after : slots size (shown is_few held new) ≡ with_moment v.slots (index_of x) moment

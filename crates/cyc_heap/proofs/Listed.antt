@@ -10,7 +10,7 @@ use Rattle.cyc_types.specs.Series.{never}
 use Rattle.cyc_types.specs.Expirations.{Expiration}
 use Rattle.cyc_heap.specs.declared.entry.Entry.{Entry}
 use Rattle.cyc_heap.specs.Tournament.{key, entry_at, index_of, free_entry, slot, slots, IsPlayed, IsListed}
-use Rattle.cyc_heap.specs.Few.{IsFew, IsTournament}
+use Rattle.cyc_heap.specs.Few.{IsFew, IsTournament, extent}
 use Rattle.cyc_heap.proofs.Slots.{length-slots, slots_at, slots_set, slots_kept, one_more, slot_used, slot_free}
 use Rattle.cyc_heap.proofs.Views.{count_same, count_more, count_less}
 
@@ -144,7 +144,7 @@ IsNext given free x given_after free_after = ((free ≡ free_after ++ x ∷ []) 
     ⊎ ((free ≡ []) × (free_after ≡ []) × (x ≡ given) × (given_after ≡ given + 1))
 
 module _ (is_few : Bool) (few : List Entry) (leaves size given : ℕ) (xs : List Entry) (free : List ℕ) (x given_after : ℕ)
-    (free_after : List ℕ) (h : IsTournament is_few few leaves size given xs free)
+    (free_after : List ℕ) (h : IsTournament is_few few (extent leaves size given) xs free)
     (next : IsNext given free x given_after free_after)
     (left : given < size + length free) where
   -- it is free
@@ -194,12 +194,12 @@ module _ (is_few : Bool) (few : List Entry) (leaves size given : ℕ) (xs : List
 -- the tournament after it
 pub after : (was is_few : Bool) (few_was few : List Entry) (leaves size given given_after : ℕ) (xs ys : List Entry)
     (free free_after : List ℕ) (x : ℕ) (e : Entry)
-    → IsTournament was few_was leaves size given xs free → length ys ≡ length xs
+    → IsTournament was few_was (extent leaves size given) xs free → length ys ≡ length xs
     → (is_few ≡ true → IsFew few leaves ys) → (is_few ≡ false → IsPlayed leaves ys)
     → entry_at ys x ≡ e → (never < e.moment → e ≡ free_entry)
     → ((i : ℕ) → i < leaves → i ≢ x → entry_at ys i ≡ entry_at xs i)
     → x < given_after → given ≤ given_after → given_after ≤ size
-    → IsListed given_after ys free_after → IsTournament is_few few leaves size given_after ys free_after
+    → IsListed given_after ys free_after → IsTournament is_few few (extent leaves size given_after) ys free_after
 after was is_few few_was few leaves size given given_after xs ys free free_after x e h same heap played here bare others low
     more known listed = record {
       some = h.some;

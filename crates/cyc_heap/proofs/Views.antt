@@ -12,7 +12,7 @@ use Rattle.cyc_types.specs.Series.{never}
 use Rattle.cyc_types.specs.Expirations.{Expiration, is_before}
 use Rattle.cyc_heap.specs.declared.entry.Entry.{Entry}
 use Rattle.cyc_heap.specs.Tournament.{key, entry_at, index_of, slot, slots, comes, last_position, winner_of, IsPlayed}
-use Rattle.cyc_heap.specs.Few.{IsFew, IsTournament, first_of, root_of}
+use Rattle.cyc_heap.specs.Few.{IsFew, IsTournament, first_of, root_of, extent}
 use Rattle.cyc_heap.specs.Heap.{HeapView, size_of, len_of, expiration_at, at_moment, with_moment, IsLeast}
 use Rattle.cyc_heap.proofs.Slots.{length-slots, slots_at, slot_used, slot_free, slots_more, count_with_free}
 use Rattle.cyc_heap.proofs.Playing.{comes_by_moment, least_of_all, one_of_all}
@@ -108,7 +108,7 @@ first_top few leaves xs h some = record {
 }
 
 module _ (is_few : Bool) (few : List Entry) (leaves size given : ℕ) (xs : List Entry) (free : List ℕ) (room : ℕ) (v : HeapView)
-    (h : IsTournament is_few few leaves size given xs free) (is : view_of is_few few leaves size xs room ≡ v) where
+    (h : IsTournament is_few few (extent leaves size given) xs free) (is : view_of is_few few leaves size xs room ≡ v) where
   pub leaves_within : leaves ≤ length xs
   leaves_within = let long = h.long in let some = h.some in omega (arith, long, some)
 

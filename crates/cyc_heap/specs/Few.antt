@@ -109,24 +109,32 @@ pub record IsChanged (leaves x : ℕ) (e : Entry) (xs ys : List Entry) : Type 0 
   pub here : entry_at ys x ≡ e
   pub others : (i : ℕ) → i < leaves → i ≢ x → entry_at ys i ≡ entry_at xs i
 
--- with so many leaves and indexes, of which so many were ever given: few are a heap, and many have played
-pub record IsTournament (is_few : Bool) (few : List Entry) (leaves size given : ℕ) (entries : List Entry)
-    (free : List ℕ) : Type 0 where
-  pub some : 0 < leaves
-  pub at_most : leaves ≤ cyclics
-  pub long : suc (length entries) ≡ 2 * leaves
-  pub wide : size ≤ leaves
-  pub known : given ≤ size
-  pub heap : is_few ≡ true → IsFew few leaves entries
-  pub played : is_few ≡ false → IsPlayed leaves entries
-  pub bare : HasBareLeaves leaves entries
-  pub listed : IsListed given entries free
-  pub unused : (i : ℕ) → given ≤ i → i < leaves → never < (entry_at entries i).moment
+-- the leaves of a heap, its indexes, and those of them that were ever given
+pub record Extent : Type 0 where
+  pub leaves : ℕ
+  pub size : ℕ
+  pub given : ℕ
 
--- how many stand in front, with so many indexes given, and where the least expiration stands
-pub record IsFront (is_few : Bool) (held root leaves given : ℕ) (entries : List Entry) (free : List ℕ) : Type 0 where
-  pub first : root ≡ root_position is_few leaves
-  pub used : is_few ≡ true → held + length free ≤ given
-  pub most : is_few ≡ true → held ≤ most_few leaves
+abbrev pub extent : (leaves size given : ℕ) → Extent
+extent leaves size given = record { leaves = leaves; size = size; given = given }
+
+-- with so many leaves and indexes few are a heap, and many have played
+pub record IsTournament (is_few : Bool) (few : List Entry) (x : Extent) (entries : List Entry) (free : List ℕ) : Type 0 where
+  pub some : 0 < x.leaves
+  pub at_most : x.leaves ≤ cyclics
+  pub long : suc (length entries) ≡ 2 * x.leaves
+  pub wide : x.size ≤ x.leaves
+  pub known : x.given ≤ x.size
+  pub heap : is_few ≡ true → IsFew few x.leaves entries
+  pub played : is_few ≡ false → IsPlayed x.leaves entries
+  pub bare : HasBareLeaves x.leaves entries
+  pub listed : IsListed x.given entries free
+  pub unused : (i : ℕ) → x.given ≤ i → i < x.leaves → never < (entry_at entries i).moment
+
+-- how many stand in front, and where the least expiration stands
+pub record IsFront (is_few : Bool) (held root : ℕ) (x : Extent) (entries : List Entry) (free : List ℕ) : Type 0 where
+  pub first : root ≡ root_position is_few x.leaves
+  pub used : is_few ≡ true → held + length free ≤ x.given
+  pub most : is_few ≡ true → held ≤ most_few x.leaves
   pub none : is_few ≡ false → held ≡ 0
   pub front : is_few ≡ true → IsBareFront held entries

@@ -56,7 +56,7 @@ impl Model for ExpiryHeap {
     ghost use Rattle.std.specs.Prelude.{suc, ◌*◌, ◌≤◌, vec_capacity, take};
     ghost use Rattle.cyc_heap.specs.Heap.{HeapView};
     ghost use Rattle.cyc_heap.specs.Tournament.{slots};
-    ghost use Rattle.cyc_heap.specs.Few.{shown, root_of, IsTournament, IsFront};
+    ghost use Rattle.cyc_heap.specs.Few.{shown, root_of, IsTournament, IsFront, extent};
 
     ghost Value = { HeapView };
 
@@ -67,9 +67,9 @@ impl Model for ExpiryHeap {
       room = h.room;
     } };
 
-    ghost invariant = { λ h. IsTournament h.is_few (take h.held h.entries.items) h.leaves h.size h.given
+    ghost invariant = { λ h. IsTournament h.is_few (take h.held h.entries.items) (extent h.leaves h.size h.given)
         (shown h.is_few h.held h.entries.items) h.free.items
-        × IsFront h.is_few h.held h.root h.leaves h.given h.entries.items h.free.items
+        × IsFront h.is_few h.held h.root (extent h.leaves h.size h.given) h.entries.items h.free.items
         × (h.size ≤ h.room) × (2 * h.room ≤ suc (vec_capacity h.entries)) × (h.room ≤ vec_capacity h.free) };
 }
 
