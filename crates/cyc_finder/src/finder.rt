@@ -157,7 +157,9 @@ impl Finder {
         ensures some { IfSome result (λ found. (k : ℕ) × IsNextAfter id_in self.now.entries passed k
             × HoldsAt (λ e. e ≡ record { id = found.0; index = found.1 }) self.now.entries k) }
     {
-        let from = after(&self.slots, self.first.base, &self.hints, passed).max(self.first.position);
+        let from = after(&self.slots, self.first.base, &self.hints, passed).max(
+            self.first.position,
+        );
         let position = next_here(&self.slots, from);
         if position >= self.slots.len() {
             return None;

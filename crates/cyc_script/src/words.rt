@@ -271,11 +271,7 @@ fn step_of_items<'a>(
 
 /// Reads the step of these parts after those before it, and takes note of the name that it introduces or the moment that it
 /// advances to. First its form is judged, then its name or its moment. Takes memory where it introduces a name.
-#[tactic(
-    auto,
-    using(crate::proofs::Lists::list_of_items_of),
-    unfolding(crate::specs::Steps::step_of, crate::specs::Words::form_of_value)
-)]
+#[tactic(auto, using(crate::proofs::Lists::list_of_items_of), unfolding(crate::specs::Steps::step_of, crate::specs::Words::form_of_value))]
 pub(crate) fn read_step<'a>(
     alloc: Global,
     context: &mut Context<'a>,

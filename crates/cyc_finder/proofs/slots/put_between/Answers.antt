@@ -35,7 +35,7 @@ module _ (c : goal.After-set_few) where
 
   gone : HoldsAt IsGone c.args.slots.now.items c.next_gone-gone.result
   gone = subst (λ ys. c.next_gone-gone.result < length ys → HoldsAt IsGone ys c.next_gone-gone.result)
-    c.deref-in-Err-2.ensures.value
+      c.deref-in-Err-2.ensures.value
       c.next_gone-gone.ensures.gone low
 
 pub returns-then-gone-len-clause-rises : goal.returns-then-gone-len-clause-rises

@@ -12,7 +12,7 @@ back_is : (c : Then-number) → IsRunOf (c.args.front.now ++ c.args.back.now) c.
 back_is c =
     let is = sym c.in-Some.ensures.value in
     let most : c.in-Some.first.now.id ≤ c.args.id = omega arith in
-    back_run c.args.front.now c.args.back.now c.requires.rises c.args.id 
+    back_run c.args.front.now c.args.back.now c.requires.rises c.args.id
     (slice_get_within c.args.back.now 0 c.in-Some.first.now is)
     (λ d. let e = ap id_of (get_or_from_slice_get c.args.back.now 0 c.in-Some.first.now d is) in omega (arith, e, most))
 

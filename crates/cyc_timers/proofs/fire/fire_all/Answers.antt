@@ -119,7 +119,7 @@ returns-then-count-most-clause-refused g c =
     let i = c.loop-root.invariant in
     let (made, long, f, makes, few) = i.made in
     let (rest, whole) = front c.args.now made (timers_of c.args.table.now.rows) c.loop-root.table.rows k
-        (c.args.now - c.in-Some.root.1) r f is
+    (c.args.now - c.in-Some.root.1) r f is
     first moment (omega arith) in
     let kept = c.record-found.ensures k r is at in
     let spent = c.if-count-most.true in (
@@ -142,7 +142,7 @@ returns-in-Err-clause-refused g c =
     let i = c.loop-root.invariant in
     let (made, long, f, makes, few) = i.made in
     let (rest, whole) = front c.args.now made (timers_of c.args.table.now.rows) c.loop-root.table.rows k
-        (c.args.now - c.in-Some.root.1) r f is
+    (c.args.now - c.in-Some.root.1) r f is
     first moment (omega arith) in
     let kept = c.record-found.ensures k r is at in
     let h = c.in-Err.ensures in
