@@ -13,8 +13,16 @@ use Rattle.ring_rule.specs.Log.{RingStep, of_raise, of_drain, raise_side, drain_
 use Rattle.ring_rule.specs.Log.{AllTrue}
 use Rattle.ring_rule.specs.Rule.{RingState, HasItsTrail, IsSeat, AllShown, MeetsRule}
 use Rattle.ring_rule.specs.Conservation.{LevelStands, AllStood, EndsWithIts, StandsFor, Conserves}
-use Rattle.ring_rule.specs.Steps.{ThisSeat, Operation, with_raise_step, with_drain_step, IsAllowed, IsRaiseStep, IsDrainStep,
-    IsFiringStep}
+use Rattle.ring_rule.specs.Steps.{
+  ThisSeat,
+  Operation,
+  with_raise_step,
+  with_drain_step,
+  IsAllowed,
+  IsRaiseStep,
+  IsDrainStep,
+  IsFiringStep,
+}
 use Rattle.ring_rule.specs.Steps.{IsSoftStep}
 use Rattle.ring_rule.specs.Moves.{ClosingStands}
 use Rattle.ring_rule.proofs.Log.{rest_enabled}

@@ -42,7 +42,7 @@ invariant_of-self c =
     let made = level_admit (shown a) _ c.args.id c.args.index (read_as c.args.id c.args.index new)
     (finds_admitted kept c.reach.new.kept.items entries c.insert.new.self.entries sound c.reach.ensures.same c.args.id
     c.args.index c.number-position.result c.number-position.ensures.value new absent free came.told c.reach.ensures.within
-        refl) refl in
+    refl) refl in
     sound_by a _ (Admit c.args.id c.args.index) c.self.invariant may made
     (admitted_kept kept c.reach.new.kept.items entries c.insert.new.self.entries sound c.reach.ensures.same c.args.id
     c.args.index c.number-position.result c.number-position.ensures.value new absent free came.told c.reach.ensures.within refl
@@ -63,4 +63,4 @@ returns c =
     rw (← c.self.view_is) (level_admit (shown a) _ c.args.id c.args.index (read_as c.args.id c.args.index new)
     (finds_admitted kept c.reach.new.kept.items entries c.insert.new.self.entries sound c.reach.ensures.same c.args.id
     c.args.index c.number-position.result c.number-position.ensures.value new absent free came.told c.reach.ensures.within
-        refl) refl)
+    refl) refl)

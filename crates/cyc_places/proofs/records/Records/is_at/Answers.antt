@@ -10,8 +10,12 @@ use Rattle.cyc_places.proofs.records.Records.is_at.Goals as goal
 
 module _ (c : goal.After-number-then-position-len) where
   low : c.args.position < length c.self.inside.ids.items
-  low = let n = c.self.inside.ids.ok.0 in let len = c.len.ensures in let less = c.if-position-len.true in omega (arith, n, len,
-      less)
+  low = let n = c.self.inside.ids.ok.0 in let len = c.len.ensures in let less = c.if-position-len.true in omega (
+    arith,
+    n,
+    len,
+    less,
+  )
 
   number_is : c.number.result ≡ (get_or c.self.inside.ids.items c.args.position c.index.result.now).id
   number_is = c.number.ensures.value ∙ ap id_of c.index.ensures
