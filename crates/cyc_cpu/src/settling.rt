@@ -29,7 +29,7 @@ fn all_quiet<R: Raise>(table: &Table, lock: &mut R, low: &mut R) -> bool
 {
     table.law();
     let mut passed = None;
-    for _place in 0..table.len() {
+    for _position in 0..table.len() {
         let Some(found) = table.next_after(passed) else {
             unreachable!()
         };

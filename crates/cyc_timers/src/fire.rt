@@ -147,6 +147,13 @@ fn spent(id: CyclicId) -> Refusal
     Refusal::CountSpent(id)
 }
 
+/// What a fire answers that stopped at a refusal.
+fn stopped(why: Refusal, expired: u64, lost: u64) -> FireRefused
+    ensures { result ≡ record { why = why; expired = expired; lost = lost } }
+{
+    FireRefused { why, expired, lost }
+}
+
 /// Makes every expiration that is due, in ascending order (`cyclic_fire`).
 pub fn fire_all<C: Calls, R: Raise>(
     table: &mut Table,
@@ -196,21 +203,11 @@ pub fn fire_all<C: Calls, R: Raise>(
         let found = table.record(index);
         let count = found.expired;
         if count >= most {
-            return Err(FireRefused {
-                why: spent(id),
-                expired,
-                lost,
-            });
+            return Err(stopped(spent(id), expired, lost));
         }
         let more = match expire_at(id, found.level, calls, lock, low) {
             Ok(more) => more,
-            Err(Refused) => {
-                return Err(FireRefused {
-                    why: Refusal::HandlerRefused(id),
-                    expired,
-                    lost,
-                });
-            }
+            Err(Refused) => return Err(stopped(Refusal::HandlerRefused(id), expired, lost)),
         };
         // read here, the interval and the counts need not outlast the call
         let kept = table.record(index);

@@ -123,7 +123,7 @@ returns-then-count-most-clause-refused g c =
     (c.args.now - c.in-Some.root.1) r f is
     first moment (omega arith) in
     let kept = c.record-found.ensures k r is at in
-    let spent = c.if-count-most.true in (
+    let spent = c.if-count-most.true in rw c.stopped.ensures (
       made,
       next_of r.timer,
       rest,
@@ -147,7 +147,7 @@ returns-in-Err-clause-refused g c =
     first moment (omega arith) in
     let kept = c.record-found.ensures k r is at in
     let h = c.in-Err.ensures in
-    let same_lock = h.lock in let same_low = h.low in (
+    let same_lock = h.lock in let same_low = h.low in rw c.stopped-in-Err.ensures (
       made,
       next_of r.timer,
       rest,
