@@ -14,10 +14,10 @@ use Rattle.cyc_level.proofs.Maps.{at_cases, some_same}
 use Rattle.cyc_core.specs.Reached.{Happens}
 use Rattle.cyc_core.specs.FiringSide.{firing_view, stay_of}
 use Rattle.cyc_core.specs.DrainingSide.{Drains, take_events}
-use Rattle.bench_sides.specs.Ready.{IsNew, IsReady}
+use Rattle.bench_sides.specs.Ready.{IsNewLevel, IsReadyLevel}
 
-pub empty_is_new : (ceiling : ℕ) (l : SoftLevel) → l ≡ empty_level ceiling → IsNew (firing_view l)
-empty_is_new ceiling l e = subst (λ (x : SoftLevel). IsNew (firing_view x)) (sym e) (record {
+pub empty_is_new : (ceiling : ℕ) (l : SoftLevel) → l ≡ empty_level ceiling → IsNewLevel (firing_view l)
+empty_is_new ceiling l e = subst (λ (x : SoftLevel). IsNewLevel (firing_view x)) (sym e) (record {
   none = λ id. refl;
   unmarked = refl;
   bank = refl;
@@ -53,7 +53,7 @@ looked (x ∷ xs) new false l m (j, h, e) = same_on l j m (took l j h) (same_as 
 looked [] (x ∷ xs) false l m (j, h, (k, i, e)) = same_on l j m (followed l j h) (same_on j k m (took j k i) (same_as k m e))
 looked [] [] false l m (j, h, e) = same_on l j m (followed l j h) (same_as j m e)
 
-same_ready : (n most : ℕ) (l m : SoftLevel) → Same l m → IsReady n most (firing_view l) → IsReady n most (firing_view m)
+same_ready : (n most : ℕ) (l m : SoftLevel) → Same l m → IsReadyLevel n most (firing_view l) → IsReadyLevel n most (firing_view m)
 same_ready n most l m s r = record {
   free = subst (λ (h : Option ℕ). is_none h ≡ true) (sym s.2) r.free;
   unmarked = s.1 ∙ r.unmarked;
@@ -61,8 +61,9 @@ same_ready n most l m s r = record {
       × (t.sent ≤ most)) (sym s.0) r.stays;
 }
 
-pub take_ready : (n most : ℕ) (l m : SoftLevel) (answer : Option ℕ) → IsReady n most (firing_view l) → Drains l (Takes answer) m
-    → IsReady n most (firing_view m)
+pub take_ready : (n most : ℕ) (l m : SoftLevel) (answer : Option ℕ) → IsReadyLevel n most (firing_view l)
+    → Drains l (Takes answer) m
+    → IsReadyLevel n most (firing_view m)
 take_ready n most l m answer r d = same_ready n most l m (looked l.old_list l.new_list _ l m d.0) r
 
 -- a finish leaves the expirations of each cyclic
@@ -77,8 +78,8 @@ finish_stays l id j s e = at_cases l.cyclics id (option_map cyclic_after_finish)
     (λ k o. option_map stay_of (l.cyclics k) ≡ Some s → (t : Stay) × (option_map stay_of o ≡ Some t) × (t.sent ≡ s.sent))
     (finish_in (l.cyclics id) s) (λ k _ h. (s, h, refl)) j e
 
-finish_view : (n most : ℕ) (l : SoftLevel) (id : ℕ) → IsReady n most (firing_view l)
-    → IsReady n most (firing_view (after_finish (Some id) l))
+finish_view : (n most : ℕ) (l : SoftLevel) (id : ℕ) → IsReadyLevel n most (firing_view l)
+    → IsReadyLevel n most (firing_view (after_finish (Some id) l))
 finish_view n most l id r = record {
   free = r.free;
   unmarked = r.unmarked;
@@ -88,15 +89,15 @@ finish_view n most l id r = record {
       (t, there, omega (arith, low, same));
 }
 
-pub finish_ready : (n most : ℕ) (l m : SoftLevel) (id : ℕ) (answer : Finished) → IsReady n most (firing_view l)
-    → Drains l (Finishes id answer) m → IsReady n most (firing_view m)
+pub finish_ready : (n most : ℕ) (l m : SoftLevel) (id : ℕ) (answer : Finished) → IsReadyLevel n most (firing_view l)
+    → Drains l (Finishes id answer) m → IsReadyLevel n most (firing_view m)
 finish_ready n most l m id answer r (hand, h, a) =
-    subst (λ (x : SoftLevel). IsReady n most (firing_view x)) (sym h.1)
-    (subst (λ (o : Option ℕ). IsReady n most (firing_view (after_finish o l))) (sym hand) (finish_view n most l id r))
+    subst (λ (x : SoftLevel). IsReadyLevel n most (firing_view x)) (sym h.1)
+    (subst (λ (o : Option ℕ). IsReadyLevel n most (firing_view (after_finish o l))) (sym hand) (finish_view n most l id r))
 
 pub finish_hand : (n most : ℕ) (l m : SoftLevel) (hand : Option ℕ) (answer : Finished) → IsSome hand
-    → IsReady n most (firing_view l)
+    → IsReadyLevel n most (firing_view l)
     →
-    IfSome hand (λ id. Drains l (Finishes id answer) m) → IsReady n most (firing_view m)
+    IfSome hand (λ id. Drains l (Finishes id answer) m) → IsReadyLevel n most (firing_view m)
 finish_hand n most l m None answer some r d = absurd (cc)
 finish_hand n most l m (Some id) answer some r d = finish_ready n most l m id answer r d

@@ -4,7 +4,7 @@ ghost use Rattle.std.specs.Prelude.{◌+◌, ◌-◌, ◌<◌, ◌≤◌, ◌^�
 ghost use Rattle.cyc_types.specs.Limits.{cyclics};
 ghost use Rattle.cyc_core.specs.Tables.{level_of};
 ghost use Rattle.cyc_core.specs.FiringSide.{firing_view};
-ghost use Rattle.bench_sides.specs.Ready.{IsReady, IsFilled};
+ghost use Rattle.bench_sides.specs.Ready.{IsReadyLevel, IsFilledLevel};
 
 use bench_sides::fill;
 use cyc_core::LevelCore;
@@ -14,7 +14,7 @@ use std::alloc::Global;
 /// A level in its greatest bank with the ids from 1 to `ids` admitted.
 fn filled(alloc: Global, ceiling: Ceiling, ids: u16) -> Result<LevelCore, Refusal>
     requires { ids ≤ cyclics }
-    ensures { IfOk result (λ core. IsFilled ids (firing_view (level_of core))) }
+    ensures { IfOk result (λ core. IsFilledLevel ids (firing_view (level_of core))) }
 {
     let mut core = LevelCore::new(alloc, ceiling)?;
     fill(&mut core, ids);
@@ -25,8 +25,8 @@ fn filled(alloc: Global, ceiling: Ceiling, ids: u16) -> Result<LevelCore, Refusa
 fn hand_over(core: &mut LevelCore, id: CyclicId, ids: u16, most: u64) -> u64
     requires id { (0 < id) × (id ≤ ids) }
     requires most { most < 2 ^ 64 - 1 }
-    requires ready { IsReady ids most (firing_view (level_of core.old)) }
-    ensures { IsReady ids (most + 1) (firing_view (level_of core.new)) }
+    requires ready { IsReadyLevel ids most (firing_view (level_of core.old)) }
+    ensures { IsReadyLevel ids (most + 1) (firing_view (level_of core.new)) }
 {
     let _raised = core.raise(id);
     take_next(core, ids, most + 1);
@@ -35,8 +35,8 @@ fn hand_over(core: &mut LevelCore, id: CyclicId, ids: u16, most: u64) -> u64
 
 /// Takes the next cyclic where the hand is empty.
 fn take_next(core: &mut LevelCore, ids: u16, most: u64)
-    requires { IsReady ids most (firing_view (level_of core.old)) }
-    ensures { IsReady ids most (firing_view (level_of core.new)) }
+    requires { IsReadyLevel ids most (firing_view (level_of core.old)) }
+    ensures { IsReadyLevel ids most (firing_view (level_of core.new)) }
 {
     if core.hand().is_none() {
         let _taken = core.take();
@@ -45,8 +45,8 @@ fn take_next(core: &mut LevelCore, ids: u16, most: u64)
 
 /// Finishes one call of the cyclic in hand.
 fn finish_next(core: &mut LevelCore, ids: u16, most: u64) -> u64
-    requires { IsReady ids most (firing_view (level_of core.old)) }
-    ensures { IsReady ids most (firing_view (level_of core.new)) }
+    requires { IsReadyLevel ids most (firing_view (level_of core.old)) }
+    ensures { IsReadyLevel ids most (firing_view (level_of core.new)) }
 {
     let Some(_id) = core.hand() else {
         return 0;
@@ -60,7 +60,7 @@ fn finish_next(core: &mut LevelCore, ids: u16, most: u64) -> u64
 /// So many hand-overs, the ids raised round. The answer is the number of calls that were the last of their cyclic.
 fn hand_overs(core: &mut LevelCore, ids: u16, rounds: u64) -> u64
     requires some { 0 < ids }
-    requires ready { IsReady ids 0 (firing_view (level_of core.old)) }
+    requires ready { IsReadyLevel ids 0 (firing_view (level_of core.old)) }
 {
     let mut number = 1;
     let mut last: u64 = 0;

@@ -2,7 +2,7 @@
 
 ghost use Rattle.std.specs.Prelude.{◌≡◌, ◌<◌, ◌≤◌};
 ghost use Rattle.cyc_types.specs.Limits.{cyclics};
-ghost use Rattle.bench_sides.specs.Ready.{IsNew};
+ghost use Rattle.bench_sides.specs.Ready.{IsNewLevel};
 ghost use Rattle.cyc_ring.specs.Ends.{end_view};
 
 use bench_sides::{fill, hand_overs};

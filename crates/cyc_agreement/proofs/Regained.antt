@@ -11,11 +11,11 @@ use Rattle.cyc_types.specs.declared.firing.Sent.{Sent}
 use Rattle.cyc_types.specs.declared.moment.When.{When}
 use Rattle.cyc_types.specs.Counting.{no_counts}
 use Rattle.cyc_cpu.specs.Rows.{Cyclic}
-use Rattle.cyc_cpu.specs.Cpu.{CpuView, HasRisingIds}
+use Rattle.cyc_cpu.specs.Cpu.{CpuView, HasRisingCyclics}
 use Rattle.cyc_places.specs.declared.record.Placement.{Placement}
 use Rattle.cyc_places.specs.declared.record.Placement.TheVariants.{On, Everywhere}
 use Rattle.cyc_places.specs.declared.record.Record.{Record}
-use Rattle.cyc_places.specs.Places.{IsRecord, HasRisingIds as RecordsRise, ended_on}
+use Rattle.cyc_places.specs.Places.{IsRecord, HasRisingCyclics as RecordsRise, ended_on}
 use Rattle.cyc_agreement.specs.Cpus.{CpusView, OfCpu, DoesAt, Works}
 use Rattle.cyc_agreement.proofs.CpuSpots.{get_set_other}
 use Rattle.cyc_agreement.specs.System.{SystemView, is_online, is_everywhere}
@@ -24,7 +24,7 @@ use Rattle.cyc_agreement.proofs.Lists.{among, false_true}
 use Rattle.cyc_agreement.proofs.Spots.{same_some, none_some}
 use Rattle.cyc_agreement.proofs.Recording.{one_record}
 use Rattle.cyc_agreement.specs.Online.{is_staying, staying, return_at, returns, after_return, GoesOnline}
-use Rattle.cyc_agreement.specs.OmniLaws.{Here, HasOne, old_component, expired_on, lost_on}
+use Rattle.cyc_agreement.specs.OmniLaws.{IsOneOf, HasOne, old_component, expired_on, lost_on}
 use Rattle.cyc_agreement.proofs.Prefixes.{ids_in, found_in}
 use Rattle.cyc_agreement.proofs.Arriving.{between}
 use Rattle.cyc_agreement.proofs.Returned.{Back, back}
@@ -53,7 +53,7 @@ module _ {R : Type 0} (firing : Raise R) (n now : ℕ) where
   pub record Regained (rs : List Record) (v w : CpusView R) : Type 0 where
     pub came : Came (ids_in rs) (cyclics_on n v) (cyclics_on n w)
     pub here : (k : ℕ) (r : Record) (when : When) (skew : ℕ) → IsRecord rs k r → r.placement ≡ Everywhere when skew
-        → Here (old_component n r when skew now) (cyclics_on n w) × HasRisingIds (cyclics_on n w)
+        → IsOneOf (old_component n r when skew now) (cyclics_on n w) × HasRisingCyclics (cyclics_on n w)
 
   same_series : {a b : When} {i j : ℕ} → Everywhere a i ≡ Everywhere b j → (a ≡ b) × (i ≡ j)
   same_series {a} {b} {i} {j} e = (cc, cc)
@@ -77,10 +77,10 @@ module _ {R : Type 0} (firing : Raise R) (n now : ℕ) where
         (subst (λ l. Came (r.id ∷ []) places.before.cyclics l) after
         (came_placed firing _ places.before places.after places.change.1));
     here = λ k q when other at p. (let (a, b) = same_series (sym is ∙ ap (λ (x : Record). x.placement) (one k q at) ∙ p) in (
-      subst (λ c. Here c (cyclics_on n w)) (λ i. old_component n (one k q at i) (a i) (b i) now)
-          (subst (λ l. Here (old_component n r series skew now) l) after
+      subst (λ c. IsOneOf c (cyclics_on n w)) (λ i. old_component n (one k q at i) (a i) (b i) now)
+          (subst (λ l. IsOneOf (old_component n r series skew now) l) after
           (here_placed firing _ places.before places.after places.change.1)),
-      subst (λ l. HasRisingIds l) after places.change.1.rising,
+      subst (λ l. HasRisingCyclics l) after places.change.1.rising,
     ));
   }
     where
@@ -107,7 +107,7 @@ module _ {R : Type 0} (firing : Raise R) (n now : ℕ) where
     where
       by : (u : CpusView R) → Regained (r ∷ []) v u → Regained rs u w → (k : ℕ) (q : Record) (when : When) (skew : ℕ)
           → IsRecord (r ∷ rs) k q → q.placement ≡ Everywhere when skew
-          → Here (old_component n q when skew now) (cyclics_on n w) × HasRisingIds (cyclics_on n w)
+          → IsOneOf (old_component n q when skew now) (cyclics_on n w) × HasRisingCyclics (cyclics_on n w)
       by u a b zero q when skew at p = let (here, rising) = a.here 0 q when skew at p in
           (b.came.old (old_component n q when skew now) here, b.came.rising rising)
       by u a b (suc k) q when skew at p = b.here k q when skew at p
@@ -159,11 +159,11 @@ module _ {R : Type 0} (firing : Raise R) (s t : SystemView R) (n now : ℕ)
 
     -- the CPU has a cyclic of this id only where its record stays
     not_other : (k : ℕ) (r : Record) → IsRecord s.records k r → is_staying s.cpus r ≡ false → (d : Cyclic)
-        → Here d (cyclics_on n did.0.0) → d.timer.id ≡ r.id → ⊥
+        → IsOneOf d (cyclics_on n did.0.0) → d.timer.id ≡ r.id → ⊥
     not_other k r is leaves d h same = by (gained.came.only d h)
       where
-        by : Here d (cyclics_on n did.0.1.2.0) ⊎ (among d.timer.id (ids_in (staying s)) ≡ true) → ⊥
-        by (inl there) = let (j, at) = subst (λ l. Here d l) (before n ∙ none_before) there in let low = at.0 in
+        by : IsOneOf d (cyclics_on n did.0.1.2.0) ⊎ (among d.timer.id (ids_in (staying s)) ≡ true) → ⊥
+        by (inl there) = let (j, at) = subst (λ l. IsOneOf d l) (before n ∙ none_before) there in let low = at.0 in
             absurd (omega (arith, low))
         by (inr e) = let (j, p, at, named, stays) = found_in (is_staying s.cpus) d.timer.id s.records e in
             let one : p ≡ r = same_some (sym at ∙ subst (λ i. IsRecord s.records i r)

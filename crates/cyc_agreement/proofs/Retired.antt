@@ -35,7 +35,7 @@ use Rattle.cyc_agreement.proofs.Who
 use Rattle.cyc_agreement.proofs.Shifted.{Rise, map_remove}
 use Rattle.cyc_agreement.specs.Juggling.{system_of, single_ids}
 use Rattle.cyc_agreement.specs.GoingOffline.{Retires}
-use Rattle.cyc_agreement.specs.Walking.{AreQuiet}
+use Rattle.cyc_agreement.specs.Walking.{HaveNoCalls}
 use Rattle.cyc_agreement.proofs.Here.{omni_is}
 use Rattle.cyc_agreement.proofs.ListsUpTo.{one_place, take_more, first_at, rest_after}
 use Rattle.cyc_agreement.proofs.Places.{has_at, cyclic_of}
@@ -136,14 +136,14 @@ module _ {R : Type 0} (firing : Raise R) (source : ℕ) (v : CpusView R)
     pub still : removal_on source w ≡ None
     pub most : (n : ℕ) → most_on n w ≡ most_on n v
     pub suspended : (n : ℕ) → suspended_on n w ≡ suspended_on n v
-    pub quiet_here : OfCpu source (AreQuiet firing.view) w
+    pub quiet_here : OfCpu source (HaveNoCalls firing.view) w
     pub long : length qs.list ≡ length rs.list
     pub forth : (j : ℕ) (r : Record) → IsRecord rs.list j r → (q : Record) × IsRecord qs.list j q × SameBeside source r q
     pub fresh : (j p : ℕ) (q : Record) → IsRecord qs.list j q → slice_get (ids_on source w) p ≡ Some q.id
         → ended_on source q ≡ no_counts
 
   pub retired_none : (last : ℕ) → Agrees (system_of v rs last) → removal_on source v ≡ None
-      → OfCpu source (AreQuiet firing.view) v
+      → OfCpu source (HaveNoCalls firing.view) v
       → Retired 0 v rs
   retired_none last a still quiet = record {
     run = λ l. refl;
@@ -218,8 +218,8 @@ module _ {R : Type 0} (firing : Raise R) (source : ℕ) (v : CpusView R)
             still = off.still;
             most = λ n. kept n ∙ i.most n;
             suspended = λ n. kept_mark n ∙ i.suspended n;
-            quiet_here = subst (λ u. OfCpu source (AreQuiet firing.view) u) (sym takes.rest)
-                (of_cpu source (AreQuiet firing.view) takes.after (with_cpu w source takes.after)
+            quiet_here = subst (λ u. OfCpu source (HaveNoCalls firing.view) u) (sym takes.rest)
+                (of_cpu source (HaveNoCalls firing.view) takes.after (with_cpu w source takes.after)
                 (cpu_there source takes.before takes.after w takes.here)
                 (λ j d at. (let (b, was) = removed_was takes.before.cyclics l.position j d
                 (subst (λ cs. IsCyclic cs j d) l.cyclics at) in

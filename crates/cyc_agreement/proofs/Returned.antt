@@ -13,7 +13,7 @@ use Rattle.cyc_types.specs.declared.firing.Sent.{Sent}
 use Rattle.cyc_types.specs.declared.moment.When.{When}
 use Rattle.cyc_cpu.specs.Rows.{Cyclic}
 use Rattle.cyc_cpu.specs.Cpu.{CpuView, Places, cyclic_with}
-use Rattle.cyc_cpu.specs.Calls.{Changes, Place as PlaceCall}
+use Rattle.cyc_cpu.specs.Calls.{CpuChanges, Place as PlaceCall}
 use Rattle.cyc_places.specs.declared.record.Placement.{Placement}
 use Rattle.cyc_places.specs.declared.record.Placement.TheVariants.{On, Everywhere}
 use Rattle.cyc_places.specs.declared.record.Record.{Record}
@@ -210,7 +210,7 @@ leaving_same id (x ∷ xs) (y ∷ ys) long same =
 module _ {R : Type 0} (firing : Raise R) (n now : ℕ) where
   by_place : (q : Record) (place : Placement) (series : When) (skew : ℕ) (counts : Sent) (v : CpusView R) (x y : CpuView R)
       → place ≡ Everywhere series skew → IsCpu n x v
-      → Changes firing x (PlaceCall q.id q.level series.interval (component_first n series skew now) counts) y
+      → CpuChanges firing x (PlaceCall q.id q.level series.interval (component_first n series skew now) counts) y
       → Works firing (return_at n now q.id q.level counts place) v (with_cpu v n y)
   by_place q place series skew counts v x y is at did =
       subst (λ p. Works firing (return_at n now q.id q.level counts p) v (with_cpu v n y)) (sym is)
@@ -219,10 +219,10 @@ module _ {R : Type 0} (firing : Raise R) (n now : ℕ) where
   pub one_back : (r q : Record) (series : When) (skew moment : ℕ) (counts : Sent) (v : CpusView R) (x y : CpuView R) → r ≡ q
       → q.placement ≡ Everywhere series skew → IsCpu n x v
       → moment ≡ component_first n series skew now → counts ≡ ended_on n q
-      → Changes firing x (PlaceCall q.id q.level series.interval moment counts) y
+      → CpuChanges firing x (PlaceCall q.id q.level series.interval moment counts) y
       → Works firing (return_at n now r.id r.level (ended_on n r) r.placement) v (with_cpu v n y)
   one_back r q series skew moment counts v x y same place at first ended did =
       subst (λ (z : Record). Works firing (return_at n now z.id z.level (ended_on n z) z.placement) v (with_cpu v n y)) (sym same)
       (subst (λ c. Works firing (return_at n now q.id q.level c q.placement) v (with_cpu v n y)) ended
       (by_place q q.placement series skew counts v x y place at
-      (subst (λ m. Changes firing x (PlaceCall q.id q.level series.interval m counts) y) first did)))
+      (subst (λ m. CpuChanges firing x (PlaceCall q.id q.level series.interval m counts) y) first did)))

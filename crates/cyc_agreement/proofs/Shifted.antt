@@ -11,7 +11,7 @@ use Rattle.cyc_types.specs.Firing.{FiringView, FiringCall}
 use Rattle.cyc_types.specs.declared.refusal.Refusal.{Refusal}
 use Rattle.cyc_cpu.specs.Rows.{Cyclic}
 use Rattle.cyc_cpu.specs.declared.moving.Taken.{Taken}
-use Rattle.cyc_cpu.specs.Cpu.{CpuView, HasRisingIds, cyclic_with}
+use Rattle.cyc_cpu.specs.Cpu.{CpuView, HasRisingCyclics, cyclic_with}
 use Rattle.cyc_cpu.specs.Removal.{Leaves}
 use Rattle.cyc_agreement.specs.Cpus.{CpusView, IsCpu, Works}
 use Rattle.cyc_agreement.specs.Shifting.{move_of, WhyNotShifted, moving}
@@ -27,10 +27,10 @@ use Rattle.cyc_agreement.proofs.Who
 abbrev pub Rise : List ℕ → Type 0
 Rise ids = (i j : ℕ) → i < j → j < length ids → get_or ids i 0 < get_or ids j 0
 
-pub ids_rise : (cs : List Cyclic) → HasRisingIds cs → Rise (map Who.id_in cs)
+pub ids_rise : (cs : List Cyclic) → HasRisingCyclics cs → Rise (map Who.id_in cs)
 ids_rise cs h i j less low = by cs h low
   where
-    by : (cs : List Cyclic) → HasRisingIds cs → j < length (map Who.id_in cs)
+    by : (cs : List Cyclic) → HasRisingCyclics cs → j < length (map Who.id_in cs)
         → get_or (map Who.id_in cs) i 0 < get_or (map Who.id_in cs) j 0
     by [] h low = absurd (omega (arith, low))
     by (c ∷ cs) h low =

@@ -18,8 +18,8 @@ use Rattle.cyc_agreement.specs.Omni.{component_first, AddsOmni}
 use Rattle.cyc_agreement.specs.Online.{is_staying, GoesOnline}
 
 -- this cyclic is one of these
-abbrev pub Here : Cyclic → List Cyclic → Type 0
-Here c cs = (k : ℕ) × IsCyclic cs k c
+abbrev pub IsOneOf : Cyclic → List Cyclic → Type 0
+IsOneOf c cs = (k : ℕ) × IsCyclic cs k c
 
 -- this cyclic is one of these, and no other has its id
 abbrev pub HasOne : Cyclic → List Cyclic → Type 0
@@ -40,7 +40,7 @@ abbrev pub OthersStay : {R : Type 0} → Raise R → Type 0
 OthersStay {R} firing = (s t : SystemView R) (level : Level) (when : When) (skew now id : ℕ)
     → AddsOmni firing (add_request level when now) skew (Ok id) s t → (n : ℕ) (x y : CpuView R)
     → IsCpu n x s.cpus → IsCpu n y t.cpus
-    → (d : Cyclic) → d.timer.id ≢ id → (Here d x.cyclics → Here d y.cyclics) × (Here d y.cyclics → Here d x.cyclics)
+    → (d : Cyclic) → d.timer.id ≢ id → (IsOneOf d x.cyclics → IsOneOf d y.cyclics) × (IsOneOf d y.cyclics → IsOneOf d x.cyclics)
 
 -- a component that comes back with what its earlier stays on this CPU came to
 abbrev pub old_component : ℕ → Record → When → ℕ → ℕ → Cyclic

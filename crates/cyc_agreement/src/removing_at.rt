@@ -8,7 +8,7 @@ ghost use Rattle.cyc_places.specs.Places.{IsRecord, ended_on, summed, with_ended
 ghost use Rattle.cyc_types.specs.declared.receipt.Receipt.{Receipt as TheReceipt};
 ghost use Rattle.cyc_types.specs.Counting.{no_counts};
 ghost use Rattle.cyc_agreement.specs.System.{has, removal_on};
-ghost use Rattle.cyc_agreement.specs.Removing.{BeginsOn, counts_of, kept_in};
+ghost use Rattle.cyc_agreement.specs.Removing.{BeginsOn, counts_of_receipt, kept_in};
 ghost use Rattle.cyc_agreement.specs.Polling.{PollsOn};
 ghost use Rattle.cyc_agreement.specs.Withdrawing.{system, Owns, Withdraws, LeavesAt};
 
@@ -25,7 +25,7 @@ fn keep_counts(records: &mut Records, position: usize, number: u32, receipt: Rec
     requires few { receipt.sent ≤ most }
     ensures { (r : Record) → IsRecord records.old.list position r
         → records.new.list ≡ slice_set records.old.list position
-        (with_ended number (summed (ended_on number r) (counts_of receipt)) r) }
+        (with_ended number (summed (ended_on number r) (counts_of_receipt receipt)) r) }
 {
     let _most = most;
     let counts = Sent {

@@ -15,7 +15,7 @@ ghost use Rattle.cyc_agreement.specs.Agreement.{Agrees};
 ghost use Rattle.cyc_agreement.specs.Holding.{EndedWithin};
 ghost use Rattle.cyc_agreement.specs.Juggling.{system_of, single_ids};
 ghost use Rattle.cyc_agreement.specs.GoingOffline.{quiet, FindsPending, Retires, offline_at};
-ghost use Rattle.cyc_agreement.specs.Walking.{AreQuiet};
+ghost use Rattle.cyc_agreement.specs.Walking.{HaveNoCalls};
 
 use crate::cpus::Cpus;
 use cyc_places::Records;
@@ -27,7 +27,7 @@ pub(crate) fn any_pending<R: Raise>(cpus: &mut Cpus<R>, source: u32) -> bool
     ensures some { OnTrue result ((records : RecordsView) (last : ℕ)
         → FindsPending R.Raise source (system_of cpus.old records last) (system_of cpus.new records last)) }
     ensures none { OnFalse result (Works R.Raise (quiet source (ids_on source cpus.old)) cpus.old cpus.new) }
-    ensures quiet { OnFalse result (OfCpu source (AreQuiet R.view) cpus.new) }
+    ensures quiet { OnFalse result (OfCpu source (HaveNoCalls R.view) cpus.new) }
 {
     cpus.law();
     let mut passed = None;
@@ -70,7 +70,7 @@ pub(crate) fn retire_all<R: Raise>(cpus: &mut Cpus<R>, records: &mut Records, so
     requires there { source < length cpus.old.cpus }
     requires still { removal_on source cpus.old ≡ None }
     requires components { (last : ℕ) → single_ids source (system_of cpus.old records.old last) ≡ [] }
-    requires quiet { OfCpu source (AreQuiet R.view) cpus.old }
+    requires quiet { OfCpu source (HaveNoCalls R.view) cpus.old }
     requires other { (d : ℕ) × (destination (Some source) cpus.old ≡ Some d) }
     ensures did { (last : ℕ) → FoldsTo (Retires R.Raise source) (system_of cpus.old records.old last)
         (ids_on source cpus.old) (system_of cpus.new records.new last) }

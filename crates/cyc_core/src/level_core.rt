@@ -7,8 +7,8 @@ ghost use Rattle.cyc_level.specs.Level.{empty_level};
 ghost use Rattle.cyc_level.specs.Lawful.{Lawful};
 ghost use Rattle.cyc_level.specs.Conservation.{IsConserved};
 ghost use Rattle.cyc_finder.specs.Indexes.{index_of};
-ghost use Rattle.cyc_core.specs.Tables.{cyclic_of, level_of, lookup};
-ghost use Rattle.cyc_core.specs.Reached.{IsReached};
+ghost use Rattle.cyc_core.specs.Tables.{cyclic_of_entry, level_of, lookup};
+ghost use Rattle.cyc_core.specs.Reached.{LevelIsReached};
 
 use crate::admitted::{Admitted, Kept, is_kept_at};
 use cyc_finder::Finder;
@@ -48,11 +48,11 @@ impl Model for LevelCore {
 
     ghost Value = { Tables };
 
-    ghost use Rattle.cyc_core.specs.Shown.{shown, IsSound};
+    ghost use Rattle.cyc_core.specs.Shown.{shown_core, IsSoundCore};
 
-    ghost view = { shown };
+    ghost view = { shown_core };
 
-    ghost invariant = { IsSound };
+    ghost invariant = { IsSoundCore };
 }
 
 /// Where the hint of an id stands: at its low bits, with those above them added, so that ids that are 4,096 apart have hints of
@@ -132,7 +132,7 @@ impl LevelCore {
     /// The conservation theorem of one level, as a call that does nothing: at any time the level is one that enabled events
     /// reached from the empty one, so it keeps every law of such levels.
     pub fn conservation(&self)
-        ensures reached { IsReached (level_of self.now) }
+        ensures reached { LevelIsReached (level_of self.now) }
         ensures lawful { Lawful (level_of self.now) }
         ensures conserved { IsConserved (level_of self.now) }
         ensures some_ceiling { 0 < self.now.ceiling }
@@ -169,7 +169,7 @@ impl LevelCore {
     pub(crate) fn entry_at(&self, id: CyclicId, index: Index) -> Admitted
         requires { option_map (λ entry. entry.index) (lookup id self.now.table) ≡ Some index }
         ensures here { lookup id self.now.table ≡ Some result }
-        ensures cyclic { (level_of self.now).cyclics id ≡ Some (cyclic_of result) }
+        ensures cyclic { (level_of self.now).cyclics id ≡ Some (cyclic_of_entry result) }
         ensures id { result.id ≡ id }
         ensures lawful { Lawful (level_of self.now) }
         ensures some_ceiling { 0 < self.now.ceiling }
@@ -179,7 +179,7 @@ impl LevelCore {
 
     /// The entry of the id, where it is admitted.
     pub(crate) fn find(&self, id: CyclicId) -> Option<Admitted>
-        ensures cyclic { option_map cyclic_of result ≡ (level_of self.now).cyclics id }
+        ensures cyclic { option_map cyclic_of_entry result ≡ (level_of self.now).cyclics id }
         ensures lawful { Lawful (level_of self.now) }
     {
         // Costs nothing: it tells that the level is lawful.
@@ -195,7 +195,7 @@ impl LevelCore {
     pub(crate) fn entry_of(&self, id: CyclicId) -> Admitted
         requires { IsSome (lookup id self.now.table) }
         ensures here { lookup id self.now.table ≡ Some result }
-        ensures cyclic { (level_of self.now).cyclics id ≡ Some (cyclic_of result) }
+        ensures cyclic { (level_of self.now).cyclics id ≡ Some (cyclic_of_entry result) }
         ensures id { result.id ≡ id }
         ensures lawful { Lawful (level_of self.now) }
         ensures some_ceiling { 0 < self.now.ceiling }

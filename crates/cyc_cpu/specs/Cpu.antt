@@ -1,11 +1,12 @@
 -- What callers see of the firing side of one CPU.
-use Rattle.std.specs.Prelude.{◌≡◌, ◌≢◌, ℕ, zero, suc, ◌+◌, ◌^◌, nat_le, cond, insert, ◌<◌, ◌≤◌, max, List, length, slice_index_or}
+use Rattle.std.specs.Prelude.{◌≡◌, ◌≢◌, ℕ, ◌+◌, ◌^◌, nat_le, cond, insert, ◌<◌, ◌≤◌, max, List, length, slice_index_or}
 use Rattle.std.specs.Prelude.{All, Bool, true, false, ◌⊎◌, Option, Some, None}
 use Rattle.cyc_types.specs.declared.Raise.{Ghosts as Raise}
 use Rattle.cyc_types.specs.Firing.{FiringView, Expands, Stay, IsAdmitted, seen_of}
 use Rattle.cyc_types.specs.Series.{never}
-use Rattle.cyc_types.specs.Limits.{cyclics as most_cyclics, greatest_bank}
+use Rattle.cyc_types.specs.Limits.{cyclics as most_cyclics}
 use Rattle.cyc_types.specs.Runs.{Goes, Taught}
+pub use Rattle.cyc_types.specs.Banks.{least_bank, bank_for}
 use Rattle.cyc_types.specs.declared.level.Level.{Level}
 use Rattle.cyc_types.specs.declared.level.Level.TheVariants.{Low, Lock, High}
 use Rattle.cyc_types.specs.declared.refusal.Refusal.{Refusal}
@@ -91,8 +92,8 @@ abbrev pub IsRemoved : ℕ → List Cyclic → Type 0
 IsRemoved id cs = (k : ℕ) × (c : Cyclic) × IsCyclic cs k c × (c.timer.id ≡ id) × (c.timer.level ≢ High) × (c.timer.moment ≡ never)
 
 -- the ids of the cyclics rise
-abbrev pub HasRisingIds : List Cyclic → Type 0
-HasRisingIds cs = (i j : ℕ) (d : Cyclic) → i < j → j < length cs
+abbrev pub HasRisingCyclics : List Cyclic → Type 0
+HasRisingCyclics cs = (i j : ℕ) (d : Cyclic) → i < j → j < length cs
     → (slice_index_or cs i d).timer.id < (slice_index_or cs j d).timer.id
 
 -- the cyclic with another moment
@@ -137,15 +138,6 @@ WhyNoRoom view more v why.Expanding = (length v.cyclics + more ≤ most_cyclics)
     × (v.removal ≡ None)
     × (((view v.lock).followed ≡ false) ⊎ ((view v.low).followed ≡ false))
 WhyNoRoom view more v e = ⊥
-
--- the least bank from k on that has n slots, among so many more
-abbrev pub least_bank : ℕ → ℕ → ℕ → ℕ
-least_bank zero k n = k
-least_bank (suc more) k n = cond (nat_le n (2 ^ k)) k (least_bank more (k + 1) n)
-
--- the least bank that has n slots
-abbrev pub bank_for : ℕ → ℕ
-bank_for n = least_bank greatest_bank 0 n
 
 -- the size that a CPU of this size needs for n cyclics: its own where that is enough (`cyclic_expand` doubles)
 abbrev pub size_for : ℕ → ℕ → ℕ
@@ -210,7 +202,7 @@ pub record Places {R : Type 0} (firing : Raise R) (c : Cyclic)
   pub index : ℕ
   pub within : position ≤ length v.cyclics
   pub cyclics : w.cyclics ≡ insert v.cyclics position c
-  pub rising : HasRisingIds w.cyclics
+  pub rising : HasRisingCyclics w.cyclics
   pub lock : Goes firing v.lock (admits_at Lock c.timer.level c.timer.id index) w.lock
   pub low : Goes firing v.low (admits_at Low c.timer.level c.timer.id index) w.low
   pub kept : SameCpu v w

@@ -69,10 +69,10 @@ abbrev pub IsReceipt : Receipt → Cyclic → Type 0
 IsReceipt receipt c = (receipt.id ≡ c.timer.id) × (receipt.sent ≡ c.timer.expired) × (receipt.lost ≡ c.lost)
 
 -- a removal is done exactly where the mark found nothing outstanding (`cyclic_remove_here`)
-abbrev pub Begins : {R : Type 0} → Raise R → ℕ → CpuView R → Removal → CpuView R → Type 0
-Begins firing id v (Done receipt) w = (c : Cyclic) × (counts : Sent) × IsReceipt receipt c × HasPolled firing.view counts v c
+abbrev pub BeginsHere : {R : Type 0} → Raise R → ℕ → CpuView R → Removal → CpuView R → Type 0
+BeginsHere firing id v (Done receipt) w = (c : Cyclic) × (counts : Sent) × IsReceipt receipt c × HasPolled firing.view counts v c
     × Leaves firing id (Marks id 0 ∷ Polls id (Some counts) ∷ []) c v w
-Begins firing id v (Kept kept) w = Opens firing id kept v w
+BeginsHere firing id v (Kept kept) w = Opens firing id kept v w
 
 -- the open removal has ended: the poll found nothing outstanding
 pub record Ends {R : Type 0} (firing : Raise R) (receipt : Receipt)
@@ -85,7 +85,7 @@ pub record Ends {R : Type 0} (firing : Raise R) (receipt : Receipt)
   pub leaves : Leaves firing receipt.id (Polls receipt.id (Some counts) ∷ []) cyclic v w
 
 -- the open removal of this cyclic goes on: the poll found calls outstanding
-pub record Waits {R : Type 0} (firing : Raise R) (id : ℕ)
+pub record WaitsHere {R : Type 0} (firing : Raise R) (id : ℕ)
     (v w : CpuView R) : Type 0 where
   pub position : ℕ
   pub cyclic : Cyclic

@@ -21,9 +21,9 @@ use Rattle.cyc_cpu.specs.Removal.{Leaves}
 use Rattle.cyc_cpu.specs.Cpu.{CpuView, IsCyclic, HasNoCyclic, with_moment}
 use Rattle.cyc_cpu.specs.Moving.{WhyNotTaken}
 use Rattle.cyc_cpu.specs.Calls.{Suspend, Resume}
-use Rattle.cyc_cpu.specs.Calls.{CpuCall, Changes, Fire, SoftInterrupt, Add, Place, Reprogram, AskPending, AskTotals, AskRoom}
+use Rattle.cyc_cpu.specs.Calls.{CpuCall, CpuChanges, Fire, SoftInterrupt, Add, Place, Reprogram, AskPending, AskTotals, AskRoom}
 use Rattle.cyc_cpu.specs.Calls.{Reserve, Widen, BeginRemove, PollRemove, TakeNow, AskSettled}
-use Rattle.cyc_cpu_laws.specs.Accounts.{counts_of, entered_by, left_by, expired_of, lost_of}
+use Rattle.cyc_cpu_laws.specs.Accounts.{counts_for, entered_by, left_by, expired_of, lost_of}
 
 -- a cyclic's counts, where it has the id
 abbrev pub expired_in : ℕ → Cyclic → ℕ
@@ -67,12 +67,12 @@ lost_if false s n e = refl
 
 -- the counts of a cyclic of this id
 sent_as : (own : ℕ) (s : Sent) (c : Cyclic) → c.timer.id ≡ own → s.sent ≡ c.timer.expired → (id : ℕ) →
-    (counts_of own s id).sent ≡ expired_in id c
+    (counts_for own s id).sent ≡ expired_in id c
 sent_as own s c named e id = sent_if (own == id) s c.timer.expired e ∙ ap (λ (j : ℕ). cond (j == id) c.timer.expired 0)
     (sym named)
 
 lost_as : (own : ℕ) (s : Sent) (c : Cyclic) → c.timer.id ≡ own → s.lost ≡ c.lost → (id : ℕ) →
-    (counts_of own s id).lost ≡ lost_in id c
+    (counts_for own s id).lost ≡ lost_in id c
 lost_as own s c named e id = lost_if (own == id) s c.lost e ∙ ap (λ (j : ℕ). cond (j == id) c.lost 0) (sym named)
 
 module _ {R : Type 0} (firing : Raise R) where
@@ -91,11 +91,11 @@ module _ {R : Type 0} (firing : Raise R) where
   not_taken id v w e d = absurd d
 
   not_added : (id now : ℕ) (level : Level) (when : When) (v w : CpuView R) (e : Refusal) →
-      Changes firing v (Add id level when now (Err e)) w → Shifts (Add id level when now (Err e)) v.cyclics w.cyclics
+      CpuChanges firing v (Add id level when now (Err e)) w → Shifts (Add id level when now (Err e)) v.cyclics w.cyclics
   not_added id now level when v w why.BadNow d = same (Add id level when now (Err why.BadNow)) v w (λ j. (refl, refl)) d.2
   not_added id now level when v w e (absent, early, looked, why_not) = inl (looked.cyclics, λ j. (refl, refl))
 
-  pub changes_shift : (v w : CpuView R) (call : CpuCall) → Changes firing v call w → Shifts call v.cyclics w.cyclics
+  pub changes_shift : (v w : CpuView R) (call : CpuCall) → CpuChanges firing v call w → Shifts call v.cyclics w.cyclics
   changes_shift v w (Add id level when now (Ok done)) (absent, early, a) =
       let before : a.widened.cyclics ≡ v.cyclics = a.widens.cyclics ∙ a.reserves.cyclics in
       inr (inr (inl (

@@ -12,7 +12,7 @@ use Rattle.std.proofs.lemmas.List.Elements.{filter_map-append}
 use Rattle.cyc_finder.specs.declared.slots.Slot.{Slot}
 use Rattle.cyc_finder.specs.Sorted.{Rises, IsGap}
 use Rattle.cyc_finder.specs.Indexes.{Entry, id_in}
-use Rattle.cyc_finder.specs.Slots.{slot_id, entry_of, entries_of, IsGone}
+use Rattle.cyc_finder.specs.Slots.{slot_id, entry_of, entries_of, IsGoneSlot}
 use Rattle.cyc_finder.proofs.RisingIds.{is_at_place, rises_removed, rises_inserted}
 use Rattle.cyc_finder.proofs.Here.{rank, some_slot, split, gap_is, come}
 
@@ -70,7 +70,7 @@ module _ (xs mid : List Slot) (p g : ℕ) (s : Slot) (up : p ≤ g) (low : g < l
 
 -- where a slot comes in that would stand at the gap
 abbrev pub IsWay : List Slot → ℕ → ℕ → Type 0
-IsWay xs gap p = (p ≡ gap) ⊎ ((p + 1 ≡ gap) × HoldsAt IsGone xs p)
+IsWay xs gap p = (p ≡ gap) ⊎ ((p + 1 ≡ gap) × HoldsAt IsGoneSlot xs p)
 
 -- a cyclic of this id, which would stand at the gap, comes in at p, and none is gone from there up to g
 pub record Comes (xs : List Slot) (id gap p g : ℕ) : Type 0 where
@@ -113,7 +113,7 @@ module _ {xs : List Slot} {id gap p g : ℕ} (c : Comes xs id gap p g) where
     greater_after = λ j d from low. at_way j d from (omega (arith, past, low)) low;
   }
 
-  module _ (low : g < length xs) (gone : HoldsAt IsGone xs g) where
+  module _ (low : g < length xs) (gone : HoldsAt IsGoneSlot xs g) where
     gap_left : IsGap slot_id (remove xs g) id p
     gap_left = let l = length-remove xs g low in record {
       in_range = omega (arith, l, c.up, low);

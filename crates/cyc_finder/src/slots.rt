@@ -6,7 +6,7 @@ ghost use Rattle.std.specs.Prelude.{insert, remove, vec_capacity};
 ghost use Rattle.std.specs.List.{AllWithin, HoldsAt, SameBelow};
 ghost use Rattle.cyc_finder.specs.Sorted.{Rises, IsAt, IsGap, IsPassed, ComesAfter};
 ghost use Rattle.cyc_finder.specs.Indexes.{id_in, index_of};
-ghost use Rattle.cyc_finder.specs.Slots.{slot_id, entries_of, IsGone, IsFirst};
+ghost use Rattle.cyc_finder.specs.Slots.{slot_id, entries_of, IsGoneSlot, IsFirst};
 
 use crate::hints::Hints;
 use crate::sorted::{HasId, is_above_all, search, search_unguessed, stands_at};
@@ -99,7 +99,7 @@ pub(crate) fn next_here(slots: &[Slot], from: usize) -> usize
     requires { from ≤ length slots.now }
     ensures after { from ≤ result }
     ensures within { result ≤ length slots.now }
-    ensures gone { AllWithin IsGone slots.now from result }
+    ensures gone { AllWithin IsGoneSlot slots.now from result }
     ensures here { result < length slots.now → HoldsAt (λ slot. slot.index ≢ None) slots.now result }
 {
     let mut position = from;
@@ -145,7 +145,7 @@ fn base_at(slots: &[Slot], position: usize) -> u64
 pub(crate) fn first_from(slots: &[Slot], position: usize) -> First
     requires rises { Rises slot_id slots.now }
     requires within { position ≤ length slots.now }
-    requires gone { AllWithin IsGone slots.now 0 position }
+    requires gone { AllWithin IsGoneSlot slots.now 0 position }
     ensures { IsFirst slots.now result }
 {
     let here = next_here(slots, position);
@@ -160,7 +160,7 @@ pub(crate) fn first_from(slots: &[Slot], position: usize) -> First
 pub(crate) fn first_without(slots: &[Slot], first: &mut First, position: usize)
     requires rises { Rises slot_id slots.now }
     requires within { position < length slots.now }
-    requires gone { position ≡ first.old.position → AllWithin IsGone slots.now 0 (position + 1) }
+    requires gone { position ≡ first.old.position → AllWithin IsGoneSlot slots.now 0 (position + 1) }
     requires other { position ≢ first.old.position → IsFirst slots.now first.old }
     ensures { IsFirst slots.now first.new }
 {
@@ -175,7 +175,7 @@ pub(crate) fn first_with(slots: &[Slot], first: &mut First, position: usize)
     requires rises { Rises slot_id slots.now }
     requires within { position < length slots.now }
     requires here { HoldsAt (λ slot. slot.index ≢ None) slots.now position }
-    requires gone { position ≤ first.old.position → AllWithin IsGone slots.now 0 position }
+    requires gone { position ≤ first.old.position → AllWithin IsGoneSlot slots.now 0 position }
     requires other { first.old.position < position → IsFirst slots.now first.old }
     ensures { IsFirst slots.now first.new }
 {
@@ -191,7 +191,7 @@ pub(crate) fn first_with(slots: &[Slot], first: &mut First, position: usize)
 fn pack(slots: &mut Vec<Slot>, position: usize)
     requires rises { Rises slot_id slots.old.items }
     requires within { position ≤ length slots.old.items }
-    requires gone { AllWithin IsGone slots.old.items 0 position }
+    requires gone { AllWithin IsGoneSlot slots.old.items 0 position }
     ensures entries { entries_of slots.new.items ≡ entries_of slots.old.items }
     ensures rises { Rises slot_id slots.new.items }
     ensures len { length slots.new.items ≡ length (entries_of slots.old.items) }
@@ -273,7 +273,7 @@ fn next_gone(slots: &[Slot], from: usize) -> usize
     ensures after { from ≤ result }
     ensures within { result ≤ length slots.now }
     ensures here { AllWithin (λ slot. slot.index ≢ None) slots.now from result }
-    ensures gone { result < length slots.now → HoldsAt IsGone slots.now result }
+    ensures gone { result < length slots.now → HoldsAt IsGoneSlot slots.now result }
 {
     let mut position = from;
     while position < slots.len() && slots[position].index.is_some() {
@@ -286,7 +286,7 @@ fn next_gone(slots: &[Slot], from: usize) -> usize
 #[inline(always)]
 fn way_in(slots: &[Slot], gap: usize) -> usize
     requires { gap ≤ length slots.now }
-    ensures { (result ≡ gap) ⊎ ((result + 1 ≡ gap) × HoldsAt IsGone slots.now result) }
+    ensures { (result ≡ gap) ⊎ ((result + 1 ≡ gap) × HoldsAt IsGoneSlot slots.now result) }
 {
     if gap > 0 && slots[gap - 1].index.is_none() {
         return gap - 1;

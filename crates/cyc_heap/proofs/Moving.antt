@@ -5,7 +5,7 @@ use Rattle.std.proofs.Math.ListN.{set}
 use Rattle.std.proofs.lemmas.Bool.{cases_eq, cases_lt}
 use Rattle.std.proofs.lemmas.List.{length-set, get_or-set_same, get_or-set_other}
 use Rattle.cyc_heap.specs.declared.entry.Entry.{Entry}
-use Rattle.cyc_heap.specs.Tournament.{nowhere, entry_at, index_of, comes}
+use Rattle.cyc_heap.specs.Tournament.{nowhere, entry_at, cyclic_index, comes}
 use Rattle.cyc_heap.specs.Few.{IsChild, IsHeap, IsHeapBut, IsBelow, IsSame, IsFilled}
 use Rattle.cyc_heap.proofs.Playing.{comes_self, comes_trans}
 
@@ -100,17 +100,17 @@ module _ (few : List Entry) (hole next : ℕ) (within : next < length few) (in_h
 
   module _ (h : IsHeapBut hole few) where
     apart_after : (p q : ℕ) → p < length moved → q < length moved → p ≢ next → q ≢ next → p ≢ q
-        → index_of (entry_at moved p) ≢ index_of (entry_at moved q)
+        → cyclic_index (entry_at moved p) ≢ cyclic_index (entry_at moved q)
     apart_after p q low_p low_q a b ne = let l = moved_long in elim (cases_eq p hole) [
       | inl is ↦ elim (cases_eq q hole) [
         | inl at ↦ absurd (ne (is ∙ sym at))
-        | inr far ↦ subst₂ (λ a b. index_of a ≢ index_of b) (sym (ap (entry_at moved) is ∙ here)) (sym (other q far))
+        | inr far ↦ subst₂ (λ a b. cyclic_index a ≢ cyclic_index b) (sym (ap (entry_at moved) is ∙ here)) (sym (other q far))
             (h.apart next q within (omega (arith, low_q, l)) off far (λ e. b (sym e)))
       ]
       | inr else ↦ elim (cases_eq q hole) [
-        | inl at ↦ subst₂ (λ a b. index_of a ≢ index_of b) (sym (other p else)) (sym (ap (entry_at moved) at ∙ here))
+        | inl at ↦ subst₂ (λ a b. cyclic_index a ≢ cyclic_index b) (sym (other p else)) (sym (ap (entry_at moved) at ∙ here))
             (h.apart p next (omega (arith, low_p, l)) within else off a)
-        | inr far ↦ subst₂ (λ a b. index_of a ≢ index_of b) (sym (other p else)) (sym (other q far))
+        | inr far ↦ subst₂ (λ a b. cyclic_index a ≢ cyclic_index b) (sym (other p else)) (sym (other q far))
             (h.apart p q (omega (arith, low_p, l)) (omega (arith, low_q, l)) else far ne)
       ]
     ]
@@ -189,7 +189,7 @@ module _ (few : List Entry) (hole : ℕ) (e : Entry) (in_hole : hole < length fe
 
   pub filled_heap : IsHeapBut hole few → IsBelow e hole few
       → ((c : ℕ) → IsChild hole c → c < length few → comes e (entry_at few c) ≡ true)
-      → ((p : ℕ) → p < length few → p ≢ hole → index_of (entry_at few p) ≢ index_of e) → IsHeap full
+      → ((p : ℕ) → p < length few → p ≢ hole → cyclic_index (entry_at few p) ≢ cyclic_index e) → IsHeap full
   filled_heap h below above apart =
       let l = long in
       record {
@@ -207,13 +207,15 @@ module _ (few : List Entry) (hole : ℕ) (e : Entry) (in_hole : hole < length fe
         apart = λ p q low_p low_q ne. elim (cases_eq p hole) [
           | inl is ↦ elim (cases_eq q hole) [
             | inl at ↦ absurd (ne (is ∙ sym at))
-            | inr far ↦ subst₂ (λ a b. index_of a ≢ index_of b) (sym (ap (entry_at full) is ∙ at_hole)) (sym (at_other q far))
+            | inr far ↦ subst₂ (λ a b. cyclic_index a ≢ cyclic_index b) (sym (ap (entry_at full) is
+                ∙ at_hole)) (sym (at_other q far))
                 (λ s. apart q (omega (arith, low_q, l)) far (sym s))
           ]
           | inr else ↦ elim (cases_eq q hole) [
-            | inl at ↦ subst₂ (λ a b. index_of a ≢ index_of b) (sym (at_other p else)) (sym (ap (entry_at full) at ∙ at_hole))
+            | inl at ↦ subst₂ (λ a b. cyclic_index a ≢ cyclic_index b) (sym (at_other p else)) (sym (ap (entry_at full) at
+                ∙ at_hole))
                 (apart p (omega (arith, low_p, l)) else)
-            | inr far ↦ subst₂ (λ a b. index_of a ≢ index_of b) (sym (at_other p else)) (sym (at_other q far))
+            | inr far ↦ subst₂ (λ a b. cyclic_index a ≢ cyclic_index b) (sym (at_other p else)) (sym (at_other q far))
                 (h.apart p q (omega (arith, low_p, l)) (omega (arith, low_q, l)) else far ne)
           ]
         ];
@@ -246,7 +248,7 @@ moved_filled position old hole few e new s f = record {
 
 -- the indexes of the others are as they were
 pub apart_moved : (position : ℕ) (old : List Entry) (hole : ℕ) (few : List Entry) (e : Entry) → IsSame position old hole few
-    → ((p : ℕ) → p < length old → p ≢ position → index_of (entry_at old p) ≢ index_of e)
-    → (p : ℕ) → p < length few → p ≢ hole → index_of (entry_at few p) ≢ index_of e
+    → ((p : ℕ) → p < length old → p ≢ position → cyclic_index (entry_at old p) ≢ cyclic_index e)
+    → (p : ℕ) → p < length few → p ≢ hole → cyclic_index (entry_at few p) ≢ cyclic_index e
 apart_moved position old hole few e s apart p within off =
-    let (q, inside, out, at) = s.from p within off in λ same. apart q inside out (ap index_of (sym at) ∙ same)
+    let (q, inside, out, at) = s.from p within off in λ same. apart q inside out (ap cyclic_index (sym at) ∙ same)

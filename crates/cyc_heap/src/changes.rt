@@ -3,7 +3,7 @@
 ghost use Rattle.std.specs.Prelude.{◌≡◌, ◌≢◌, ◌<◌, ◌≤◌, ◌+◌, ◌-◌, ◌*◌, ℕ, length, vec_capacity, true, false};
 ghost use Rattle.cyc_types.specs.Limits.{cyclics};
 ghost use Rattle.cyc_types.specs.Series.{never};
-ghost use Rattle.cyc_heap.specs.Tournament.{entry_at, index_of, free_entry};
+ghost use Rattle.cyc_heap.specs.Tournament.{entry_at, cyclic_index, free_entry};
 ghost use Rattle.cyc_heap.specs.Few.{shown, IsTree, IsChanged};
 
 use crate::entry::Entry;
@@ -29,7 +29,7 @@ pub(crate) fn lower_first(entries: &mut Vec<Entry>, held: usize, leaves: usize, 
     requires some { 0 < held }
     requires tree { IsTree true held leaves entries.old.items }
     ensures tree { IsTree true held leaves entries.new.items }
-    ensures changed { IsChanged leaves (index_of (entry_at entries.old.items 0))
+    ensures changed { IsChanged leaves (cyclic_index (entry_at entries.old.items 0))
         (record (entry_at entries.old.items 0) { moment = moment })
         (shown true held entries.old.items) (shown true held entries.new.items) }
     ensures valid { moment ≤ never }
@@ -104,7 +104,7 @@ pub(crate) fn change(
 fn add_few(entries: &mut Vec<Entry>, held: usize, leaves: usize, index: Index, entry: Entry)
     requires leaves { leaves ≤ cyclics }
     requires index { index < leaves }
-    requires own { index_of entry ≡ index }
+    requires own { cyclic_index entry ≡ index }
     requires valid { entry.moment ≤ never }
     requires free { never < (entry_at (shown true held entries.old.items) index).moment }
     requires space { held < length entries.old.items }
@@ -127,7 +127,7 @@ pub(crate) fn add(
 ) -> usize
     requires leaves { leaves ≤ cyclics }
     requires index { index < leaves }
-    requires own { index_of entry ≡ index }
+    requires own { cyclic_index entry ≡ index }
     requires valid { entry.moment ≤ never }
     requires free { never < (entry_at (shown is_few held entries.old.items) index).moment }
     requires space { held < length entries.old.items }

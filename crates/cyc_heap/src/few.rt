@@ -2,8 +2,8 @@
 //! foretold, where a game waits for what it compares.
 
 ghost use Rattle.std.specs.Prelude.{◌≡◌, ◌≢◌, ◌≤◌, ◌⊎◌, ℕ, ◌+◌, ◌*◌, ◌<◌, length, take, drop, vec_capacity, true, IfSome, IfNone};
-ghost use Rattle.cyc_heap.specs.Tournament.{entry_at, index_of, comes};
-ghost use Rattle.cyc_heap.specs.Few.{IsHeap, IsHeapBut, IsBelow, IsSame, IsFilled, HasNo};
+ghost use Rattle.cyc_heap.specs.Tournament.{entry_at, cyclic_index, comes};
+ghost use Rattle.cyc_heap.specs.Few.{IsHeap, IsHeapBut, IsBelow, IsSame, IsFilled, HasNoIndex};
 
 use crate::entry::Entry;
 use cyc_types::Index;
@@ -14,8 +14,8 @@ use cyc_types::Index;
 /// It looks at the last one first: one that is armed again and again mostly expires after all others, and then stands behind
 /// them.
 pub(crate) fn find(few: &[Entry], index: Index) -> Option<usize>
-    ensures none { IfNone result (HasNo index few.now) }
-    ensures some { IfSome result (λ p. (p < length few.now) × (index_of (entry_at few.now p) ≡ index)) }
+    ensures none { IfNone result (HasNoIndex index few.now) }
+    ensures some { IfSome result (λ p. (p < length few.now) × (cyclic_index (entry_at few.now p) ≡ index)) }
 {
     if few.last().is_some_and(|last| last.is_of(index)) {
         return Some(few.len() - 1);
@@ -68,7 +68,7 @@ fn sink(few: &mut [Entry], position: usize, entry: Entry)
     requires position { position < length few.old }
     requires heap { IsHeapBut position few.old }
     requires below { IsBelow entry position few.old }
-    requires apart { (p : ℕ) → p < length few.old → p ≢ position → index_of (entry_at few.old p) ≢ index_of entry }
+    requires apart { (p : ℕ) → p < length few.old → p ≢ position → cyclic_index (entry_at few.old p) ≢ cyclic_index entry }
     ensures heap { IsHeap few.new }
     ensures filled { IsFilled position few.old entry few.new }
 {
@@ -89,7 +89,7 @@ fn sink(few: &mut [Entry], position: usize, entry: Entry)
 fn settle(few: &mut [Entry], position: usize, entry: Entry)
     requires position { position < length few.old }
     requires heap { IsHeapBut position few.old }
-    requires apart { (p : ℕ) → p < length few.old → p ≢ position → index_of (entry_at few.old p) ≢ index_of entry }
+    requires apart { (p : ℕ) → p < length few.old → p ≢ position → cyclic_index (entry_at few.old p) ≢ cyclic_index entry }
     ensures heap { IsHeap few.new }
     ensures filled { IsFilled position few.old entry few.new }
 {
@@ -102,7 +102,7 @@ pub(crate) fn put(entries: &mut Vec<Entry>, held: usize, position: usize, entry:
     requires held { held ≤ length entries.old.items }
     requires position { position < held }
     requires heap { IsHeapBut position (take held entries.old.items) }
-    requires apart { (p : ℕ) → p < held → p ≢ position → index_of (entry_at entries.old.items p) ≢ index_of entry }
+    requires apart { (p : ℕ) → p < held → p ≢ position → cyclic_index (entry_at entries.old.items p) ≢ cyclic_index entry }
     ensures heap { IsHeap (take held entries.new.items) }
     ensures filled { IsFilled position (take held entries.old.items) entry (take held entries.new.items) }
     ensures behind { drop held entries.new.items ≡ drop held entries.old.items }
@@ -119,7 +119,7 @@ pub(crate) fn put_first(entries: &mut Vec<Entry>, held: usize, entry: Entry)
     requires held { held ≤ length entries.old.items }
     requires some { 0 < held }
     requires heap { IsHeapBut 0 (take held entries.old.items) }
-    requires apart { (p : ℕ) → p < held → p ≢ 0 → index_of (entry_at entries.old.items p) ≢ index_of entry }
+    requires apart { (p : ℕ) → p < held → p ≢ 0 → cyclic_index (entry_at entries.old.items p) ≢ cyclic_index entry }
     ensures heap { IsHeap (take held entries.new.items) }
     ensures filled { IsFilled 0 (take held entries.old.items) entry (take held entries.new.items) }
     ensures behind { drop held entries.new.items ≡ drop held entries.old.items }

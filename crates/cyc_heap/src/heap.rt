@@ -8,9 +8,9 @@ ghost use Rattle.cyc_types.specs.Limits.{cyclics};
 ghost use Rattle.cyc_types.specs.declared.refusal.Refusal.TheVariants.{Memory};
 ghost use Rattle.cyc_types.specs.Expirations.{Expiration};
 ghost use Rattle.cyc_types.specs.Series.{never};
-ghost use Rattle.cyc_heap.specs.Tournament.{key, index_of, entry_at, free_entry, slots, IsPlayed};
+ghost use Rattle.cyc_heap.specs.Tournament.{key, cyclic_index, entry_at, free_entry, slots, IsPlayed};
 ghost use Rattle.cyc_heap.specs.Few.{most_few, root_position, shown, IsTree};
-ghost use Rattle.cyc_heap.specs.Heap.{HeapView, new_heap, size_of, len_of, expiration_at, with_moment, pair_of, IsEmpty, IsLeast};
+ghost use Rattle.cyc_heap.specs.Heap.{HeapView, new_heap, size_of, used_count, expiration_at, slots_moved, pair_of, IsEmptyHeap, IsLeast};
 
 use crate::between::{few_at_most, gather, play_few};
 use crate::changes::{add, change, change_many, lower_first, take};
@@ -133,7 +133,7 @@ impl ExpiryHeap {
 
     /// Puts in an expiration, and gives the index that it has from now on: one that was free. Takes no memory.
     pub fn insert(&mut self, moment: Moment, id: CyclicId) -> Index
-        requires { len_of self.old < size_of self.old }
+        requires { used_count self.old < size_of self.old }
         ensures below { result < size_of self.old }
         ensures free { expiration_at self.old result ≡ None }
         ensures slots { self.new.slots ≡ slice_set self.old.slots result (Some (record { moment = moment; id = id })) }
@@ -156,8 +156,8 @@ impl ExpiryHeap {
 
     /// The least expiration by its moment and then its id, and its index. None where no index is in use.
     pub fn root(&self) -> Option<(Index, Moment, CyclicId)>
-        ensures some { IsSome result ↔ (0 < len_of self.now) }
-        ensures empty { IfNone result (IsEmpty self.now) }
+        ensures some { IsSome result ↔ (0 < used_count self.now) }
+        ensures empty { IfNone result (IsEmptyHeap self.now) }
         ensures root { self.now.root ≡ option_map (λ found. found.0) result }
         ensures least { IfSome result (λ found. IsLeast self.now found.0 (record { moment = found.1; id = found.2 })) }
     {
@@ -170,7 +170,7 @@ impl ExpiryHeap {
     /// later than `now`, and where no index is in use: one subtraction tells both, since the entry of a free index comes after
     /// every moment.
     pub fn due_root(&self, now: Moment) -> Option<(Index, u64, CyclicId)>
-        ensures none { IfNone result (IsEmpty self.now ⊎ ((i : ℕ) × (e : Expiration) × IsLeast self.now i e × (now < e.moment))) }
+        ensures none { IfNone result (IsEmptyHeap self.now ⊎ ((i : ℕ) × (e : Expiration) × IsLeast self.now i e × (now < e.moment))) }
         ensures due { IfSome result (λ found. found.1 ≤ now) }
         ensures root { IfSome result (λ found. self.now.root ≡ Some found.0) }
         ensures least { IfSome result (λ found. IsLeast self.now found.0 (record { moment = now - found.1; id = found.2 })) }
@@ -183,9 +183,9 @@ impl ExpiryHeap {
     /// The entry at the root, which may be that of a free index.
     #[inline(always)]
     fn first(&self) -> Entry
-        ensures free { never < result.moment → IsEmpty self.now × (self.now.root ≡ None) }
-        ensures used { result.moment ≤ never → IsLeast self.now (index_of result) (key result)
-            × (self.now.root ≡ Some (index_of result)) }
+        ensures free { never < result.moment → IsEmptyHeap self.now × (self.now.root ≡ None) }
+        ensures used { result.moment ≤ never → IsLeast self.now (cyclic_index result) (key result)
+            × (self.now.root ≡ Some (cyclic_index result)) }
     {
         self.entries[self.root]
     }
@@ -194,7 +194,7 @@ impl ExpiryHeap {
     #[inline(always)]
     pub fn lower_root(&mut self, moment: Moment)
         requires { IsSome self.old.root }
-        ensures slots { IfSome self.old.root (λ index. self.new.slots ≡ with_moment self.old.slots index moment) }
+        ensures slots { IfSome self.old.root (λ index. self.new.slots ≡ slots_moved self.old.slots index moment) }
         ensures room { self.new.room ≡ self.old.room }
     {
         let held = self.held;
@@ -209,7 +209,7 @@ impl ExpiryHeap {
     /// Gives the expiration of this index another moment, earlier or later (`cyclic_reprogram_cyclic`).
     pub fn replace(&mut self, index: Index, moment: Moment)
         requires { IsSome (expiration_at self.old index) }
-        ensures slots { self.new.slots ≡ with_moment self.old.slots index moment }
+        ensures slots { self.new.slots ≡ slots_moved self.old.slots index moment }
         ensures room { self.new.room ≡ self.old.room }
     {
         change(
@@ -276,7 +276,7 @@ impl ExpiryHeap {
 
     /// How many indexes are in use.
     pub fn len(&self) -> usize
-        ensures value { result ≡ len_of self.now }
+        ensures value { result ≡ used_count self.now }
         ensures few { result ≤ size_of self.now }
     {
         self.given - self.free.len()
@@ -339,7 +339,7 @@ fn is_few_now(
     requires leaves { leaves ≤ cyclics }
     requires none { is_few ≡ false → held.old ≡ 0 }
     requires own { (i : ℕ) → i < leaves → (entry_at (shown is_few held.old entries.old.items) i).moment ≤ never
-        → index_of (entry_at (shown is_few held.old entries.old.items) i) ≡ i }
+        → cyclic_index (entry_at (shown is_few held.old entries.old.items) i) ≡ i }
     requires tree { IsTree is_few held.old leaves entries.old.items }
     ensures tree { IsTree result held.new leaves entries.new.items }
     ensures long { length entries.new.items ≡ length entries.old.items }

@@ -9,12 +9,12 @@ use Rattle.cyc_core.specs.Tables.{Tables}
 use Rattle.cyc_script.specs.Limits.{most_steps}
 use Rattle.cyc_script.specs.declared.step.Step.TheVariants.{Advance}
 use Rattle.cyc_system.specs.System.{RunningSystem, running_system}
-use Rattle.cyc_model.specs.State.{State, Outcome, online_cpus}
+use Rattle.cyc_model.specs.State.{State, Outcome, cpus_online}
 use Rattle.cyc_types.specs.Reasons.{when, or_else, bad_now}
 use Rattle.cyc_model.specs.Advance.{advance, advance_refusal}
 use Rattle.cyc_replay.specs.SystemAdvancing.{at_clock, fired_and_lost, HasFired, IsAdvanced}
 use Rattle.cyc_replay.specs.declared.machine.Machine.{Machine}
-use Rattle.cyc_replay.specs.Machine.{Holds, IsReached}
+use Rattle.cyc_replay.specs.Machine.{ShowsMachine, IsReached}
 use Rattle.cyc_replay.specs.Words.{Comes, TakesWord}
 use Rattle.cyc_replay.proofs.Doing.{called_done, word_done}
 use Rattle.cyc_model.proofs.Still.{still_fires}
@@ -34,7 +34,7 @@ pub stands_still : (now : ℕ) (s : State) → s.suspended ≡ true → advance_
 stands_still now s on = ap (λ b. or_else (when b Suspended) (or_else (bad_now now) None)) on
 
 -- the clock is set
-pub holds_at : (now : ℕ) (s : State) (m : Machine) → Holds s m → Holds (at_clock now s) (record m { clock = now })
+pub holds_at : (now : ℕ) (s : State) (m : Machine) → ShowsMachine s m → ShowsMachine (at_clock now s) (record m { clock = now })
 holds_at now s m h = record {
   system = h.system;
   shows = (let w = h.shows in
@@ -51,7 +51,7 @@ holds_at now s m h = record {
   room = h.room;
 }
 
-pub begins : (step now : ℕ) (s : State) (m : Machine) → step ≤ most_steps → IsReached step s → Holds s m → now < never
+pub begins : (step now : ℕ) (s : State) (m : Machine) → step ≤ most_steps → IsReached step s → ShowsMachine s m → now < never
     → s.suspended ≡ false
     → HasFired tally_count 0 (fired_and_lost 0 0) (at_clock now s) (running_system m.tally m.system)
     (running_system m.tally m.system)
@@ -88,7 +88,7 @@ pub advanced : (step k n expired lost now : ℕ) (s : State) (first : RunningSys
     → IsAdvanced tally_count now (fired_and_lost expired lost) s first (running_system t.tally t.system)
     → Comes [] s (advance k now s) t
 advanced step k n expired lost now s first t a clock before d =
-    let still = still_fires now (online_cpus s) (record s { clock = now }) in
+    let still = still_fires now (cpus_online s) (record s { clock = now }) in
     let o = d.comes k in
     record {
       holds = record {

@@ -12,24 +12,24 @@ use Rattle.cyc_text.specs.Lines.{refused}
 use Rattle.cyc_cpu_model.specs.Answers.{IsRefused}
 use Rattle.cyc_cpu.specs.Soft.{raise_tables}
 use Rattle.cyc_text.specs.declared.lines.Counts.{Counts}
-use Rattle.cyc_system.specs.Removing.{cpus_with as cpus_with_in}
+use Rattle.cyc_system.specs.Removing.{cpus_having as cpus_with_in}
 use Rattle.cyc_system.specs.SystemRemoval.{SystemRemoval}
 use Rattle.cyc_system.specs.SystemRemoval.TheVariants.{Done, Kept}
 use Rattle.cyc_script.specs.declared.step.Step.TheVariants.{Remove}
 use Rattle.cyc_system.specs.System.{SystemView}
 use Rattle.cyc_system.specs.Calls.{Changes, BeginRemove}
 use Rattle.cyc_model.specs.Questions.{plain}
-use Rattle.cyc_model.specs.State.{State, cpus_with}
-use Rattle.cyc_model.specs.Places.{id_of, is_unknown}
+use Rattle.cyc_model.specs.State.{State, cpus_having}
+use Rattle.cyc_model.specs.Places.{id_of, is_no_cyclic}
 use Rattle.cyc_types.specs.Reasons.{first_refusal, when}
-use Rattle.cyc_model.specs.Remove.{busy_on_each, remove}
+use Rattle.cyc_model.specs.Remove.{busy_on_any, remove}
 use Rattle.cyc_model.specs.Report.{counts_of}
 use Rattle.cyc_model.proofs.Spread.{Good}
 use Rattle.cyc_model.specs.Script.{does, text_in, refusal_of}
-use Rattle.cyc_replay.specs.SystemWords.{Gives, IsRefusedFor}
-use Rattle.cyc_replay.specs.Removal.{told_by, IsRemoved, IsKept}
+use Rattle.cyc_replay.specs.SystemWords.{GivesIndexes, IsRefusedFor}
+use Rattle.cyc_replay.specs.Removal.{told_by_receipt, IsRemovedAtOnce, IsKept}
 use Rattle.cyc_replay.specs.declared.machine.Machine.{Machine}
-use Rattle.cyc_replay.specs.Machine.{Holds, Remembers, id_at, numbers_of}
+use Rattle.cyc_replay.specs.Machine.{ShowsMachine, Remembers, id_at, numbers_of}
 use Rattle.cyc_system.specs.Removing.{BeginsRemoval}
 use Rattle.cyc_words.specs.declared.named.Named.TheVariants.{Leaving, Removed}
 use Rattle.cyc_words.specs.Names.{news, noted}
@@ -47,12 +47,12 @@ use Rattle.cyc_replay.proofs.Unknown.{unknown_removed, still_known}
 
 -- what the beginning of a removal is
 abbrev pub Begun : ℕ → Result SystemRemoval Refusal → State → SystemView Tables → Type 0
-Begun name (Ok (Done receipt)) s w = IsRemoved name receipt s w
+Begun name (Ok (Done receipt)) s w = IsRemovedAtOnce name receipt s w
 Begun name (Ok (Kept waits)) s w = IsKept name waits s w
 Begun name (Err e) s w = IsRefusedFor e (Remove name) s w
 
 pub begun : (name id : ℕ) (answer : Result SystemRemoval Refusal) (s : State) (v w : SystemView Tables)
-    → ((receipt : Receipt) → Changes raise_tables v (BeginRemove id (Ok (Done receipt))) w → IsRemoved name receipt s w)
+    → ((receipt : Receipt) → Changes raise_tables v (BeginRemove id (Ok (Done receipt))) w → IsRemovedAtOnce name receipt s w)
     → ((waits : ℕ) → Changes raise_tables v (BeginRemove id (Ok (Kept waits))) w → IsKept name waits s w)
     → ((e : Refusal) → Changes raise_tables v (BeginRemove id (Err e)) w → IsRefusedFor e (Remove name) s w)
     → Changes raise_tables v (BeginRemove id answer) w → Begun name answer s w
@@ -61,9 +61,9 @@ begun name id (Ok (Kept waits)) s v w answered kept refused did = kept waits did
 begun name id (Err e) s v w answered kept refused did = refused e did
 
 -- the definition knows no cyclic of the name
-pub nobody : (name : ℕ) (s : State) → is_unknown (id_of name s) s ≡ true → refusal_of plain (Remove name) s ≡ Some NoCyclic
+pub nobody : (name : ℕ) (s : State) → is_no_cyclic (id_of name s) s ≡ true → refusal_of plain (Remove name) s ≡ Some NoCyclic
 nobody name s gone =
-    ap (λ b. first_refusal (when b NoCyclic ∷ busy_on_each plain (cpus_with (id_of name s) s) s)) gone
+    ap (λ b. first_refusal (when b NoCyclic ∷ busy_on_any plain (cpus_having (id_of name s) s) s)) gone
 
 -- ---- indexes for any cyclics that were put on CPUs
 
@@ -71,12 +71,12 @@ at_length : (front : List ℕ) (x : ℕ) (more : List ℕ) → listed (front ++ 
 at_length [] x more = refl
 at_length (y ∷ front) x more = at_length front x more
 
-gives_more : (front more : List ℕ) (k : ℕ) → k ≡ length front → Gives (listed (front ++ more)) k more
+gives_more : (front more : List ℕ) (k : ℕ) → k ≡ length front → GivesIndexes (listed (front ++ more)) k more
 gives_more front [] k is = tt
 gives_more front (x ∷ more) k is =
     let long = length-append front (x ∷ []) in (
       ap (listed (front ++ x ∷ more)) is ∙ at_length front x more,
-      subst (λ xs. Gives (listed xs) (k + 1) more) (append_assoc front (x ∷ []) more)
+      subst (λ xs. GivesIndexes (listed xs) (k + 1) more) (append_assoc front (x ∷ []) more)
           (gives_more (front ++ x ∷ []) more (k + 1) (omega (arith, long, is))),
     )
 
@@ -90,7 +90,7 @@ as_many (suc n) = ap suc (as_many n)
 
 -- ---- the machine after it
 
-module _ (name id : ℕ) (s : State) (m n : Machine) (g : Good s) (h : Holds s m) (kept : Keeps s n.system)
+module _ (name id : ℕ) (s : State) (m n : Machine) (g : Good s) (h : ShowsMachine s m) (kept : Keeps s n.system)
     (clock : n.clock ≡ m.clock)
     (tally : n.tally ≡ m.tally) (at : id_at m.names name ≡ Some id) (is_id : id_of name s ≡ id)
     (named : n.named.items ≡ m.named.items) where
@@ -106,21 +106,21 @@ module _ (name id : ℕ) (s : State) (m n : Machine) (g : Good s) (h : Holds s m
   no_earlier texts step = let last = (still_remove step (text_in texts name) name s).last in omega (arith, last)
 
   others_known : (texts : List (List ℕ)) (step j : ℕ) → j ≢ id
-      → is_unknown j (remove plain step (text_in texts name) name s).state ≡ true → is_unknown j s ≡ true
+      → is_no_cyclic j (remove plain step (text_in texts name) name s).state ≡ true → is_no_cyclic j s ≡ true
   others_known texts step j ne gone = sym (unknown_removed step (text_in texts name) name j s (λ e. ne (e ∙ is_id))) ∙ gone
 
   done_remembers : (receipt : Receipt) → n.names ≡ slice_set m.names name (Removed receipt)
-      → BeginsRemoval raise_tables (id_of name s) (Ok (Done receipt)) m.system n.system → IsRemoved name receipt s n.system
+      → BeginsRemoval raise_tables (id_of name s) (Ok (Done receipt)) m.system n.system → IsRemovedAtOnce name receipt s n.system
       → (texts : List (List ℕ)) (indexes : ℕ → ℕ) (step : ℕ) → Remembers (remove plain step (text_in texts name) name s).state n
   done_remembers receipt names did b texts indexes step =
       let t = (remove plain step (text_in texts name) name s).state in
-      let told = subst (λ i. counts_of i t ≡ told_by receipt (s.called i)) is_id (b.counts texts indexes step) in
+      let told = subst (λ i. counts_of i t ≡ told_by_receipt receipt (s.called i)) is_id (b.counts texts indexes step) in
       remembers_ended s t m n name id receipt h.remembers at
       (receipt_removed (id_of name s) receipt m.system n.system did ∙ is_id)
       names named (no_earlier texts step)
-      (ap (λ k. is_unknown k t) (sym is_id)
+      (ap (λ k. is_no_cyclic k t) (sym is_id)
       ∙ remove_forgets name s m.system n.system h.system h.shows receipt did step (text_in texts name))
-      (told ∙ (λ z. told_by receipt (sym (ap (λ (c : Counts). c.called) told) z)))
+      (told ∙ (λ z. told_by_receipt receipt (sym (ap (λ (c : Counts). c.called) told) z)))
       (λ j ne. others_known texts step j ne)
       (λ j ne low gone. stays_unknown texts indexes step (Remove name) s g b.done.accepted j low gone)
       (λ j ne low gone. counts_removed name s g b.done.accepted step (text_in texts name) j)
@@ -174,7 +174,7 @@ remove_taken texts step name removal line s n done says same =
     done_takes texts step (Remove name) line s n done (λ indexes. same ∙ sym (says indexes))
 
 pub remove_refused : (texts : List (List ℕ)) (step name : ℕ) (e : Refusal) (line : List ℕ) (s : State) (n : Machine)
-    → IsRefused e (refusal_of plain (Remove name) s) × Holds s n → refused_as e ≢ refused_as Memory
+    → IsRefused e (refusal_of plain (Remove name) s) × ShowsMachine s n → refused_as e ≢ refused_as Memory
     → line ≡ refused step (number_of e)
     → TakesWord texts step (Remove name) line s n
 remove_refused texts step name e line s n (why, h) other same =

@@ -15,13 +15,13 @@ use Rattle.cyc_types.specs.declared.level.Level.TheVariants.{High}
 use Rattle.cyc_core.specs.Tables.{Tables}
 use Rattle.cyc_types.specs.Expirations.{times_of, expirations}
 use Rattle.cyc_types.specs.Timers.{Timer}
-use Rattle.cyc_timers.specs.Rows.{timers, Cyclic as Timed}
+use Rattle.cyc_timers.specs.Rows.{timers, CyclicState as Timed}
 use Rattle.cyc_timers.specs.Acts.{ids_at}
 use Rattle.cyc_timers.specs.declared.fire.Fired.{Fired}
 use Rattle.cyc_timers.specs.declared.fire.FireRefused.{FireRefused}
 use Rattle.cyc_timers.specs.Made.{Stops}
 use Rattle.cyc_cpu.specs.Cpu.{CpuView, running}
-use Rattle.cyc_cpu.specs.Calls.{Fire, WhyNoFire, no_interrupts, Does as DoesHere}
+use Rattle.cyc_cpu.specs.Calls.{Fire, WhyNoFire, no_interrupts, CpuDoes as DoesHere}
 use Rattle.cyc_cpu.proofs.Calling.{refused_not}
 use Rattle.cyc_cpu.specs.Soft.{raise_tables}
 use Rattle.cyc_system.specs.Cpus.{IsCpu}
@@ -30,15 +30,15 @@ use Rattle.cyc_system.proofs.Spots.{same_some, none_some}
 use Rattle.cyc_system.specs.Calls.{Does, FireOne, no_fire}
 use Rattle.cyc_agreement.specs.Suspending.{is_suspended}
 use Rattle.cyc_model.specs.Acts.{calls_of}
-use Rattle.cyc_model.specs.Cpu.{Cyclic, Cpu}
+use Rattle.cyc_model.specs.Cpu.{CyclicState, Cpu}
 use Rattle.cyc_model.specs.Firing.{fire_here}
 use Rattle.cyc_types.specs.Reasons.{when, or_else}
-use Rattle.cyc_model.specs.State.{State, absent, cpu_of, on, each, numbers_from}
+use Rattle.cyc_model.specs.State.{State, absent, cpu_of, on_number, each, cpus_from}
 use Rattle.cyc_model.proofs.Events.{calls_append}
 use Rattle.cyc_model.proofs.Totals.{expired_in}
 use Rattle.cyc_model.proofs.Numbers.{Has, numbers_few}
 use Rattle.cyc_model.proofs.Calm.{good_clock}
-use Rattle.cyc_cpu_model.specs.Shown.{shown}
+use Rattle.cyc_cpu_model.specs.Shown.{shown_cyclic}
 use Rattle.cyc_replay.specs.SystemAdvancing.{at_clock, online_below, fired_and_lost, HasFired}
 use Rattle.cyc_replay.specs.Shown.{shown_list, IsSystem}
 use Rattle.cyc_replay.specs.declared.machine.Machine.{Machine}
@@ -105,35 +105,35 @@ AllBelow k [] = Unit {0}
 AllBelow k (n ∷ ns) = (n < k) × AllBelow k ns
 
 numbers_below : (test : Cpu → Bool) (from high : ℕ) (cs : List Cpu) → from + length cs ≤ high
-    → AllBelow high (numbers_from from test cs)
+    → AllBelow high (cpus_from from test cs)
 unfolding AllBelow
 numbers_below test from high [] le = tt
 numbers_below test from high (c ∷ cs) le = by (test c) (numbers_below test (from + 1) high cs (omega (arith, le)))
   where
-    by : (b : Bool) → AllBelow high (numbers_from (from + 1) test cs)
-        → AllBelow high (cond b (from ∷ numbers_from (from + 1) test cs) (numbers_from (from + 1) test cs))
+    by : (b : Bool) → AllBelow high (cpus_from (from + 1) test cs)
+        → AllBelow high (cond b (from ∷ cpus_from (from + 1) test cs) (cpus_from (from + 1) test cs))
     by true r = (omega (arith, le), r)
     by false r = r
 
 not_fired_yet : (n now : ℕ) (ns : List ℕ) (s : State) → AllBelow n ns
-    → cpu_of n (each (λ k. on k (fire_here k now)) ns s).state ≡ cpu_of n s
+    → cpu_of n (each (λ k. on_number k (fire_here k now)) ns s).state ≡ cpu_of n s
 unfolding AllBelow
 not_fired_yet n now [] s below = refl
 not_fired_yet n now (k ∷ ns) s below =
-    not_fired_yet n now ns (on k (fire_here k now) s).state below.1
+    not_fired_yet n now ns (on_number k (fire_here k now) s).state below.1
     ∙ get_or-set_other s.cpus k n (fire_here k now (cpu_of k s)).cpu absent (λ e. let low = below.0 in omega (arith, low, e))
 
 called_fires : (id now : ℕ) (ns : List ℕ) (s : State)
-    → (each (λ k. on k (fire_here k now)) ns s).state.called id
-    ≡ s.called id + calls_of id (each (λ k. on k (fire_here k now)) ns s).acts
+    → (each (λ k. on_number k (fire_here k now)) ns s).state.called id
+    ≡ s.called id + calls_of id (each (λ k. on_number k (fire_here k now)) ns s).acts
 called_fires id now [] s = omega arith
 called_fires id now (k ∷ ns) s =
-    let t = (on k (fire_here k now) s).state in
+    let t = (on_number k (fire_here k now) s).state in
     let a = called_fires id now ns t in
-    let b = calls_append id (fire_here k now (cpu_of k s)).acts (each (λ j. on j (fire_here j now)) ns t).acts in
+    let b = calls_append id (fire_here k now (cpu_of k s)).acts (each (λ j. on_number j (fire_here j now)) ns t).acts in
     let c : t.called id ≡ s.called id + calls_of id (fire_here k now (cpu_of k s)).acts = refl in omega (arith, a, b, c)
 
-timers_shown : (cs : List Timed) → map (λ (c : Cyclic). c.timer) (map shown cs) ≡ timers cs
+timers_shown : (cs : List Timed) → map (λ (c : CyclicState). c.timer) (map shown_cyclic cs) ≡ timers cs
 timers_shown [] = refl
 timers_shown (c ∷ cs) = ap (λ ts. c.timer ∷ ts) (timers_shown cs)
 
@@ -163,10 +163,10 @@ take_low (suc n) (c ∷ cs) = let r = take_low n cs in omega (arith, r)
 
 shown_at : (os : List Bool) (vs : List (CpuView Tables)) (n : ℕ) (x : CpuView Tables) → length os ≡ length vs
     → slice_get vs n ≡ Some x
-    → (slice_index_or (shown_list os vs) n absent).cyclics ≡ map shown x.cyclics
+    → (slice_index_or (shown_list os vs) n absent).cyclics ≡ map shown_cyclic x.cyclics
 shown_at os [] n x long is = absurd (none_some is)
 shown_at [] (v ∷ vs) n x long is = absurd (omega (arith, long))
-shown_at (o ∷ os) (v ∷ vs) zero x long is = ap (λ (y : CpuView Tables). map shown y.cyclics) (same_some is)
+shown_at (o ∷ os) (v ∷ vs) zero x long is = ap (λ (y : CpuView Tables). map shown_cyclic y.cyclics) (same_some is)
 shown_at (o ∷ os) (v ∷ vs) (suc n) x long is = shown_at os vs n x (omega (arith, long)) is
 
 abbrev why_of : FireRefused → Result Fired FireRefused → Refusal
@@ -198,14 +198,15 @@ module _ (step n expired lost : ℕ) (s : State) (first : RunningSystem TallyVie
 
   -- the CPU has not fired
   same_timers : (x : CpuView Tables) → IsCpu n x m.system.cpus
-      → timers x.cyclics ≡ map (λ (c : Cyclic). c.timer) (cpu_of n s).cyclics
+      → timers x.cyclics ≡ map (λ (c : CyclicState). c.timer) (cpu_of n s).cyclics
   same_timers x here =
       let c = at_clock m.clock s in let ns = online_below n c in
       let still = not_fired_yet n m.clock ns c (numbers_below (λ (y : Cpu). y.online) 0 n (take n c.cpus) (take_low n c.cpus)) in
       sym (timers_shown x.cyclics)
-      ∙ ap (map (λ (y : Cyclic). y.timer)) (sym (shown_at m.system.cpus.online m.system.cpus.cpus n x a.system.agrees.long here))
-      ∙ ap (λ cs. map (λ (y : Cyclic). y.timer) (slice_index_or cs n absent).cyclics) (sym a.fired.comes.shows.cpus)
-      ∙ ap (λ (y : Cpu). map (λ (z : Cyclic). z.timer) y.cyclics) still
+      ∙ ap (map (λ (y : CyclicState). y.timer)) (sym (shown_at m.system.cpus.online m.system.cpus.cpus n x a.system.agrees.long
+      here))
+      ∙ ap (λ cs. map (λ (y : CyclicState). y.timer) (slice_index_or cs n absent).cyclics) (sym a.fired.comes.shows.cpus)
+      ∙ ap (λ (y : Cpu). map (λ (z : CyclicState). z.timer) y.cyclics) still
 
   pub never_fire : (e : FireRefused) (t : RunningSystem TallyView Tables) → (e.why ≡ Offline → ⊥)
       → Does tally_calls raise_tables no_interrupts (running_system m.tally m.system)
@@ -225,7 +226,7 @@ module _ (step n expired lost : ℕ) (s : State) (first : RunningSystem TallyVie
           never_stopped m.clock 65535 (65536 * 16000000032) did.before did.after m.tally t.calls e f (omega arith)
           (a.most n did.before did.here) (omega arith)
           (subst (EachTimer (IsFew 65535 (65536 * 16000000032))) (sym ts)
-          (few_more 65535 (65535 * 16000000032) (65536 * 16000000032) (map (λ (c : Cyclic). c.timer) (cpu_of n s).cyclics)
+          (few_more 65535 (65535 * 16000000032) (65536 * 16000000032) (map (λ (c : CyclicState). c.timer) (cpu_of n s).cyclics)
           (omega arith) (few_timers step n s a.reached a.few)))
           (λ id. subst (λ xs. times_of id (expirations m.clock xs) ≤ late + 2) (sym ts)
           (few_times id n m.clock s (reached_good step s a.reached)))
@@ -233,9 +234,10 @@ module _ (step n expired lost : ℕ) (s : State) (first : RunningSystem TallyVie
 
 -- ---- a CPU that is passed over
 
-length_fires : (now : ℕ) (ns : List ℕ) (s : State) → length (each (λ k. on k (fire_here k now)) ns s).state.cpus ≡ length s.cpus
+length_fires : (now : ℕ) (ns : List ℕ) (s : State) → length (each (λ k. on_number k (fire_here k now)) ns s).state.cpus ≡
+    length s.cpus
 length_fires now [] s = refl
-length_fires now (k ∷ ns) s = length_fires now ns (on k (fire_here k now) s).state
+length_fires now (k ∷ ns) s = length_fires now ns (on_number k (fire_here k now) s).state
     ∙ length-set s.cpus k (fire_here k now (cpu_of k s)).cpu
 
 pub length_shown : (os : List Bool) (vs : List (CpuView Tables)) → length os ≡ length vs → length (shown_list os vs) ≡ length vs

@@ -21,7 +21,7 @@ use Rattle.cyc_cpu.specs.declared.removing.Removal.TheVariants as on_cpu
 use Rattle.cyc_cpu.specs.Cpu.{CpuView, Running, SameCpu, running}
 use Rattle.cyc_cpu.specs.Soft.{raise_tables, Interrupts}
 use Rattle.cyc_cpu.specs.Calls.{CpuCall, Fire, AskPending, AskRoom, Reserve, Reprogram as Reprogrammed, TakeNow, Widen}
-use Rattle.cyc_cpu.specs.Calls.{SoftInterrupt as CpuSoftInterrupt, Does as CpuDoes}
+use Rattle.cyc_cpu.specs.Calls.{SoftInterrupt as CpuSoftInterrupt, CpuDoes as CpuDoes}
 use Rattle.cyc_cpu.specs.Calls as cpu
 use Rattle.cyc_cpu.proofs.Calling.{changes_most, fire_keeps}
 use Rattle.cyc_places.specs.declared.record.Placement.{Placement as RecordPlacement}
@@ -38,14 +38,14 @@ use Rattle.cyc_system.proofs.Spots.{same_some, none_some}
 use Rattle.cyc_system.specs.Adding.{OnlyWorks, entering}
 use Rattle.cyc_system.specs.Shifting.{move_of}
 use Rattle.cyc_system.specs.Binding.{GoesTo, Records}
-use Rattle.cyc_system.specs.Removing.{counts_of, BeginsOn, Begun, Answers}
+use Rattle.cyc_system.specs.Removing.{counts_of_receipt, BeginsOn, Begun, AnswersRemoval}
 use Rattle.cyc_system.specs.SystemRemoval.TheVariants as system
 use Rattle.cyc_system.specs.Polling.{PollsOn, Polled}
 use Rattle.cyc_system.specs.Counting.{asked}
 use Rattle.cyc_system.specs.Turn.{Turn}
 use Rattle.cyc_system.specs.Turn.TheVariants as turn
 use Rattle.cyc_system.specs.Juggling.{TakesTurn, Turns, single_ids}
-use Rattle.cyc_system.specs.GoingOffline.{quiet, Retires, offline_at, Leaves}
+use Rattle.cyc_system.specs.GoingOffline.{quiet, Retires, offline_at, EndsOffline}
 use Rattle.cyc_system.specs.Omni.{entering_each}
 use Rattle.cyc_system.specs.Online.{GoesOnline, staying, is_staying, returns, after_return, switched_on}
 use Rattle.cyc_system.specs.Calls.{SystemCall, Add, AddOmni, Bind, BeginRemove, PollRemove, AskTotals, Reprogram, ReprogramOn}
@@ -232,7 +232,7 @@ kept_switched n b v h = record {
 }
 
 kept_leaves : (n : ℕ) (report : JuggleReport) (answer : Result (Unit {0}) Refusal) (v w : SystemView Tables) → Half v
-    → Leaves raise_tables n report answer v w → Kept v w
+    → EndsOffline raise_tables n report answer v w → Kept v w
 kept_leaves n report answer v w h (inl (left, is, same)) = kept_same v w h same
 kept_leaves n report answer v w h (inr (inl (none, is, (before, id, stands, found, some, only)))) =
     kept_only (quiet n before ++ on n (AskPending id (Some found)) ∷ []) v w h only
@@ -254,7 +254,7 @@ kept_begins id (b ∷ way) v w h (u, did, rest) =
   where
     by : (found : Removal) → BeginsOn raise_tables id b.cpu found v u → Kept v u
     by (on_cpu.Done receipt) (did, k, r, is, named, records, last) =
-        kept_ended b.cpu (cpu.BeginRemove id (Ok (on_cpu.Done receipt))) (counts_of receipt) k r v u h did is records last
+        kept_ended b.cpu (cpu.BeginRemove id (Ok (on_cpu.Done receipt))) (counts_of_receipt receipt) k r v u h did is records last
     by (on_cpu.Kept left) (did, records, last) =
         kept_parts v (record v { cpus = u.cpus }) u
         (kept_did (on b.cpu (cpu.BeginRemove id (Ok (on_cpu.Kept left)))) v u.cpus h did) refl records last
@@ -268,11 +268,11 @@ kept_polls id (p ∷ way) v w h (u, did, rest) =
   where
     by : (answer : Option Receipt) → PollsOn raise_tables id p.cpu answer v u → Kept v u
     by (Some receipt) (did, k, r, is, named, records, last) =
-        kept_ended p.cpu (cpu.PollRemove (Some receipt)) (counts_of receipt) k r v u h did is records last
+        kept_ended p.cpu (cpu.PollRemove (Some receipt)) (counts_of_receipt receipt) k r v u h did is records last
     by None (did, records, last) =
         kept_parts v (record v { cpus = u.cpus }) u (kept_did (on p.cpu (cpu.PollRemove None)) v u.cpus h did) refl records last
 
-kept_answers : (id : ℕ) (receipt : Receipt) (v u w : SystemView Tables) → Kept v u → Answers id receipt u w → Kept v w
+kept_answers : (id : ℕ) (receipt : Receipt) (v u w : SystemView Tables) → Kept v u → AnswersRemoval id receipt u w → Kept v w
 kept_answers id receipt v u w k a = record {
   half = half_parts (record u { records = remove u.records a.position }) w (half_gone u a.position k.half) a.cpus a.records
       a.last;

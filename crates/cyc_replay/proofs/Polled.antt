@@ -16,7 +16,7 @@ use Rattle.cyc_model.proofs.Spread.{Good}
 use Rattle.cyc_model.proofs.Calm.{well_interrupt}
 use Rattle.cyc_model.proofs.Answering.{well_polls, counts_poll}
 use Rattle.cyc_model.proofs.Still.{still_polls}
-use Rattle.cyc_model.specs.Places.{is_unknown}
+use Rattle.cyc_model.specs.Places.{is_no_cyclic}
 use Rattle.cyc_model.specs.Report.{counts_of}
 use Rattle.cyc_text.specs.declared.lines.Counts.{Counts}
 use Rattle.cyc_cpu.specs.Soft.{raise_tables}
@@ -28,15 +28,15 @@ use native.Mathlib.Decide.{ℕ_discrete}
 use Rattle.std.specs.Prelude.{not, is_some, slice_set, Ok, Err}
 use Rattle.cyc_replay.specs.Shown.{ShowsSystem}
 use Rattle.cyc_replay.specs.Room.{HaveRoomFor}
-use Rattle.cyc_replay.specs.Removal.{HavePolled, IsInterrupted, answer_line, told_by}
+use Rattle.cyc_replay.specs.Removal.{HavePolled, IsInterrupted, answer_line, told_by_receipt}
 use Rattle.cyc_replay.specs.declared.machine.Machine.{Machine}
-use Rattle.cyc_replay.specs.Machine.{Holds, Remembers, IsWide, id_at, name_at, numbers_of}
+use Rattle.cyc_replay.specs.Machine.{ShowsMachine, Remembers, IsWide, id_at, name_at, numbers_of}
 use Rattle.cyc_replay.proofs.Doing.{Keeps}
 use Rattle.cyc_replay.proofs.Remembering.{SameNames, remembers_on, remembers_ended, remembers_nameless, no_name, numbers_kept}
 use Rattle.cyc_replay.specs.Words.{Comes, TakesWord}
 use Rattle.cyc_replay.proofs.Doing.{word_done}
 use Rattle.cyc_replay.proofs.Named.{reached_good}
-use Rattle.cyc_replay.specs.Interrupting.{HasServed, IsPolling}
+use Rattle.cyc_replay.specs.Interrupting.{HasInterrupted, IsPolling}
 use Rattle.cyc_words.specs.declared.named.Named.{Named}
 use Rattle.cyc_words.specs.declared.named.Named.TheVariants.{Removed}
 use Rattle.cyc_words.specs.Names.{news, noted}
@@ -59,7 +59,7 @@ module _ (texts : List (List ℕ)) (step : ℕ) (i : SoftintStep) (s : State) wh
       by (k ∷ ks) t = by ks (poll_id plain texts step k t).state
 
   -- before the first poll
-  pub polling_begins : (made : Ran) (first m : Machine) → HasServed step i made s first m
+  pub polling_begins : (made : Ran) (first m : Machine) → HasInterrupted step i made s first m
       → HavePolled texts step [] [] (interrupt step i s).state m.system → IsPolling texts step [] [] i s m
   polling_begins made first m h polled = record {
     reached = h.reached;
@@ -75,8 +75,8 @@ module _ (texts : List (List ℕ)) (step : ℕ) (i : SoftintStep) (s : State) wh
     good_now = (well_polls texts step ids (interrupt step i s).state
         (well_interrupt step i s (reached_good step s p.reached) p.accepted).1).1
 
-    others_known : (j : ℕ) → j ≢ id → is_unknown j (left (ids ++ id ∷ [])) ≡ true → is_unknown j (left ids) ≡ true
-    others_known j ne gone = sym (unknown_polled texts step id j (left ids) ne) ∙ ap (is_unknown j) (sym (left_next ids id))
+    others_known : (j : ℕ) → j ≢ id → is_no_cyclic j (left (ids ++ id ∷ [])) ≡ true → is_no_cyclic j (left ids) ≡ true
+    others_known j ne gone = sym (unknown_polled texts step id j (left ids) ne) ∙ ap (is_no_cyclic j) (sym (left_next ids id))
         ∙ gone
 
     same_told : (j : ℕ) → counts_of j (left (ids ++ id ∷ [])) ≡ counts_of j (left ids)
@@ -113,9 +113,9 @@ module _ (texts : List (List ℕ)) (step : ℕ) (i : SoftintStep) (s : State) wh
       };
     }
 
-    still_unknown : (j : ℕ) → j ≤ (left ids).last_id → is_unknown j (left ids) ≡ true
-        → is_unknown j (left (ids ++ id ∷ [])) ≡ true
-    still_unknown j low gone = ap (is_unknown j) (left_next ids id)
+    still_unknown : (j : ℕ) → j ≤ (left ids).last_id → is_no_cyclic j (left ids) ≡ true
+        → is_no_cyclic j (left (ids ++ id ∷ [])) ≡ true
+    still_unknown j low gone = ap (is_no_cyclic j) (left_next ids id)
         ∙ ap (λ o. not (is_some o))
         ((well_polls texts step (id ∷ []) (left ids) good_now).0.gone j (low, unknown_gone j (left ids) gone)).1
 
@@ -127,7 +127,7 @@ module _ (texts : List (List ℕ)) (step : ℕ) (i : SoftintStep) (s : State) wh
         remembers_on (left ids) (left (ids ++ id ∷ [])) m n p.holds.remembers same same_last
         (λ j low gone. dite (ℕ_discrete j id)
         (λ e. absurd (still_known id (left (ids ++ id ∷ [])) n.system shows agrees some
-        (subst (λ k. is_unknown k (left (ids ++ id ∷ [])) ≡ true) e gone)))
+        (subst (λ k. is_no_cyclic k (left (ids ++ id ∷ [])) ≡ true) e gone)))
         (λ ne. others_known j ne gone))
         (λ j low gone. still_unknown j low gone) (λ j low gone. same_told j)
 
@@ -136,13 +136,13 @@ module _ (texts : List (List ℕ)) (step : ℕ) (i : SoftintStep) (s : State) wh
         → (id_at m.names (name_at m.named.items id) ≡ Some id → name ≡ name_at m.named.items id)
         → ((id_at m.names (name_at m.named.items id) ≡ Some id → ⊥) → name ≡ length m.names)
         → n.names ≡ slice_set m.names name (Removed receipt) → n.named.items ≡ m.named.items → receipt.id ≡ id
-        → is_unknown id (left (ids ++ id ∷ [])) ≡ true
-        → counts_of id (left (ids ++ id ∷ [])) ≡ told_by receipt ((interrupt step i s).state.called id)
+        → is_no_cyclic id (left (ids ++ id ∷ [])) ≡ true
+        → counts_of id (left (ids ++ id ∷ [])) ≡ told_by_receipt receipt ((interrupt step i s).state.called id)
         → Remembers (left (ids ++ id ∷ [])) n × (numbers_of n.names ≡ numbers_of m.names)
     remembers_answered receipt name n here there names named own unknown told = ⊎_elim
         (λ at. let is = names ∙ ap (λ k. slice_set m.names k (Removed receipt)) (here at) in (
           remembers_ended (left ids) (left (ids ++ id ∷ [])) m n (name_at m.named.items id) id receipt p.holds.remembers at own is
-              named same_last unknown (told ∙ (λ z. told_by receipt (sym (ap (λ (c : Counts). c.called) told) z)))
+              named same_last unknown (told ∙ (λ z. told_by_receipt receipt (sym (ap (λ (c : Counts). c.called) told) z)))
               (λ j ne gone. others_known j ne gone) (λ j ne low gone. still_unknown j low gone) (λ j ne low gone. same_told j),
           ap numbers_of is ∙ numbers_kept m.names (name_at m.named.items id) (Removed receipt) (ap Some own ∙ sym at),
         ))
@@ -191,7 +191,7 @@ module _ (texts : List (List ℕ)) (step : ℕ) (i : SoftintStep) (s : State) wh
 
   pub answered_some : (ids lines : List ℕ) (id : ℕ) (receipt : Receipt) (line after text : List ℕ) (calls : ℕ) (n : Machine)
       → IsPolling texts step (ids ++ id ∷ []) (lines ++ answer_line step (text_of_id id texts s.names) (Some receipt)) i s n
-      → ((t : State) → Holds t n → text ≡ text_of_id id texts t.names) → calls ≡ receipt.sent - receipt.lost
+      → ((t : State) → ShowsMachine t n → text ≡ text_of_id id texts t.names) → calls ≡ receipt.sent - receipt.lost
       → after ≡ line ++ removed step text calls
       → (more : List ℕ) × (after ≡ line ++ more) × IsPolling texts step (ids ++ id ∷ []) (lines ++ more) i s n
   answered_some ids lines id receipt line after text calls n p is told same =

@@ -25,7 +25,7 @@ use Rattle.cyc_system.proofs.Recording.{tail_rises}
 use Rattle.cyc_model.specs.State.{State, On, Placed, Placement}
 use Rattle.cyc_model.specs.Places.{id_of, replaced}
 use Rattle.cyc_types.specs.Reasons.{or_else}
-use Rattle.cyc_model.specs.Bind.{no_cyclic, omnipresent, unbind_refusal}
+use Rattle.cyc_model.specs.Bind.{cyclic_is_absent, cyclic_is_omni, unbind_refusal}
 use Rattle.cyc_replay.specs.Shown.{shown_cpus, shown_record, shown_counts, ShowsSystem, IsSystem}
 use Rattle.cyc_replay.specs.SystemWords.{IsDone, IsRefusedFor}
 use Rattle.cyc_replay.proofs.Asking.{home_shown, same_no_cyclic, same_omnipresent, no_memory_when, no_memory_else}
@@ -138,8 +138,8 @@ module _ (name : ℕ) (s : State) (v w : SystemView Tables) (sys : IsSystem v) (
   unbind_refused e (inl (own, some, answer, same)) = (
     is_refused e (unbind_refusal name s) (same_whys ∙ some
         ∙ ap Some (sym (same_error (Unit {0}) e own (Err e) (Err own) refl refl answer)))
-        (no_memory_else (no_cyclic (id_of name s) s) _ (no_memory_when _ NoCyclic tt)
-        (no_memory_else (omnipresent (id_of name s) s) None (no_memory_when _ Omnipresent tt) tt)),
+        (no_memory_else (cyclic_is_absent (id_of name s) s) _ (no_memory_when _ NoCyclic tt)
+        (no_memory_else (cyclic_is_omni (id_of name s) s) None (no_memory_when _ Omnipresent tt) tt)),
     subst (ShowsSystem s) (sym same) h,
   )
   unbind_refused e (inr (none, (ok, n, home, cpus, records))) = absurd (let isnt : Err e ≡ Ok tt = ok in cc)

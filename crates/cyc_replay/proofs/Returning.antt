@@ -23,25 +23,34 @@ use Rattle.cyc_places.specs.declared.record.Placement.{Placement as RecordPlacem
 use Rattle.cyc_places.specs.declared.record.Placement.TheVariants as placements
 use Rattle.cyc_places.specs.declared.record.Record.{Record}
 use Rattle.cyc_places.specs.Places.{IsRecord, HasRisingIds, is_everywhere as everywhere_in, ended_on, with_ended}
-use Rattle.cyc_system.specs.Cpus.{CpusView, Works, on as on_cpu}
-use Rattle.cyc_system.specs.System.{SystemView, is_leaving as leaving_in}
+use Rattle.cyc_system.specs.Cpus.{CpusView, Works, on_number as on_cpu}
+use Rattle.cyc_system.specs.System.{SystemView, is_being_removed as leaving_in}
 use Rattle.cyc_system.specs.Refusals as why
 use Rattle.cyc_system.specs.Omni.{component_first}
-use Rattle.cyc_system.specs.Online.{is_staying, staying as staying_in, returns, return_at as returns_at, after_return}
-use Rattle.cyc_system.specs.Online.{online_cpu as online_there}
+use Rattle.cyc_system.specs.Online.{is_staying, staying_omni as staying_in, returns, return_here as returns_at, after_return}
+use Rattle.cyc_system.specs.Online.{is_online_already as online_there}
 use Rattle.cyc_system.specs.Calls.{Online as GoOnline, Changes}
 use Rattle.cyc_model.specs.Acts.{calls_of, events_at}
 use Rattle.cyc_model.specs.Cpu.{Cpu, nothing_here}
 use Rattle.cyc_model.specs.Moving.{must_grow, widen_here, place_here}
-use Rattle.cyc_model.specs.Questions.{plain, has_followed}
+use Rattle.cyc_model.specs.Questions.{plain, soft_has_followed}
 use Rattle.cyc_model.specs.Serving.{level_at}
 use Rattle.cyc_model.specs.Free.{AllCanBeAdmitted}
-use Rattle.cyc_model.specs.State.{State, Outcome, Ended, Everywhere, Placed, absent, cpu_of, followed_by, on, each, told}
-use Rattle.cyc_model.specs.Places.{is_leaving, without_ended}
+use Rattle.cyc_model.specs.State.{State, Outcome, Ended, Everywhere, Placed, absent, cpu_of, followed_by, on_number, each, told}
+use Rattle.cyc_model.specs.Places.{is_being_removed, without_ended}
 use Rattle.cyc_model.specs.Add.{one_admitted}
 use Rattle.cyc_types.specs.Reasons.{or_else, when, only_if, busy, bad_now}
 use Rattle.cyc_types.specs.Counting.{no_counts}
-use Rattle.cyc_model.specs.Online.{is_on_all, staying, online_cpu, no_room_for_all, online_refusal, again, return_at, return_of}
+use Rattle.cyc_model.specs.Online.{
+  is_on_all,
+  staying_omni,
+  is_online_already,
+  no_room_for_all,
+  online_refusal,
+  again,
+  return_here,
+  return_of,
+}
 use Rattle.cyc_model.specs.Online.{return_all, go_online}
 use Rattle.cyc_model.proofs.Agreement.{agrees_with}
 use Rattle.cyc_model.proofs.Local.{Local, same_low_lock, local_nothing, local_widen, local_place}
@@ -52,7 +61,7 @@ use Rattle.cyc_cpu_model.proofs.Free.{none_admitted, widen_none}
 use Rattle.cyc_replay.proofs.Half.{half, half_works}
 use Rattle.cyc_replay.specs.Shown.{shown_list, shown_cpus, shown_placement, shown_record, shown_counts, ShowsSystem, AreTied}
 use Rattle.cyc_replay.specs.Shown.{IsSystem}
-use Rattle.cyc_replay.specs.SystemWords.{Gives, ComesTo, IsDone, IsRefusedFor}
+use Rattle.cyc_replay.specs.SystemWords.{GivesIndexes, ComesTo, IsDone, IsRefusedFor}
 use Rattle.cyc_replay.proofs.Cpus.{cpu_at, done_at, long_shown}
 use Rattle.cyc_replay.proofs.Asking.{online_at, same_no_cpu, leaving_shown, no_memory_when, no_memory_else, some_refused}
 use Rattle.cyc_replay.proofs.Asking.{same_error}
@@ -129,7 +138,8 @@ kept_other id n q m e apart = dite (ℕ_discrete q id)
 abbrev GivesBack : ℕ → ℕ → List Record → CpusView Tables → CpusView Tables → Type 0
 GivesBack n now rs x y = (given_there : List ℕ)
     × ((s : State) (indexes : ℕ → ℕ) → s.cpus ≡ shown_cpus x → s.clock ≡ now → HaveEnded n rs s
-    → Gives indexes s.admissions given_there → Returned n rs given_there s (each (return_of indexes n) (map shown_record rs) s) y)
+    → GivesIndexes indexes s.admissions given_there → Returned n rs given_there s (each (return_of indexes n) (map shown_record
+    rs) s) y)
 
 all_return : (n now : ℕ) (rs : List Record) (x y : CpusView Tables) → length x.online ≡ length x.cpus → AreTied x
     → HasRisingIds rs → AllEverywhere rs
@@ -165,7 +175,7 @@ all_return n now (r ∷ rs) x y long tied rising every works =
               let s1 = without_ended n r.id s in
               let c = again r.id n e (s.ended r.id n) s.clock in
               let f = place_here n (indexes s.admissions) c in
-              let o = one_admitted (on n f s1) in
+              let o = one_admitted (on_number n f s1) in
               let here : s.ended r.id n ≡ shown_counts (ended_on n r) = ended 0 r refl in
               let at : o.state.cpus ≡ shown_cpus u =
               (λ z. slice_set (cpus z) n (place_here n (gives.0 z) (again r.id n e (here z) (clock z))
@@ -179,14 +189,15 @@ all_return n now (r ∷ rs) x y long tied rising every works =
               let none : (q : ℕ) → calls_of q (f (cpu_of n s)).acts ≡ 0 =
               λ q. (λ z. calls_of q (place_here n (gives.0 z) (again r.id n e (here z) (clock z))
               (get_or (cpus z) n absent)).acts) ∙ p.quiet q in
-              let one : Goes s o = goes_to s (on n f s1) [] o.state (refl, refl)
-              (goes_from s s1 (on n f s1) (refl, refl) (goes_on n f s1 (local_place n (indexes s.admissions) c) low free none)) in
+              let one : Goes s o = goes_to s (on_number n f s1) [] o.state (refl, refl)
+              (goes_from s s1 (on_number n f s1) (refl, refl) (goes_on n f s1 (local_place n (indexes s.admissions) c) low free
+              none)) in
               let other : (j : ℕ) (q : Record) → IsRecord rs j q → q.id ≢ r.id =
               λ j q at_q same. let less = rising 0 (suc j) r q (omega arith) refl at_q in absurd (omega (arith, less, same)) in
               let d = more.1 o.state indexes at clock
               (λ j q at_q. kept_other r.id n q.id n (s.ended q.id n) (λ there. other j q at_q) ∙ ended (suc j) q at_q) gives.1 in
               subst (λ pl. Returned n (r ∷ rs) (p.index ∷ more.0) s
-              (followed_by (return_at indexes n r.id pl s) (each (return_of indexes n) (map shown_record rs))) y)
+              (followed_by (return_here indexes n r.id pl s) (each (return_of indexes n) (map shown_record rs))) y)
               (sym (ap (shown_placement r.level) is)) (record {
                 goes = goes_then s o (each (return_of indexes n) (map shown_record rs)) one d.goes;
                 cpus = d.cpus;
@@ -326,14 +337,14 @@ module _ (n : ℕ) (s : State) (v w : SystemView Tables) (sys : IsSystem v) (h :
   abbrev stay : List Record
   stay = staying_in v
 
-  same_staying : staying s ≡ map shown_record stay
-  same_staying = ap (first_stay (λ id. is_leaving id s)) h.placed
-      ∙ stay_shown (λ id. is_leaving id s) (λ id. leaving_in id v) (λ id. leaving_shown id s v h sys.agrees.long) v.records
+  same_staying : staying_omni s ≡ map shown_record stay
+  same_staying = ap (first_stay (λ id. is_being_removed id s)) h.placed
+      ∙ stay_shown (λ id. is_being_removed id s) (λ id. leaving_in id v) (λ id. leaving_shown id s v h sys.agrees.long) v.records
 
-  many : length (staying s) ≡ length stay
+  many : length (staying_omni s) ≡ length stay
   many = ap length same_staying ∙ length-map stay shown_record
 
-  same_on : online_cpu n s ≡ online_there n v
+  same_on : is_online_already n s ≡ online_there n v
   same_on = ap (λ b. when b Online) (ap (λ cs. (get_or cs n absent).online) h.cpus
       ∙ online_at v.cpus.online v.cpus.cpus n sys.agrees.long)
 
@@ -345,8 +356,8 @@ module _ (n : ℕ) (s : State) (v w : SystemView Tables) (sys : IsSystem v) (h :
       (or_else (bad_now s.clock) (or_else (no_room_for_all plain n (many z) (get_or (h.cpus z) n absent)) None)))
 
   abbrev returning : (ℕ → ℕ) → ℕ → List Placed → Outcome
-  returning indexes k ps = followed_by (on n (widen_here n k) s)
-      (λ t. followed_by (each (return_of indexes n) ps t) (on n (λ c. nothing_here (go_online c))))
+  returning indexes k ps = followed_by (on_number n (widen_here n k) s)
+      (λ t. followed_by (each (return_of indexes n) ps t) (on_number n (λ c. nothing_here (go_online c))))
 
   -- what the ended stays left, where the components took theirs
   ended_at : (i : ℕ) (q : Record) (m : ℕ) (given_there : List ℕ) (s1 : State) (o : Outcome) (cw : CpusView Tables)
@@ -390,32 +401,33 @@ module _ (n : ℕ) (s : State) (v w : SystemView Tables) (sys : IsSystem v) (h :
       omega (arith, x, y)) in
       let before = unchanged v.cpus u1 n r.cpus in
       let to_u1 : s.cpus ≡ shown_cpus u1 = h.cpus ∙ sym before in
-      let s1 = (on n (widen_here n k) s).state in
+      let s1 = (on_number n (widen_here n k) s).state in
       let cpus1 : s1.cpus ≡ shown_cpus u2 = (λ z. slice_set (to_u1 z) n (widen_here n k (get_or (to_u1 z) n absent)).cpu)
       ∙ sym b.cpus in
       let low : n < length s.cpus = subst (λ cs. n < length cs) (sym h.cpus) r.within in
-      let one : Goes s (on n (widen_here n k) s) = goes_on n (widen_here n k) s (local_widen n k) low
+      let one : Goes s (on_number n (widen_here n k) s) = goes_on n (widen_here n k) s (local_widen n k) low
       (λ soft. none_admitted (widen_here n k (cpu_of n s)).acts n soft _ (widen_none n k (cpu_of n s)))
       (λ q. ap (λ cs. calls_of q (widen_here n k (get_or cs n absent)).acts) to_u1 ∙ b.quiet q) in
-      let all : (indexes : ℕ → ℕ) → return_all indexes n (staying s) s ≡ returning indexes k (map shown_record stay) =
+      let all : (indexes : ℕ → ℕ) → return_all indexes n (staying_omni s) s ≡ returning indexes k (map shown_record stay) =
       λ indexes. (λ z. returning indexes (many z) (same_staying z)) in
-      let done : (indexes : ℕ → ℕ) → Gives indexes s.admissions f.0
+      let done : (indexes : ℕ → ℕ) → GivesIndexes indexes s.admissions f.0
       → Returned n stay f.0 s1 (each (return_of indexes n) (map shown_record stay) s1) cw =
       λ indexes at. f.1 s1 indexes cpus1 refl
       (λ j a at_a. let (i, there, passes) = filter_back (is_staying v.cpus) v.records j a at_a in h.ended i a there n) at in
-      let goes : (indexes : ℕ → ℕ) → Gives indexes s.admissions f.0 → Goes s (returning indexes k (map shown_record stay)) =
+      let goes : (indexes : ℕ → ℕ) → GivesIndexes indexes s.admissions f.0
+      → Goes s (returning indexes k (map shown_record stay)) =
       λ indexes at.
       let d = done indexes at in
       let o = each (return_of indexes n) (map shown_record stay) s1 in
-      goes_then s (on n (widen_here n k) s) (λ t. followed_by (each (return_of indexes n) (map shown_record stay) t)
-      (on n (λ c. nothing_here (go_online c)))) one
-      (goes_then s1 o (on n (λ c. nothing_here (go_online c))) d.goes
+      goes_then s (on_number n (widen_here n k) s) (λ t. followed_by (each (return_of indexes n) (map shown_record stay) t)
+      (on_number n (λ c. nothing_here (go_online c)))) one
+      (goes_then s1 o (on_number n (λ c. nothing_here (go_online c))) d.goes
       (goes_on n (λ c. nothing_here (go_online c)) o.state (local_online n)
       (let x = one.tells.as_many in let y = d.goes.tells.as_many in omega (arith, low, x, y)) (λ soft. tt) (λ q. refl))) in
       record {
         accepted = whys ∙ three_none (why.no_cpu n v) (online_there n v) (bad_now s.clock) last_why none
             ∙ room_none (nat_lt most_cyclics (length (cpu_at v.cpus n).cyclics + k)) (must_grow k (cpu_at v.cpus n))
-            (not (has_followed (cpu_at v.cpus n)))
+            (not (soft_has_followed (cpu_at v.cpus n)))
             (cpu_at v.cpus n).removal (r.answered tt);
         given = f.0;
         comes = λ texts indexes step at.
@@ -466,9 +478,9 @@ module _ (n : ℕ) (s : State) (v w : SystemView Tables) (sys : IsSystem v) (h :
           → IsRefused e (online_refusal plain n s)
       by (inl is) refused only = subst (λ x. IsRefused x (online_refusal plain n s)) (sym is)
           (only ∙ room_behind (nat_lt most_cyclics (length (cpu_at v.cpus n).cyclics + length stay))
-          (must_grow (length stay) (cpu_at v.cpus n)) (not (has_followed (cpu_at v.cpus n)))
+          (must_grow (length stay) (cpu_at v.cpus n)) (not (soft_has_followed (cpu_at v.cpus n)))
           (cpu_at v.cpus n).removal (subst (λ x. IsRefused x (why_no_room (length stay) (cpu_at v.cpus n))) is refused))
       by (inr is) refused only = subst (λ x. IsRefused x (online_refusal plain n s)) (sym is)
           (only ∙ room_none (nat_lt most_cyclics (length (cpu_at v.cpus n).cyclics + length stay))
-          (must_grow (length stay) (cpu_at v.cpus n)) (not (has_followed (cpu_at v.cpus n)))
+          (must_grow (length stay) (cpu_at v.cpus n)) (not (soft_has_followed (cpu_at v.cpus n)))
           (cpu_at v.cpus n).removal (subst (λ x. IsRefused x (why_no_room (length stay) (cpu_at v.cpus n))) is refused))

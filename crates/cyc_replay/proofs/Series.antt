@@ -12,7 +12,7 @@ use Rattle.cyc_script.specs.declared.step.Add.{Add as AddStep}
 use Rattle.cyc_script.specs.declared.step.Omni.{Omni as OmniStep}
 use Rattle.cyc_script.specs.declared.step.Reprogram.{Reprogram as ReprogramStep}
 use Rattle.cyc_model.specs.Places.{id_of}
-use Rattle.cyc_model.specs.Bind.{no_cyclic}
+use Rattle.cyc_model.specs.Bind.{cyclic_is_absent}
 use Rattle.cyc_model.specs.Reprogram.{reprogram_refusal, cpu_refusals}
 use Rattle.cyc_types.specs.Reasons.{first_refusal, when}
 use Rattle.cyc_model.specs.Refusals.{bad_when, magnitude}
@@ -54,13 +54,15 @@ is_moment r moment at = (ap (λ z. int_lt z (pos 0)) (sym at) ∙ not_below mome
 
 pub moment_refused : (r : ReprogramStep) (s : State) → int_lt r.moment (pos 0) ≡ true → reprogram_refusal r s ≡ Some BadWhen
 moment_refused r s low =
-    ap (λ b. or_else (when b BadWhen) (first_refusal (no_cyclic (id_of r.name s) s ∷ cpu_refusals r.cpu (id_of r.name s) s))) low
+    ap (λ b. or_else (when b BadWhen) (first_refusal (cyclic_is_absent (id_of r.name s) s ∷ cpu_refusals r.cpu (id_of r.name s)
+    s))) low
 
 pub reprogram_nobody : (r : ReprogramStep) (s : State) (moment : ℕ) → IsMoment r.moment moment
-    → or_else (no_cyclic (id_of r.name s) s) (first_refusal (cpu_refusals r.cpu (id_of r.name s) s)) ≡ Some NoCyclic
+    → or_else (cyclic_is_absent (id_of r.name s) s) (first_refusal (cpu_refusals r.cpu (id_of r.name s) s)) ≡ Some NoCyclic
     → reprogram_refusal r s ≡ Some NoCyclic
 reprogram_nobody r s moment is none =
-    ap (λ b. or_else (when b BadWhen) (first_refusal (no_cyclic (id_of r.name s) s ∷ cpu_refusals r.cpu (id_of r.name s) s)))
+    ap (λ b. or_else (when b BadWhen) (first_refusal (cyclic_is_absent (id_of r.name s) s ∷ cpu_refusals r.cpu (id_of r.name s)
+    s)))
     is.0 ∙ none
 
 -- ---- what is none

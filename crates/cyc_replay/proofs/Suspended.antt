@@ -12,18 +12,18 @@ use Rattle.cyc_replay.specs.Shown.{IsSystem, ShowsSystem}
 use Rattle.cyc_replay.specs.SystemWords.{IsDone, IsRefusedFor}
 use Rattle.cyc_replay.specs.declared.machine.Machine.{Machine}
 use Rattle.cyc_types.specs.Tally.{tally_count}
-use Rattle.cyc_replay.specs.Machine.{Holds, IsWide, AllMost, numbers_of}
+use Rattle.cyc_replay.specs.Machine.{ShowsMachine, IsWide, AllMost, numbers_of}
 use Rattle.cyc_replay.proofs.Doing.{Answers}
 use Rattle.cyc_replay.proofs.Doing.{Keeps, refuses}
 use Rattle.cyc_replay.proofs.Remembering.{SameNames, remembers_on}
 
-module _ (x : Step) (mark : Bool) (s : State) (m w : Machine) (h : Holds s m)
+module _ (x : Step) (mark : Bool) (s : State) (m w : Machine) (h : ShowsMachine s m)
     (does_it : (texts : List (List ℕ)) (indexes : ℕ → ℕ) (k : ℕ)
     → (does plain texts indexes k x s).state ≡ record s { suspended = mark })
     (system : IsSystem w.system) (most : AllMost w.system.cpus) (room : HaveRoomFor (length s.names) w.system.cpus)
     (clock : w.clock ≡ m.clock) (tally : w.tally ≡ m.tally) (same : SameNames m w) where
   holds_marked : ShowsSystem (record s { suspended = mark }) w.system → is_suspended w.system ≡ mark
-      → Holds (record s { suspended = mark }) w
+      → ShowsMachine (record s { suspended = mark }) w
   holds_marked shows is = record {
     system = system;
     shows = shows;
@@ -52,7 +52,7 @@ module _ (x : Step) (mark : Bool) (s : State) (m w : Machine) (h : Holds s m)
         comes = λ texts indexes k gives.
             let o = d.comes texts indexes k gives in
             record {
-              holds = subst (λ u. Holds u w) (sym (does_it texts indexes k))
+              holds = subst (λ u. ShowsMachine u w) (sym (does_it texts indexes k))
                   (holds_marked (subst (λ u. ShowsSystem u w.system) (does_it texts indexes k) o.shows) is);
               admissions = o.admissions;
               free = o.free;

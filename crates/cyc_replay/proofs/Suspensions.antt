@@ -16,7 +16,7 @@ use Rattle.cyc_cpu.specs.declared.removing.Removal.TheVariants as on_cpu
 use Rattle.cyc_cpu.specs.Cpu.{Running, SameCpu, running}
 use Rattle.cyc_cpu.specs.Soft.{raise_tables, Interrupts}
 use Rattle.cyc_cpu.specs.Calls.{CpuCall, Fire, AskPending, AskRoom, Reserve, Reprogram as Reprogrammed, TakeNow, Widen}
-use Rattle.cyc_cpu.specs.Calls.{SoftInterrupt as CpuSoftInterrupt, Does as CpuDoes}
+use Rattle.cyc_cpu.specs.Calls.{SoftInterrupt as CpuSoftInterrupt, CpuDoes as CpuDoes}
 use Rattle.cyc_cpu.specs.Calls as cpu
 use Rattle.cyc_cpu.proofs.Calling.{LeavesMark as LeavesCpuMark, changes_suspended, fire_keeps}
 use Rattle.cyc_places.specs.declared.record.Placement.{Placement as RecordPlacement}
@@ -37,7 +37,7 @@ use Rattle.cyc_system.specs.Counting.{Counted, asked}
 use Rattle.cyc_system.specs.Turn.{Turn}
 use Rattle.cyc_system.specs.Turn.TheVariants as turn
 use Rattle.cyc_system.specs.Juggling.{TakesTurn, Turns, single_ids}
-use Rattle.cyc_system.specs.GoingOffline.{quiet, Retires, Leaves}
+use Rattle.cyc_system.specs.GoingOffline.{quiet, Retires, EndsOffline}
 use Rattle.cyc_system.specs.Omni.{entering_each}
 use Rattle.cyc_system.specs.Online.{GoesOnline, staying, return_at, returns}
 use Rattle.cyc_system.specs.Calls.{SystemCall, Add, AddOmni, Bind, BeginRemove, PollRemove, AskTotals, Reprogram, ReprogramOn}
@@ -155,7 +155,7 @@ marks_retires n (id ∷ ids) v w (u, d, rest) = λ k.
     marks_retires n ids u w rest k ∙ marks_did (on n (TakeNow id (Ok d.0))) v.cpus u.cpus tt d.1 k
 
 marks_leaves : (n : ℕ) (report : JuggleReport) (answer : Result (Unit {0}) Refusal) (v w : SystemView Tables)
-    → Leaves raise_tables n report answer v w → SameMarks v.cpus w.cpus
+    → EndsOffline raise_tables n report answer v w → SameMarks v.cpus w.cpus
 marks_leaves n report answer v w (inl (left, is, same)) = marks_same v w same
 marks_leaves n report answer v w (inr (inl (none, is, (before, id, stands, found, some, only)))) =
     marks_only (quiet n before ++ on n (AskPending id (Some found)) ∷ []) v w

@@ -16,29 +16,29 @@ use Rattle.cyc_agreement.proofs.MayGo
 use Rattle.cyc_agreement.proofs.Replaced.{not_elsewhere}
 use Rattle.cyc_agreement.proofs.Who.{same_changed, same_asked, has_same}
 use Rattle.cyc_system.specs.Agreement.{Agrees}
-use Rattle.cyc_system.specs.Cpus.{CpusView, IsCpu, DoesAt, on as on_cpu}
-use Rattle.cyc_system.specs.Destination.{destination as destination_in}
+use Rattle.cyc_system.specs.Cpus.{CpusView, IsCpu, DoesAt, on_number as on_cpu}
+use Rattle.cyc_system.specs.Destination.{destination_of as destination_in}
 use Rattle.cyc_system.specs.System.{SystemView}
 use Rattle.cyc_system.specs.Binding.{HasPlacement, Records}
 use Rattle.cyc_system.specs.Turn.{Turn as TurnThere}
 use Rattle.cyc_system.specs.Turn.TheVariants as there
 use Rattle.cyc_system.specs.Juggling.{TakesTurn}
 use Rattle.cyc_model.specs.Acts.{calls_of, events_at}
-use Rattle.cyc_model.specs.Cpu.{Cyclic, cyclic_of}
+use Rattle.cyc_model.specs.Cpu.{CyclicState, cyclic_with_id}
 use Rattle.cyc_model.specs.Serving.{level_at}
 use Rattle.cyc_model.specs.Free.{AllCanBeAdmitted}
 use Rattle.cyc_model.specs.Moving.{enter_here, take_here}
 use Rattle.cyc_model.specs.Questions.{plain, outstanding_here}
-use Rattle.cyc_model.specs.State.{State, Outcome, On, absent, cpu_of, on, followed_by}
-use Rattle.cyc_model.specs.Places.{is_bound, destination, put_at, replaced}
-use Rattle.cyc_model.specs.Add.{cyclic_with, enter}
+use Rattle.cyc_model.specs.State.{State, Outcome, On, absent, cpu_of, on_number, followed_by}
+use Rattle.cyc_model.specs.Places.{is_bound, destination_of, put_at, replaced}
+use Rattle.cyc_model.specs.Add.{cyclic_that_expired, enter}
 use Rattle.cyc_model.specs.Bind.{bring, move}
 use Rattle.cyc_model.specs.Juggle.{Turn, IsBound, IsPending, IsRefused as IsTurnedAway, Moves, turn_to, turn, take_turn}
 use Rattle.cyc_model.proofs.Local.{local_enter, local_take}
 use Rattle.cyc_cpu_model.specs.Answers.{IsRefused, why_no_room}
 use Rattle.cyc_cpu_model.proofs.Free.{none_admitted, take_none}
 use Rattle.cyc_replay.specs.Shown.{shown_cpus, ShowsSystem}
-use Rattle.cyc_replay.specs.SystemWords.{Gives}
+use Rattle.cyc_replay.specs.SystemWords.{GivesIndexes}
 use Rattle.cyc_replay.specs.Room.{HaveRoomFor}
 use Rattle.cyc_replay.proofs.Lists.{length_set}
 use Rattle.cyc_replay.proofs.Cpus.{cpu_at, done_at}
@@ -70,7 +70,7 @@ module _ (source id : ℕ) (s : State) (v : SystemView Tables) (h : ShowsSystem 
   at_cpu k = ap (λ cs. get_or cs k absent) h.cpus
 
   abbrev goes_on_to : Turn
-  goes_on_to = turn_to plain id (destination (Some source) s) s
+  goes_on_to = turn_to plain id (destination_of (Some source) s) s
 
   abbrev not_bound : Turn
   not_bound = cond (nat_lt 0 (outstanding_here id (cpu_of source s))) IsPending goes_on_to
@@ -98,11 +98,11 @@ module _ (source id : ℕ) (s : State) (v : SystemView Tables) (h : ShowsSystem 
 
 -- ---- a cyclic that moves
 
-module _ (source id target : ℕ) (x : Cyclic) (indexes : ℕ
+module _ (source id target : ℕ) (x : CyclicState) (indexes : ℕ
     → ℕ) (s : State) (v w : SystemView Tables) (h : ShowsSystem s v) (hv : Half v)
     (d : Went id source target x v.cpus w.cpus) (is : indexes s.admissions ≡ d.index) where
   abbrev took : Outcome
-  took = on source (take_here source id) s
+  took = on_number source (take_here source id) s
 
   abbrev placed : State
   placed = put_at id (On target (is_bound id took.state)) took.state
@@ -112,7 +112,7 @@ module _ (source id target : ℕ) (x : Cyclic) (indexes : ℕ
 
   move_is : move indexes id source target s ≡ moved
   move_is = ap (λ o. followed_by took (λ t. bring indexes target o (put_at id (On target (is_bound id t)) t)))
-      (ap (λ cs. cyclic_of id (get_or cs source absent)) h.cpus ∙ d.found)
+      (ap (λ cs. cyclic_with_id id (get_or cs source absent)) h.cpus ∙ d.found)
 
   same_middle : placed.cpus ≡ d.middle
   same_middle = ap (λ cs. slice_set cs source (take_here source id (get_or cs source absent)).cpu) h.cpus ∙ sym d.left
@@ -140,7 +140,7 @@ module _ (source id target : ℕ) (x : Cyclic) (indexes : ℕ
   entered_goes =
       let f = enter_here target (indexes s.admissions) x in
       goes_from took.state placed (enter indexes target x placed) (refl, refl)
-      (goes_to placed (on target f placed) [] (enter indexes target x placed).state (refl, refl)
+      (goes_to placed (on_number target f placed) [] (enter indexes target x placed).state (refl, refl)
       (goes_on target f placed (local_enter target (indexes s.admissions) x) target_there can_enter
       (λ q. (λ z. calls_of q (enter_here target (is z) x (get_or (same_middle z) target absent)).acts) ∙ d.came q)))
 
@@ -166,7 +166,8 @@ pub record TurnsTo (source id : ℕ) (t : TurnThere) (given : List ℕ) (indexes
   pub admissions : (take_turn indexes source id (as_turn target t) s).state.admissions ≡ s.admissions + length given
 
 abbrev pub TurnsSo : ℕ → ℕ → TurnThere → SystemView Tables → SystemView Tables → Type 0
-TurnsSo source id t v w = (given : List ℕ) × ((s : State) (indexes : ℕ → ℕ) → ShowsSystem s v → Gives indexes s.admissions given
+TurnsSo source id t v w = (given : List ℕ) × ((s : State) (indexes : ℕ → ℕ) → ShowsSystem s v
+    → GivesIndexes indexes s.admissions given
     → TurnsTo source id t given indexes s w)
 
 -- after an ask for a cyclic that may go, its destination has fewer cyclics than there are records
@@ -226,7 +227,7 @@ turned source id there.StaysRefused v w hv agrees wanted few all
     )
 turned source id there.Moves v w hv agrees wanted few all (at, d, dest, (taken, works), records) =
     let g = went id source d taken v.cpus w.cpus hv.long hv.tied works in
-    let x = cyclic_with id taken.level taken.interval taken.moment taken.sent.sent taken.sent.lost in (
+    let x = cyclic_that_expired id taken.level taken.interval taken.moment taken.sent.sent taken.sent.lost in (
       g.index ∷ [],
       λ s indexes h gives.
           let same = move_is source id d x indexes s v w h hv g gives.0 in

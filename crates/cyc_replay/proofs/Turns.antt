@@ -13,7 +13,7 @@ use Rattle.cyc_model.specs.Script.{refusal_of}
 use Rattle.cyc_model.proofs.Still.{still_juggle, still_offline}
 use Rattle.cyc_replay.specs.SystemWords.{IsDoneWith, IsRefusedFor, IsAtOnce}
 use Rattle.cyc_replay.specs.declared.machine.Machine.{Machine}
-use Rattle.cyc_replay.specs.Machine.{Holds, IsReached, numbers_of}
+use Rattle.cyc_replay.specs.Machine.{ShowsMachine, IsReached, numbers_of}
 use Rattle.cyc_replay.specs.Words.{TakesWord}
 use Rattle.cyc_replay.proofs.Doing.{AcceptsWith}
 use Rattle.cyc_replay.proofs.Remembering.{SameNames}
@@ -27,7 +27,7 @@ use Rattle.cyc_replay.specs.WordLines.{word_line}
 -- the cyclics of the CPU had their turns, with this report; or both refuse, for one reason
 abbrev pub Juggles : ℕ → Result JuggleReport Refusal → State → Machine → Type 0
 Juggles n (Ok report) s m = AcceptsWith (λ step. moved step report) (steps.Juggle n) s m
-Juggles n (Err e) s m = IsRefused e (refusal_of plain (steps.Juggle n) s) × Holds s m
+Juggles n (Err e) s m = IsRefused e (refusal_of plain (steps.Juggle n) s) × ShowsMachine s m
 
 -- the CPU takes no further part; or what moved stays moved, where cyclics are left, or calls of a component are outstanding; or
 -- both refuse, for one reason
@@ -35,9 +35,9 @@ abbrev pub GoesOffline : ℕ → Result (Unit {0}) Refusal → State → Machine
 GoesOffline n (Ok done) s m = AcceptsWith accepted (steps.Offline n) s m
 GoesOffline n (Err (Left report)) s m = AcceptsWith (λ step. cyclics_left step report) (steps.Offline n) s m
 GoesOffline n (Err Pending) s m = AcceptsWith (λ step. refused step (number_of Pending)) (steps.Offline n) s m
-GoesOffline n (Err e) s m = IsRefused e (refusal_of plain (steps.Offline n) s) × Holds s m
+GoesOffline n (Err e) s m = IsRefused e (refusal_of plain (steps.Offline n) s) × ShowsMachine s m
 
-module _ (step n : ℕ) (s : State) (m w : Machine) (r : IsReached step s) (h : Holds s m)
+module _ (step n : ℕ) (s : State) (m w : Machine) (r : IsReached step s) (h : ShowsMachine s m)
     (kept : Keeps s w.system) (clock : w.clock ≡ m.clock) (tally : w.tally ≡ m.tally) (same : SameNames m w) where
   juggle_leaves : Leaves (steps.Juggle n) s w
   juggle_leaves = record {

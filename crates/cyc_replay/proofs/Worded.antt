@@ -6,7 +6,7 @@ use Rattle.std.proofs.lemmas.List.{map-set}
 use Rattle.cyc_types.specs.declared.refusal.JuggleReport.{JuggleReport}
 use Rattle.cyc_types.specs.declared.refusal.Refusal.{Refusal}
 use Rattle.cyc_types.specs.declared.refusal.Refusal.TheVariants.{Memory, BadWhen, NoCyclic}
-use Rattle.cyc_types.specs.Refusals.{number_of as number_of_refusal}
+use Rattle.cyc_types.specs.Refusals.{name_number as number_of_refusal}
 use Rattle.cyc_types.specs.contracts.tally.TallyCalls.TheImpl.{ghosts as tally_calls}
 use Rattle.cyc_core.specs.Tables.{Tables}
 use Rattle.cyc_cpu.specs.Soft.{raise_tables, Interrupts}
@@ -24,8 +24,8 @@ use Rattle.cyc_system.specs.Calls.{SystemCall, Changes, Does, Add, AddOmni, Bind
 use Rattle.cyc_system.specs.Calls.{Juggle, Offline, Online, Suspend, Resume, reprograms}
 use Rattle.cyc_agreement.specs.Suspending.{is_suspended}
 use Rattle.cyc_model.specs.Questions.{plain}
-use Rattle.cyc_model.specs.State.{State, On, OnAll, online_cpus}
-use Rattle.cyc_model.specs.Places.{id_of, destination, given}
+use Rattle.cyc_model.specs.State.{State, On, OnAll, cpus_online}
+use Rattle.cyc_model.specs.Places.{id_of, destination_of, given}
 use Rattle.cyc_model.specs.Refusals.{after_refusal}
 use Rattle.cyc_model.specs.Add.{enter}
 use Rattle.cyc_model.specs.Omni.{component, everywhere}
@@ -42,8 +42,8 @@ use Rattle.cyc_replay.specs.Room.{HaveRoomFor}
 use Rattle.cyc_replay.specs.Shown.{IsSystem, ShowsSystem}
 use Rattle.cyc_replay.specs.SystemWords.{IsSeries}
 use Rattle.cyc_replay.specs.declared.machine.Machine.{Machine}
-use Rattle.cyc_replay.specs.Machine.{Holds, AllMost, IsNamed, IsReached, id_at, id_in, number_of, numbers_of}
-use Rattle.cyc_replay.specs.WordLines.{name_in, named_by, why_line, word_line}
+use Rattle.cyc_replay.specs.Machine.{ShowsMachine, AllMost, IsNamed, IsReached, id_at, id_of_named, name_number, numbers_of}
+use Rattle.cyc_replay.specs.WordLines.{name_in_word, named_by, why_line, word_line}
 use Rattle.cyc_replay.specs.Words.{TakesWord, answer_line}
 use Rattle.cyc_replay.proofs.Doing.{Answers}
 use Rattle.cyc_replay.proofs.Keeping.{kept, most_kept, room_kept}
@@ -77,7 +77,7 @@ abbrev as_unit : Result (Unit {0}) Refusal → Result (Unit {0}) Refusal
 as_unit answer = answer
 
 module _ (texts : List (List ℕ)) (step : ℕ) (s : State) (m n : Machine) (r : IsReached step s) (low : step ≤ most_steps)
-    (h : Holds s m) (clock : n.clock ≡ m.clock) (tally : n.tally ≡ m.tally) where
+    (h : ShowsMachine s m) (clock : n.clock ≡ m.clock) (tally : n.tally ≡ m.tally) where
   abbrev Did : ℕ → SystemCall → Type 0
   Did name call = DoesCall raise_tables name call (word_state m.system m.names) (word_state n.system n.names)
 
@@ -110,11 +110,11 @@ module _ (texts : List (List ℕ)) (step : ℕ) (s : State) (m n : Machine) (r :
   given_numbers : (name id : ℕ) → id ≡ s.last_id + 1 → n.names ≡ slice_set m.names name (Cyclic id)
       → slice_set s.names name (s.last_id + 1) ≡ numbers_of n.names
   given_numbers name id is names = (λ z. slice_set (h.names z) name (sym is z))
-      ∙ sym (ap numbers_of names ∙ map-set (λ x. number_of (id_in x)) m.names name (Cyclic id))
+      ∙ sym (ap numbers_of names ∙ map-set (λ x. name_number (id_of_named x)) m.names name (Cyclic id))
 
   -- ---- a word that made no call
 
-  holds_same : word_state n.system n.names ≡ word_state m.system m.names → n.named.items ≡ m.named.items → Holds s n
+  holds_same : word_state n.system n.names ≡ word_state m.system m.names → n.named.items ≡ m.named.items → ShowsMachine s n
   holds_same same named =
       let sys : n.system ≡ m.system = ap (λ (w : WordState Tables). w.system) same in
       let still : Keeps s n.system = record {
@@ -132,19 +132,20 @@ module _ (texts : List (List ℕ)) (step : ℕ) (s : State) (m n : Machine) (r :
     uncalled : (x : Step) (why : Refusal) → refusal_of plain x s ≡ Some why → after_refusal x s ≡ s
         → why_line x why step ≡ refused step (number_of_refusal why) → result ≡ Err why
         → word_state n.system n.names ≡ word_state m.system m.names
-        → n.named.items ≡ named_by (name_in x) result m.named.items → line ≡ word_line texts step x result → Takes x
+        → n.named.items ≡ named_by (name_in_word x) result m.named.items → line ≡ word_line texts step x result → Takes x
     uncalled x why some still says is same named said = refused_takes texts step x line why s n some
         (said ∙ ap (word_line texts step x) is ∙ says)
-        (subst (λ t. Holds t n) (sym still) (holds_same same (named ∙ ap (λ a. named_by (name_in x) a m.named.items) is)))
+        (subst (λ t. ShowsMachine t n) (sym still) (holds_same same (named
+        ∙ ap (λ a. named_by (name_in_word x) a m.named.items) is)))
 
     -- ---- words that say no more than whether they were done
 
     -- no id is given by them
     not_named : (x : Step) (answer : Result (Unit {0}) Refusal) → result ≡ word_answer done answer
-        → n.named.items ≡ named_by (name_in x) result m.named.items → n.named.items ≡ m.named.items
-    not_named x answer is named = named ∙ ap (λ a. named_by (name_in x) a m.named.items) is ∙ by answer
+        → n.named.items ≡ named_by (name_in_word x) result m.named.items → n.named.items ≡ m.named.items
+    not_named x answer is named = named ∙ ap (λ a. named_by (name_in_word x) a m.named.items) is ∙ by answer
       where
-        by : (a : Result (Unit {0}) Refusal) → named_by (name_in x) (word_answer done a) m.named.items ≡ m.named.items
+        by : (a : Result (Unit {0}) Refusal) → named_by (name_in_word x) (word_answer done a) m.named.items ≡ m.named.items
         by (Ok y) = refl
         by (Err e) = refl
 
@@ -281,7 +282,7 @@ module _ (texts : List (List ℕ)) (step : ℕ) (s : State) (m n : Machine) (r :
 
     -- the id that a word gave, or the refusal
     abbrev given_line : (x : Step) → Result ℕ Refusal → Type 0
-    given_line x answer = (result ≡ word_answer Added answer) × (n.named.items ≡ named_by (name_in x) result m.named.items)
+    given_line x answer = (result ≡ word_answer Added answer) × (n.named.items ≡ named_by (name_in_word x) result m.named.items)
         × (line ≡ word_line texts step x result)
 
     was_given : (x : Step) (id : ℕ) → SaysOk x → after_refusal x s ≡ s → given_line x (Ok id) → Answers x (as_unit (Ok tt)) s n
@@ -301,7 +302,7 @@ module _ (texts : List (List ℕ)) (step : ℕ) (s : State) (m n : Machine) (r :
         → Did name call → SameNames m n
     refused_names x e name call (told, named, said) none c = record {
       names = c.told ∙ ap (λ o. noted name o m.names) none;
-      named = named ∙ ap (λ a. named_by (name_in x) a m.named.items) told;
+      named = named ∙ ap (λ a. named_by (name_in_word x) a m.named.items) told;
     }
 
     takes_add : (a : AddStep) → DoesWord raise_tables m.clock (steps.Add a) result (word_state m.system m.names)
@@ -329,7 +330,7 @@ module _ (texts : List (List ℕ)) (step : ℕ) (s : State) (m n : Machine) (r :
               suspended = λ ts f k. refl;
               names = λ ts f k. given_numbers a.name id done_it.0 c.told;
               last = λ ts f k. omega arith;
-            }) (λ ts f k. remembers_added ts f k (steps.Add a) s m n a.name id (On (destination None s) false) tt
+            }) (λ ts f k. remembers_added ts f k (steps.Add a) s m n a.name id (On (destination_of None s) false) tt
             (reached_good step s r) done_it.1.accepted refl refl h.remembers (omega (arith, few)) done_it.0 c.told
             (named ∙ ap (λ x. named_by a.name x m.named.items) told)))
         by (Err e) told c =
@@ -367,17 +368,17 @@ module _ (texts : List (List ℕ)) (step : ℕ) (s : State) (m n : Machine) (r :
             (accepts (steps.Omni a) s m n h (keeps_call a.name (AddOmni a.level series a.skew m.clock (Ok id)) c tt) done_it.1
             clock tally
             (record {
-              clock = λ ts f k. (still_enters f (s.last_id + 1) (everywhere a) (online_cpus first) first).clock;
-              suspended = λ ts f k. (still_enters f (s.last_id + 1) (everywhere a) (online_cpus first) first).suspended;
-              names = λ ts f k. (still_enters f (s.last_id + 1) (everywhere a) (online_cpus first) first).names
+              clock = λ ts f k. (still_enters f (s.last_id + 1) (everywhere a) (cpus_online first) first).clock;
+              suspended = λ ts f k. (still_enters f (s.last_id + 1) (everywhere a) (cpus_online first) first).suspended;
+              names = λ ts f k. (still_enters f (s.last_id + 1) (everywhere a) (cpus_online first) first).names
                   ∙ given_numbers a.name id done_it.0 c.told;
-              last = λ ts f k. let same = (still_enters f (s.last_id + 1) (everywhere a) (online_cpus first) first).last in
+              last = λ ts f k. let same = (still_enters f (s.last_id + 1) (everywhere a) (cpus_online first) first).last in
                   omega (arith, same);
             }) (λ ts f k. remembers_added ts f k (steps.Omni a) s m n a.name id (OnAll (everywhere a)) tt
             (reached_good step s r) done_it.1.accepted
             (same_each (λ j u. enter f j (component (s.last_id + 1) j (everywhere a) u.clock) u) (λ j u. refl)
-            (online_cpus first) first)
-            (still_enters f (s.last_id + 1) (everywhere a) (online_cpus first) first).last h.remembers
+            (cpus_online first) first)
+            (still_enters f (s.last_id + 1) (everywhere a) (cpus_online first) first).last h.remembers
             (omega (arith, few)) done_it.0 c.told (named ∙ ap (λ x. named_by a.name x m.named.items) told)))
         by (Err e) told c =
             let did = subst (λ k. Changes raise_tables m.system (AddOmni a.level series a.skew k (Err e)) n.system) (sym h.clock)
@@ -471,7 +472,7 @@ module _ (texts : List (List ℕ)) (step : ℕ) (s : State) (m n : Machine) (r :
 
       pub takes_word : (x : Step) → DoesWord raise_tables m.clock x result (word_state m.system m.names)
           (word_state n.system n.names)
-          → n.named.items ≡ named_by (name_in x) result m.named.items → line ≡ word_line texts step x result → Takes x
+          → n.named.items ≡ named_by (name_in_word x) result m.named.items → line ≡ word_line texts step x result → Takes x
       takes_word (steps.Add a) d named said = takes_add a d named said
       takes_word (steps.Omni a) d named said = takes_omni a d named said
       takes_word (steps.Bind b) d named said = takes_bind b d named said

@@ -6,7 +6,7 @@ use Rattle.cyc_types.specs.Limits.{most_cpus}
 use Rattle.cyc_script.specs.Limits.{most_steps}
 use Rattle.cyc_script.specs.declared.step.Step.{Step}
 use Rattle.cyc_model.specs.State.{State}
-use Rattle.cyc_model.specs.Places.{is_unknown}
+use Rattle.cyc_model.specs.Places.{is_no_cyclic}
 use Rattle.cyc_model.specs.Report.{counts_of}
 use Rattle.cyc_model.specs.Script.{run_on}
 use Rattle.cyc_core.specs.Tables.{Tables}
@@ -18,28 +18,28 @@ use Rattle.cyc_words.specs.declared.named.Named.TheVariants.{Nothing, Cyclic, Le
 use Rattle.cyc_words.specs.Names.{named_at}
 use Rattle.cyc_replay.specs.Room.{HaveRoomFor}
 use Rattle.cyc_replay.specs.Shown.{ShowsSystem, IsSystem}
-use Rattle.cyc_replay.specs.Removal.{told_by}
+use Rattle.cyc_replay.specs.Removal.{told_by_receipt}
 use Rattle.cyc_replay.specs.declared.machine.Machine.{Machine}
 
 -- the id that a name has, or had until its removal answered
-abbrev pub id_in : Named → Option ℕ
-id_in Nothing = None
-id_in (Cyclic id) = Some id
-id_in (Leaving id) = Some id
-id_in (Removed receipt) = Some receipt.id
+abbrev pub id_of_named : Named → Option ℕ
+id_of_named Nothing = None
+id_of_named (Cyclic id) = Some id
+id_of_named (Leaving id) = Some id
+id_of_named (Removed receipt) = Some receipt.id
 
 -- that of the name of a number
 abbrev pub id_at : List Named → ℕ → Option ℕ
-id_at names name = id_in (named_at names name)
+id_at names name = id_of_named (named_at names name)
 
 -- the number that the definition has of it: 0 where none was
-abbrev pub number_of : Option ℕ → ℕ
-number_of None = 0
-number_of (Some id) = id
+abbrev pub name_number : Option ℕ → ℕ
+name_number None = 0
+name_number (Some id) = id
 
 -- those of all names
 abbrev pub numbers_of : List Named → List ℕ
-numbers_of names = map (λ n. number_of (id_in n)) names
+numbers_of names = map (λ n. name_number (id_of_named n)) names
 
 -- the number of the name that an id was given to; ids begin at 1
 abbrev pub name_at : List ℕ → ℕ → ℕ
@@ -60,15 +60,15 @@ AllMost v = (n : ℕ) (cpu : CpuView Tables) → IsCpu n cpu v → cpu.most ≡ 
 pub record Remembers (s : State) (m : Machine) : Type 0 where
   pub given : (name id : ℕ) → id_at m.names name ≡ Some id → (0 < id) × (id ≤ s.last_id)
   pub named : (name id : ℕ) → id_at m.names name ≡ Some id → name_at m.named.items id ≡ name
-  pub removed : (name : ℕ) (receipt : Receipt) → named_at m.names name ≡ Removed receipt → is_unknown receipt.id s ≡ true
-  pub counted : (name id : ℕ) → id_at m.names name ≡ Some id → is_unknown id s ≡ true
-      → (receipt : Receipt) × (named_at m.names name ≡ Removed receipt) × (counts_of id s ≡ told_by receipt (s.called id))
+  pub removed : (name : ℕ) (receipt : Receipt) → named_at m.names name ≡ Removed receipt → is_no_cyclic receipt.id s ≡ true
+  pub counted : (name id : ℕ) → id_at m.names name ≡ Some id → is_no_cyclic id s ≡ true
+      → (receipt : Receipt) × (named_at m.names name ≡ Removed receipt) × (counts_of id s ≡ told_by_receipt receipt (s.called id))
   -- there is a place for the id of each step
   pub ids : length m.named.items ≡ most_steps
 
 -- the definition's machine shows this one: its clock, whether it is suspended, its CPUs with their cyclics, the calls of each
 -- id, and the id of each name
-pub record Holds (s : State) (m : Machine) : Type 0 where
+pub record ShowsMachine (s : State) (m : Machine) : Type 0 where
   pub system : IsSystem m.system
   pub shows : ShowsSystem s m.system
   pub clock : s.clock ≡ m.clock

@@ -13,11 +13,11 @@ use Rattle.cyc_words.specs.declared.answer.WordAnswer.{WordAnswer}
 use Rattle.cyc_words.specs.declared.answer.WordAnswer.TheVariants.{Added, Done, Removing, Juggled}
 
 -- the name that a word gives an id, or whose cyclic it removes
-abbrev pub name_in : Step → ℕ
-name_in (steps.Add a) = a.name
-name_in (steps.Omni a) = a.name
-name_in (steps.Remove name) = name
-name_in x = 0
+abbrev pub name_in_word : Step → ℕ
+name_in_word (steps.Add a) = a.name
+name_in_word (steps.Omni a) = a.name
+name_in_word (steps.Remove name) = name
+name_in_word x = 0
 
 -- the line of a removal that began: it has answered, with all calls of the cyclic, or waits for those that are kept
 abbrev pub begun_line : ℕ → List ℕ → SystemRemoval → List ℕ
@@ -32,7 +32,7 @@ why_line x e step = refused step (number_of e)
 -- the line of a word that answered this
 abbrev pub word_line : List (List ℕ) → ℕ → Step → Result WordAnswer Refusal → List ℕ
 word_line texts step x (Ok (Added id)) = accepted step
-word_line texts step x (Ok (Removing begun)) = begun_line step (text_in texts (name_in x)) begun
+word_line texts step x (Ok (Removing begun)) = begun_line step (text_in texts (name_in_word x)) begun
 word_line texts step x (Ok (Juggled report)) = moved step report
 word_line texts step x (Ok Done) = accepted step
 word_line texts step x (Err e) = why_line x e step

@@ -13,9 +13,9 @@ use Rattle.cyc_model.specs.Questions.{plain}
 use Rattle.cyc_model.specs.State.{State, Outcome, cpu_of}
 use Rattle.cyc_model.specs.Free.{AllCanBeAdmitted}
 use Rattle.cyc_model.specs.Script.{word}
-use Rattle.cyc_replay.specs.SystemWords.{Gives}
+use Rattle.cyc_replay.specs.SystemWords.{GivesIndexes}
 use Rattle.cyc_replay.specs.declared.machine.Machine.{Machine}
-use Rattle.cyc_replay.specs.Machine.{Holds}
+use Rattle.cyc_replay.specs.Machine.{ShowsMachine}
 
 -- the step sets the clock to no moment from never on: so it is in every script
 abbrev pub SetsBelowNever : Step → Type 0
@@ -25,7 +25,7 @@ SetsBelowNever x = ⊤
 -- What the definition comes to is what the machine did: the definition's machine shows the one after it, so many cyclics were
 -- put on a CPU, and the index of each was free.
 pub record Comes (given : List ℕ) (s : State) (o : Outcome) (m : Machine) : Type 0 where
-  pub holds : Holds o.state m
+  pub holds : ShowsMachine o.state m
   pub admissions : o.state.admissions ≡ s.admissions + length given
   pub free : (n : ℕ) (soft : Soft) → AllCanBeAdmitted (events_at n soft o.acts) (level_at soft (cpu_of n s))
 
@@ -37,5 +37,5 @@ answer_line step (Err e) = refused step (number_of e)
 -- The word was taken, and this is its line: the definition's word has the same line and comes to what the machine did.
 pub record TakesWord (texts : List (List ℕ)) (step : ℕ) (x : Step) (line : List ℕ) (s : State) (m : Machine) : Type 0 where
   pub given : List ℕ
-  pub line_is : (indexes : ℕ → ℕ) → Gives indexes s.admissions given → line ≡ (word plain texts indexes step x s).line
-  pub comes : (indexes : ℕ → ℕ) → Gives indexes s.admissions given → Comes given s (word plain texts indexes step x s) m
+  pub line_is : (indexes : ℕ → ℕ) → GivesIndexes indexes s.admissions given → line ≡ (word plain texts indexes step x s).line
+  pub comes : (indexes : ℕ → ℕ) → GivesIndexes indexes s.admissions given → Comes given s (word plain texts indexes step x s) m

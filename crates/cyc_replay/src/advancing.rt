@@ -11,7 +11,7 @@ ghost use Rattle.cyc_script.specs.Limits.{most_steps};
 ghost use Rattle.cyc_script.specs.declared.step.Step.TheVariants as steps;
 ghost use Rattle.cyc_model.specs.State.{State};
 ghost use Rattle.cyc_model.specs.Advance.{advance};
-ghost use Rattle.cyc_replay.specs.Machine.{Holds, IsReached};
+ghost use Rattle.cyc_replay.specs.Machine.{ShowsMachine, IsReached};
 ghost use Rattle.cyc_text.specs.Status.{IsMemory};
 ghost use Rattle.cyc_replay.specs.Words.{Comes, TakesWord};
 ghost use Rattle.cyc_replay.specs.SystemAdvancing.{fired_and_lost};
@@ -123,8 +123,8 @@ pub fn take_advance(
 ) -> Result<(), RunFault>
     requires few { step ≤ most_steps }
     requires before { moment < never }
-    requires reached { (s : State) × IsReached step s × Holds s machine.old }
-    ensures takes { OnOk result ((texts : List (List ℕ)) (s : State) → IsReached step s → Holds s machine.old
+    requires reached { (s : State) × IsReached step s × ShowsMachine s machine.old }
+    ensures takes { OnOk result ((texts : List (List ℕ)) (s : State) → IsReached step s → ShowsMachine s machine.old
         → TakesWord texts step (steps.Advance moment) (string_bytes line.new) s machine.new) }
     ensures memory { IfErr result IsMemory }
 {

@@ -9,9 +9,9 @@ ghost use Rattle.cyc_types.specs.Limits.{most_cpus};
 ghost use Rattle.cyc_script.specs.Limits.{most_steps};
 ghost use Rattle.cyc_model.specs.Script.{start};
 ghost use Rattle.cyc_words.specs.declared.named.Named.TheVariants.{Nothing};
-ghost use Rattle.cyc_replay.specs.Kept.{AreNew};
-ghost use Rattle.cyc_replay.specs.Machine.{Holds};
-ghost use Rattle.cyc_replay.specs.Beginning.{IsEmpty, HasReserved};
+ghost use Rattle.cyc_replay.specs.Kept.{LevelsAreNew};
+ghost use Rattle.cyc_replay.specs.Machine.{ShowsMachine};
+ghost use Rattle.cyc_replay.specs.Beginning.{IsEmptyCpu, HasReserved};
 
 use crate::machine::Machine;
 use crate::system_laws::begin_law;
@@ -39,7 +39,7 @@ fn new_levels(
     ceiling: Ceiling,
 ) -> Result<Vec<(LevelCore, LevelCore)>, Refusal>
     ensures long { IfOk result (λ ends. length ends.items ≡ cpus) }
-    ensures new { IfOk result (λ ends. AreNew ceiling ends.items) }
+    ensures new { IfOk result (λ ends. LevelsAreNew ceiling ends.items) }
     ensures err { IfErr result (λ refusal. refusal ≡ Memory) }
 {
     let mut ends = Vec::new(alloc);
@@ -53,7 +53,7 @@ fn new_levels(
 
 /// Takes the memory for so many cyclics of the CPU.
 fn reserve_wanted(hard: &mut Hard<LevelCore>, wanted: usize) -> Result<(), Refusal>
-    requires empty { IsEmpty hard.old }
+    requires empty { IsEmptyCpu hard.old }
     requires few { wanted ≤ most_cyclics }
     ensures did { OnOk result (HasReserved wanted hard.old hard.new) }
     ensures err { IfErr result (λ refusal. refusal ≡ Memory) }
@@ -63,7 +63,7 @@ fn reserve_wanted(hard: &mut Hard<LevelCore>, wanted: usize) -> Result<(), Refus
 
 /// The same on each of these CPUs.
 fn reserve_each(hards: &mut Vec<Hard<LevelCore>>, wanted: usize) -> Result<(), Refusal>
-    requires empty { All IsEmpty hards.old.items }
+    requires empty { All IsEmptyCpu hards.old.items }
     requires few { wanted ≤ most_cyclics }
     ensures did { OnOk result (EachTwo (HasReserved wanted) hards.old.items hards.new.items) }
     ensures err { IfErr result (λ refusal. refusal ≡ Memory) }
@@ -84,7 +84,7 @@ fn wanted_of(names: usize) -> usize
 /// The system with memory on each CPU for a cyclic of each name, or for as many as a CPU can have: from here on no cyclic of a
 /// name that comes to a CPU is refused for want of memory there.
 fn with_room(system: System<LevelCore>, names: usize) -> Result<System<LevelCore>, Refusal>
-    requires empty { All IsEmpty system.cpus.cpus }
+    requires empty { All IsEmptyCpu system.cpus.cpus }
     ensures cpus { IfOk result (λ wide. EachTwo (HasReserved (min names most_cyclics)) system.cpus.cpus wide.cpus.cpus
         × (wide.cpus.online ≡ system.cpus.online)) }
     ensures rest { IfOk result (λ wide. (wide.records ≡ system.records) × (wide.last ≡ system.last)) }
@@ -123,7 +123,7 @@ fn beside(alloc: Global, names: usize) -> Result<(Tally, Names, Vec<usize>), Ref
 pub fn begin(alloc: Global, cpus: u32, ceiling: Ceiling, names: usize) -> Result<Machine, Refusal>
     requires some { 1 ≤ cpus }
     requires few { cpus ≤ most_cpus }
-    ensures holds { IfOk result (Holds (start cpus ceiling names)) }
+    ensures holds { IfOk result (ShowsMachine (start cpus ceiling names)) }
     ensures err { IfErr result (λ refusal. refusal ≡ Memory) }
 {
     begin_law();

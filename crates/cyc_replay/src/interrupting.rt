@@ -13,12 +13,12 @@ ghost use Rattle.cyc_model.specs.State.{State};
 ghost use Rattle.cyc_model.specs.Softint.{interrupt, leaving_ids, softint_refusal, text_of_id};
 ghost use Rattle.cyc_replay.specs.Removal.{answer_line};
 ghost use Rattle.cyc_text.specs.Status.{IsMemory};
-ghost use Rattle.cyc_replay.specs.Machine.{Holds, IsReached, id_at, name_at};
+ghost use Rattle.cyc_replay.specs.Machine.{ShowsMachine, IsReached, id_at, name_at};
 ghost use Rattle.cyc_replay.specs.Words.{TakesWord};
 ghost use Rattle.cyc_cpu.specs.Soft.{raise_tables};
 ghost use Rattle.cyc_system.specs.Calls.{PollRemove};
 ghost use Rattle.cyc_words.specs.Doing.{DoesCall, word_state};
-ghost use Rattle.cyc_replay.specs.Interrupting.{HasServed, IsPolling};
+ghost use Rattle.cyc_replay.specs.Interrupting.{HasInterrupted, IsPolling};
 
 use crate::lines::{name_text, write_answer};
 use crate::machine::{Machine, id_in, name_of};
@@ -36,11 +36,11 @@ use std::fmt::Write;
 
 /// Makes the soft interrupt of one level of a CPU. The tally refuses no call. None where there is no such CPU.
 fn serve_level(machine: &mut Machine, cpu: u32, level: Soft, budget: u32) -> Option<Ran>
-    requires reached { (step : ℕ) × (s : State) × (step ≤ most_steps) × IsReached step s × Holds s machine.old }
-    ensures none { IfNone result ((s : State) → Holds s machine.old
-        → (softint_refusal (record { cpu = cpu; level = level; budget = budget }) s ≡ Some NoCpu) × Holds s machine.new) }
-    ensures some { IfSome result (λ made. (step : ℕ) (s : State) → IsReached step s → Holds s machine.old
-        → HasServed step (record { cpu = cpu; level = level; budget = budget }) made s machine.old machine.new) }
+    requires reached { (step : ℕ) × (s : State) × (step ≤ most_steps) × IsReached step s × ShowsMachine s machine.old }
+    ensures none { IfNone result ((s : State) → ShowsMachine s machine.old
+        → (softint_refusal (record { cpu = cpu; level = level; budget = budget }) s ≡ Some NoCpu) × ShowsMachine s machine.new) }
+    ensures some { IfSome result (λ made. (step : ℕ) (s : State) → IsReached step s → ShowsMachine s machine.old
+        → HasInterrupted step (record { cpu = cpu; level = level; budget = budget }) made s machine.old machine.new) }
 {
     softint_law::<Tally>();
     kept_law::<Tally>();
@@ -104,7 +104,7 @@ fn has_id(names: &Names, name: usize, id: CyclicId) -> bool
 
 /// The text of the name that has this id.
 fn text_of<'a>(machine: &Machine, names: &'a [String], id: CyclicId) -> &'a str
-    ensures { (s : State) → Holds s machine.now → result.now ≡ text_of_id id (map string_bytes names.now) s.names }
+    ensures { (s : State) → ShowsMachine s machine.now → result.now ≡ text_of_id id (map string_bytes names.now) s.names }
 {
     let _number = id.number();
     let name = name_of(&machine.named, id);
@@ -223,8 +223,8 @@ pub fn take_softint(
     softint: &Softint,
 ) -> Result<(), RunFault>
     requires few { step ≤ most_steps }
-    requires reached { (s : State) × IsReached step s × Holds s machine.old }
-    ensures takes { OnOk result ((s : State) → IsReached step s → Holds s machine.old
+    requires reached { (s : State) × IsReached step s × ShowsMachine s machine.old }
+    ensures takes { OnOk result ((s : State) → IsReached step s → ShowsMachine s machine.old
         → TakesWord (map string_bytes names.now) step (steps.Softint softint.now) (string_bytes line.new) s machine.new) }
     ensures memory { IfErr result IsMemory }
 {

@@ -1,7 +1,7 @@
 //! The machine that runs a script: a clock, a system of CPUs, and the tally that counts the handlers' calls.
 
 ghost use Rattle.std.specs.Prelude.{◌≡◌, ◌-◌, ◌+◌, ◌<◌, slice_set};
-ghost use Rattle.cyc_replay.specs.Machine.{id_in, name_at};
+ghost use Rattle.cyc_replay.specs.Machine.{id_of_named, name_at};
 
 use cyc_core::LevelCore;
 use cyc_system::System;
@@ -23,7 +23,7 @@ pub struct Machine {
 
 /// The id that a name has, or had until its removal answered. None where no add of it was accepted.
 pub fn id_in(named: Named) -> Option<CyclicId>
-    ensures { result ≡ id_in named }
+    ensures { result ≡ id_of_named named }
 {
     match named {
         Named::Nothing => None,

@@ -11,8 +11,8 @@ ghost use Rattle.cyc_model.specs.Places.{id_of};
 ghost use Rattle.cyc_model.specs.Report.{counts_of, reports};
 ghost use Rattle.cyc_model.specs.Script.{names_of};
 ghost use Rattle.cyc_words.specs.declared.named.Named.TheVariants.{Removed};
-ghost use Rattle.cyc_replay.specs.Removal.{told_by};
-ghost use Rattle.cyc_replay.specs.Machine.{Holds, IsReached};
+ghost use Rattle.cyc_replay.specs.Removal.{told_by_receipt};
+ghost use Rattle.cyc_replay.specs.Machine.{ShowsMachine, IsReached};
 
 use crate::machine::{Machine, id_in};
 use crate::system_laws::{kept_law, report_law};
@@ -42,7 +42,7 @@ fn no_counts() -> Counts
 
 /// What the receipt of a name's cyclic leaves to be told, whose handler was called so often.
 fn counts_left(named: Named, called: u128) -> Counts
-    ensures { (receipt : Receipt) → named ≡ Removed receipt → result ≡ told_by receipt called }
+    ensures { (receipt : Receipt) → named ≡ Removed receipt → result ≡ told_by_receipt receipt called }
 {
     match named {
         Named::Removed(receipt) => Counts {
@@ -58,8 +58,8 @@ fn counts_left(named: Named, called: u128) -> Counts
 /// The counts of a name's cyclic over all CPUs and all of its stays, with the calls of its handler, also once its removal has
 /// answered. All are 0 where no add of the name was accepted.
 fn name_counts(machine: &mut Machine, name: usize) -> Counts
-    ensures counts { (step : ℕ) (s : State) → IsReached step s → Holds s machine.old → result ≡ counts_of (id_of name s) s }
-    ensures holds { (s : State) → Holds s machine.old → Holds s machine.new }
+    ensures counts { (step : ℕ) (s : State) → IsReached step s → ShowsMachine s machine.old → result ≡ counts_of (id_of name s) s }
+    ensures holds { (s : State) → ShowsMachine s machine.old → ShowsMachine s machine.new }
 {
     report_law();
     kept_law::<Tally>();
@@ -89,9 +89,9 @@ fn put_report<S: Sink>(
     name: &str,
 ) -> Result<(), RunFault>
     requires whole { S.has_failed sink.old ≡ false }
-    ensures text { (step : ℕ) (s : State) → IsReached step s → Holds s machine.old
+    ensures text { (step : ℕ) (s : State) → IsReached step s → ShowsMachine s machine.old
         → Puts (S.written sink.old) (S.written sink.new) result (reported name.now (counts_of (id_of number s) s)) }
-    ensures holds { (s : State) → Holds s machine.old → Holds s machine.new }
+    ensures holds { (s : State) → ShowsMachine s machine.old → ShowsMachine s machine.new }
     ensures write { S.has_failed sink.new ≡ is_write result }
     ensures memory { IfErr result IsMemoryOrWrite }
 {
@@ -111,9 +111,9 @@ pub fn put_reports<S: Sink>(
     script: &Script,
 ) -> Result<(), RunFault>
     requires whole { S.has_failed sink.old ≡ false }
-    ensures text { (step : ℕ) (s : State) → IsReached step s → Holds s machine.old
+    ensures text { (step : ℕ) (s : State) → IsReached step s → ShowsMachine s machine.old
         → Puts (S.written sink.old) (S.written sink.new) result (reports 0 (names_of script.now) s) }
-    ensures holds { (s : State) → Holds s machine.old → Holds s machine.new }
+    ensures holds { (s : State) → ShowsMachine s machine.old → ShowsMachine s machine.new }
     ensures write { S.has_failed sink.new ≡ is_write result }
     ensures memory { IfErr result IsMemoryOrWrite }
 {

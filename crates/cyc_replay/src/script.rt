@@ -7,8 +7,8 @@ ghost use Rattle.cyc_script.specs.declared.step.Step.{Step as TheStep};
 ghost use Rattle.cyc_model.specs.Questions.{plain};
 ghost use Rattle.cyc_model.specs.Script.{word, run_on, names_of, no_indexes, text_of};
 ghost use Rattle.cyc_text.specs.Status.{is_write, IsMemoryOrWrite};
-ghost use Rattle.cyc_replay.specs.Runs.{HaveNames, Runs};
-ghost use Rattle.cyc_replay.specs.Replay.{HasRun};
+ghost use Rattle.cyc_replay.specs.Runs.{HaveNames, RunsTo};
+ghost use Rattle.cyc_replay.specs.Replay.{HasReplayed};
 ghost use Rattle.cyc_replay.specs.Words.{SetsBelowNever};
 
 use crate::beginning::begin;
@@ -31,15 +31,15 @@ fn put_step<S: Sink>(
     requires few { step ≤ most_steps }
     requires before { SetsBelowNever taken.now }
     requires runs { (done : List TheStep) × (step ≡ 1 + length done) × HaveNames (names_of script.now) done
-        × Runs script.now.cpus script.now.ceiling (names_of script.now) done machine.old }
+        × RunsTo script.now.cpus script.now.ceiling (names_of script.now) done machine.old }
     requires whole { S.has_failed sink.old ≡ false }
     ensures text { (done : List TheStep) → step ≡ 1 + length done → HaveNames (names_of script.now) done
-        → Runs script.now.cpus script.now.ceiling (names_of script.now) done machine.old
+        → RunsTo script.now.cpus script.now.ceiling (names_of script.now) done machine.old
         → Puts (S.written sink.old) (S.written sink.new) result (word plain (names_of script.now) no_indexes step taken.now
         (run_on no_indexes script.now.cpus script.now.ceiling (names_of script.now) done).state).line }
     ensures runs { OnOk result ((done : List TheStep) → step ≡ 1 + length done → HaveNames (names_of script.now) done
-        → Runs script.now.cpus script.now.ceiling (names_of script.now) done machine.old
-        → Runs script.now.cpus script.now.ceiling (names_of script.now) (done ++ taken.now ∷ []) machine.new) }
+        → RunsTo script.now.cpus script.now.ceiling (names_of script.now) done machine.old
+        → RunsTo script.now.cpus script.now.ceiling (names_of script.now) (done ++ taken.now ∷ []) machine.new) }
     ensures write { S.has_failed sink.new ≡ is_write result }
     ensures memory { IfErr result IsMemoryOrWrite }
 {
@@ -59,11 +59,11 @@ pub fn put_steps<S: Sink>(
     sink: &mut S,
     script: &Script,
 ) -> Result<(), RunFault>
-    requires runs { Runs script.now.cpus script.now.ceiling (names_of script.now) [] machine.old }
+    requires runs { RunsTo script.now.cpus script.now.ceiling (names_of script.now) [] machine.old }
     requires whole { S.has_failed sink.old ≡ false }
     ensures text { Puts (S.written sink.old) (S.written sink.new) result
         (run_on no_indexes script.now.cpus script.now.ceiling (names_of script.now) script.now.steps.items).line }
-    ensures runs { OnOk result (Runs script.now.cpus script.now.ceiling (names_of script.now)
+    ensures runs { OnOk result (RunsTo script.now.cpus script.now.ceiling (names_of script.now)
         script.now.steps.items machine.new) }
     ensures write { S.has_failed sink.new ≡ is_write result }
     ensures memory { IfErr result IsMemoryOrWrite }
@@ -83,10 +83,10 @@ fn put_text<S: Sink>(
     sink: &mut S,
     script: &Script,
 ) -> Result<(), RunFault>
-    requires new { Runs script.now.cpus script.now.ceiling (names_of script.now) [] machine.old }
+    requires new { RunsTo script.now.cpus script.now.ceiling (names_of script.now) [] machine.old }
     requires whole { S.has_failed sink.old ≡ false }
     ensures text { Puts (S.written sink.old) (S.written sink.new) result (text_of script.now) }
-    ensures runs { OnOk result (Runs script.now.cpus script.now.ceiling (names_of script.now)
+    ensures runs { OnOk result (RunsTo script.now.cpus script.now.ceiling (names_of script.now)
         script.now.steps.items machine.new) }
     ensures write { S.has_failed sink.new ≡ is_write result }
     ensures memory { IfErr result IsMemoryOrWrite }
@@ -111,7 +111,7 @@ pub fn run_script<S: Sink>(
 
     // The machine is the one that the definition's run led to: the cyclics of that run got free indexes, and the conservation
     // theorem holds after each of its events.
-    ensures run { IfOk result (HasRun script.now) }
+    ensures run { IfOk result (HasReplayed script.now) }
     ensures write { S.has_failed sink.new ≡ is_write result }
     ensures memory { IfErr result IsMemoryOrWrite }
 {

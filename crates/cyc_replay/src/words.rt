@@ -9,8 +9,8 @@ ghost use Rattle.cyc_model.specs.State.{State};
 ghost use Rattle.cyc_model.specs.Script.{text_in};
 ghost use Rattle.cyc_words.specs.Words.{MakesCall};
 ghost use Rattle.cyc_words.specs.Doing.{DoesWord, word_state};
-ghost use Rattle.cyc_replay.specs.Machine.{Holds, IsNamed, IsReached};
-ghost use Rattle.cyc_replay.specs.WordLines.{begun_line, name_in, named_by, why_line, word_line};
+ghost use Rattle.cyc_replay.specs.Machine.{ShowsMachine, IsNamed, IsReached};
+ghost use Rattle.cyc_replay.specs.WordLines.{begun_line, name_in_word, named_by, why_line, word_line};
 ghost use Rattle.cyc_replay.specs.Words.{SetsBelowNever, TakesWord};
 
 use crate::advancing::take_advance;
@@ -28,7 +28,7 @@ use std::alloc::AllocError;
 
 /// The number of the name that a word gives an id, or whose cyclic it removes. 0 for the others.
 fn name_in(word: &Step) -> usize
-    ensures { result ≡ name_in word.now }
+    ensures { result ≡ name_in_word word.now }
 {
     match word {
         Step::Add(added) => added.name.number(),
@@ -40,7 +40,7 @@ fn name_in(word: &Step) -> usize
 
 /// The id that a word gave is that of its name.
 fn note_id(named: &mut Vec<usize>, word: &Step, answer: &Result<WordAnswer, Refusal>)
-    ensures { named.new.items ≡ named_by (name_in word.now) answer.now named.old.items }
+    ensures { named.new.items ≡ named_by (name_in_word word.now) answer.now named.old.items }
 {
     if let Ok(WordAnswer::Added(id)) = answer {
         set_name(named, *id, name_in(word));
@@ -52,7 +52,7 @@ fn do_word(machine: &mut Machine, word: &Step) -> Result<WordAnswer, Refusal>
     requires { MakesCall word.now }
     ensures did { DoesWord raise_tables machine.old.clock word.now result
         (word_state machine.old.system machine.old.names) (word_state machine.new.system machine.new.names) }
-    ensures named { machine.new.named.items ≡ named_by (name_in word.now) result machine.old.named.items }
+    ensures named { machine.new.named.items ≡ named_by (name_in_word word.now) result machine.old.named.items }
     ensures clock { machine.new.clock ≡ machine.old.clock }
     ensures tally { machine.new.tally ≡ machine.old.tally }
 {
@@ -131,7 +131,7 @@ fn take_call(
 ) -> Result<(), RunFault>
     requires few { step ≤ most_steps }
     requires call { MakesCall word.now }
-    ensures takes { OnOk result ((s : State) → IsReached step s → IsNamed s → Holds s machine.old
+    ensures takes { OnOk result ((s : State) → IsReached step s → IsNamed s → ShowsMachine s machine.old
         → TakesWord (map string_bytes names.now) step word.now (string_bytes line.new) s machine.new) }
     ensures memory { IfErr result IsMemory }
 {
@@ -149,8 +149,8 @@ pub(crate) fn take_step(
 ) -> Result<(), RunFault>
     requires few { step ≤ most_steps }
     requires before { SetsBelowNever taken.now }
-    requires reached { (s : State) × IsReached step s × Holds s machine.old }
-    ensures takes { OnOk result ((s : State) → IsReached step s → IsNamed s → Holds s machine.old
+    requires reached { (s : State) × IsReached step s × ShowsMachine s machine.old }
+    ensures takes { OnOk result ((s : State) → IsReached step s → IsNamed s → ShowsMachine s machine.old
         → TakesWord (map string_bytes names.now) step taken.now (string_bytes line.new) s machine.new) }
     ensures memory { IfErr result IsMemory }
 {

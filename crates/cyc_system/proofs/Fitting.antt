@@ -16,7 +16,7 @@ use Rattle.cyc_types.specs.Counting.{no_counts}
 use Rattle.cyc_agreement.specs.Rows.{Cyclic}
 use Rattle.cyc_cpu.specs.Made.{HasCounts}
 use Rattle.cyc_cpu.specs.declared.moving.Taken.{Taken}
-use Rattle.cyc_cpu.specs.Cpu.{CpuView, HasNoCyclic, HasRisingIds}
+use Rattle.cyc_cpu.specs.Cpu.{CpuView, HasNoCyclic, HasRisingCyclics}
 use Rattle.cyc_cpu.specs.Laws.{IsLawful}
 use Rattle.cyc_cpu.specs.Calls.{AskPending, Reserve, TakeNow}
 use Rattle.cyc_cpu_laws.specs.Accounts.{expired_of, entered_by, left_by}
@@ -52,11 +52,11 @@ expired_none id (c ∷ cs) none =
     let b = ap (λ (t : Bool). cond t c.timer.expired 0) no in
     let r = expired_none id cs (λ k d low. none (suc k) d (omega (arith, low))) in omega (arith, a, b, r)
 
-rising_tail : (c : Cyclic) (cs : List Cyclic) → HasRisingIds (c ∷ cs) → HasRisingIds cs
+rising_tail : (c : Cyclic) (cs : List Cyclic) → HasRisingCyclics (c ∷ cs) → HasRisingCyclics cs
 rising_tail c cs h i j d less low = h (suc i) (suc j) d (omega (arith, less)) (omega (arith, low))
 
 -- no more than one cyclic has the id
-expired_few : (most id : ℕ) (cs : List Cyclic) → HasRisingIds cs → All (HasCounts most) cs → expired_of id cs ≤ most
+expired_few : (most id : ℕ) (cs : List Cyclic) → HasRisingCyclics cs → All (HasCounts most) cs → expired_of id cs ≤ most
 expired_few most id [] rising counted = omega arith
 expired_few most id (c ∷ cs) rising counted = dite (ℕ_discrete c.timer.id id)
     (λ e. let yes : (c.timer.id == id) ≡ true = eq-eqb c.timer.id id e in

@@ -12,7 +12,7 @@ use Rattle.cyc_agreement.specs.Rows.{Cyclic}
 use Rattle.cyc_cpu.specs.Cpu.{CpuView}
 use Rattle.cyc_cpu.specs.Gone.{PutsNot}
 use Rattle.cyc_cpu.specs.Laws.{IsLawful}
-use Rattle.cyc_cpu.specs.Calls.{CpuCall, Changes, Fire, SoftInterrupt, Add, Place, Reprogram, AskPending, AskTotals, AskRoom}
+use Rattle.cyc_cpu.specs.Calls.{CpuCall, CpuChanges, Fire, SoftInterrupt, Add, Place, Reprogram, AskPending, AskTotals, AskRoom}
 use Rattle.cyc_cpu.specs.Calls.{Suspend, Resume}
 use Rattle.cyc_cpu.specs.Calls.{Reserve, Widen, BeginRemove, PollRemove, TakeNow, AskSettled}
 use Rattle.cyc_places.specs.declared.record.Placement.TheVariants as stands
@@ -35,7 +35,7 @@ use Rattle.cyc_agreement.proofs.Recording.{one_record}
 use Rattle.cyc_agreement.proofs.Removals.{IsSteady, AreSteady, steady_on, removals_kept, leaving_here}
 use Rattle.cyc_agreement.specs.declared.turning.Turn.{Turn}
 use Rattle.cyc_agreement.specs.declared.turning.Turn.TheVariants.{StaysBound, StaysPending, StaysRefused, Moves}
-use Rattle.cyc_agreement.specs.GoingOffline.{quiet, Retires, Leaves, offline_at}
+use Rattle.cyc_agreement.specs.GoingOffline.{quiet, Retires, EndsOffline, offline_at}
 use Rattle.cyc_agreement.specs.Juggling.{TakesTurn, Turns}
 
 -- ---- calls that put in no cyclic of an id
@@ -73,7 +73,7 @@ module _ {R : Type 0} (firing : Raise R) where
       ∙ any_less (λ (c : Cyclic). c.timer.id == id) x.cyclics k (sym (any_map id_in (λ own. own == id) (remove x.cyclics k))
       ∙ ap (λ cs. among id (map id_in cs)) (sym e) ∙ h)
 
-  back_one : (x y : CpuView R) (call : CpuCall) (id : ℕ) → IsSteady call → PutsNot id call → Changes firing x call y
+  back_one : (x y : CpuView R) (call : CpuCall) (id : ℕ) → IsSteady call → PutsNot id call → CpuChanges firing x call y
       → among id (ids_of y) ≡ true → among id (ids_of x) ≡ true
   back_one x y (Place own level interval moment carried) id s p d h = any_map id_in (λ q. q == id) x.cyclics
       ∙ or_back (own == id) (list_any (λ (c : Cyclic). c.timer.id == id) x.cyclics) (false_ne own id p)
@@ -350,7 +350,7 @@ module _ {R : Type 0} (firing : Raise R) where
       (λ id. outs_quiet id n (ids_on n s.cpus)) only
 
   pub still_left : (n : ℕ) (report : JuggleReport) (answer : Result (Unit {0}) Refusal) (s t : SystemView R)
-      → Leaves firing n report answer s t → StillHolds s t
+      → EndsOffline firing n report answer s t → StillHolds s t
   still_left n report answer s t (inl (left, is, same)) = still_same s t same
   still_left n report answer s t (inr (inl (none, is, (before, id, after, found, some, only)))) =
       still_calls s t (quiet n before ++ on n (AskPending id (Some found)) ∷ [])

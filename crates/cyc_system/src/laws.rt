@@ -8,7 +8,7 @@ ghost use Rattle.cyc_timers.specs.declared.fire.Fired.{Fired};
 ghost use Rattle.cyc_timers.specs.declared.fire.FireRefused.{FireRefused};
 ghost use Rattle.cyc_cpu.specs.Cpu.{CpuView, Running};
 ghost use Rattle.cyc_cpu.specs.Laws.{IsLawful};
-ghost use Rattle.cyc_cpu.specs.Calls.{no_interrupts, Fire, AskSettled, Does as CpuDoes, Changes as CpuChanges};
+ghost use Rattle.cyc_cpu.specs.Calls.{no_interrupts, Fire, AskSettled, CpuDoes as CpuDoes, CpuChanges as CpuChanges};
 ghost use Rattle.cyc_agreement.specs.System.{RunningSystem};
 ghost use Rattle.cyc_system.specs.Calls.{SystemCall, Does, Add, AddOmni};
 ghost use Rattle.cyc_system.specs.Splitting.{ComesBack, AllComeBack};

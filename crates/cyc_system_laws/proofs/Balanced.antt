@@ -37,7 +37,7 @@ use Rattle.cyc_system_laws.specs.Gone.{AreLevelsLawful}
 use Rattle.cyc_system_laws.proofs.Over.{at_one}
 use Rattle.cyc_system_laws.specs.Sound.{IsSound}
 use Rattle.cyc_system_laws.specs.Keeping.{EndsRemoval}
-use Rattle.cyc_system_laws.specs.Totalling.{Steps, expirations_in, expirations_along, losses_in, Answers, fired_in}
+use Rattle.cyc_system_laws.specs.Totalling.{Steps, expirations_in, expirations_along, losses_in, AnswersWith, fired_in}
 use Rattle.cyc_system_laws.specs.Pending.{pending_in, pending_on, all_pending}
 use Rattle.cyc_system_laws.proofs.Totals.{one_grows, run_sound}
 use Rattle.cyc_system_laws.proofs.Given.{receipt_along, receipt_all, no_losses_yet}
@@ -91,7 +91,7 @@ module _ (id : ℕ) where
   all_absent t law nowhere = sum_none (pending_in id) t.cpus.cpus (λ n x at. absent_in n x t.cpus at (law n x at) (nowhere n))
 
   pub answered_none : (receipt : Receipt) (s t : SystemView Tables) → IsSound firing_at s → IsSound firing_at t
-      → Answers raise_tables id receipt s t → (all_pending id s ≡ 0) × (all_pending id t ≡ 0)
+      → AnswersWith raise_tables id receipt s t → (all_pending id s ≡ 0) × (all_pending id t ≡ 0)
   answered_none receipt s t a b (inl d) =
       let x = all_absent t b.lawful (begins_forgotten raise_tables id receipt s t a.fit.rising d).nowhere in
       let y = (quietly id s t (BeginRemove id (Ok (over.Done receipt))) d).all in (sym y ∙ x, x)
@@ -323,7 +323,7 @@ module _ {C : Type 0} (handler : Calls C) (id : ℕ) where
   -- a receipt's expirations are its losses and the calls that were made
   pub receipt_calls : (s t : RunningSystem C Tables) (u : SystemView Tables) (way : List SystemCall) (receipt : Receipt)
       → FoldsTo D s way t → IsSound firing_at s.system → AllLevels s.system → s.system.last < id → IsSound firing_at u
-      → All (λ call. EndsRemoval id call → ⊥) way → Answers raise_tables id receipt t.system u
+      → All (λ call. EndsRemoval id call → ⊥) way → AnswersWith raise_tables id receipt t.system u
       → receipt.sent + handler.count s.calls id ≡ receipt.lost + handler.count t.calls id
   receipt_calls s t u way receipt run a h new b open_still answers =
       let after = run_sound handler raise_tables (Interrupts handler)

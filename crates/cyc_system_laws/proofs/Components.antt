@@ -13,12 +13,12 @@ use Rattle.cyc_types.specs.declared.refusal.JuggleReport.{JuggleReport}
 use Rattle.cyc_types.specs.declared.refusal.Refusal.{Refusal}
 use Rattle.cyc_timers.specs.Rows.{Cyclic}
 use Rattle.cyc_cpu.specs.Cpu.{CpuView, cyclic_with}
-use Rattle.cyc_cpu.specs.Calls.{CpuCall, Changes as CpuChanges, Place, TakeNow, AskPending, Reserve, Widen}
+use Rattle.cyc_cpu.specs.Calls.{CpuCall, CpuChanges as CpuChanges, Place, TakeNow, AskPending, Reserve, Widen}
 use Rattle.cyc_agreement.specs.Cpus.{CpusView, CallOn, on, DoesAt, Works}
 use Rattle.cyc_agreement.specs.Shifting.{moving}
 use Rattle.cyc_agreement.proofs.CpuSpots.{get_set_other}
 use Rattle.cyc_agreement.specs.Juggling.{TakesTurn, Turns, single_ids}
-use Rattle.cyc_agreement.specs.GoingOffline.{quiet, Retires, Leaves}
+use Rattle.cyc_agreement.specs.GoingOffline.{quiet, Retires, EndsOffline}
 use Rattle.cyc_agreement.specs.declared.turning.Turn.{Turn}
 use Rattle.cyc_agreement.specs.declared.turning.Turn.TheVariants.{StaysBound, StaysPending, StaysRefused, Moves}
 use Rattle.cyc_system.specs.System.{SystemView, ids_on, is_omnipresent}
@@ -135,7 +135,7 @@ module _ {R : Type 0} (firing : Raise R) (m id : ℕ) where
       ∙ one_same s.cpus u.cpus (on n (TakeNow own (Ok taken))) (λ e. absurd (apart (sym e))) does
 
   leaves_same : (n : ℕ) (report : JuggleReport) (answer : Result (Unit {0}) Refusal) (s t : SystemView R) → m ≢ n
-      → Leaves firing n report answer s t → Same s.cpus t.cpus
+      → EndsOffline firing n report answer s t → Same s.cpus t.cpus
   leaves_same n report answer s t apart (inl (left, is, same)) = same_system s t same
   leaves_same n report answer s t apart (inr (inl (none, is, (before, own, after, found, some, only)))) =
       works_same (quiet n before ++ on n (AskPending own (Some found)) ∷ []) s.cpus t.cpus

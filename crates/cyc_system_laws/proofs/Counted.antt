@@ -34,7 +34,7 @@ use Rattle.cyc_system.proofs.Spots.{same_some}
 use Rattle.cyc_system.specs.Turn.{Turn}
 use Rattle.cyc_system.specs.Turn.TheVariants.{StaysBound, StaysPending, StaysRefused, Moves}
 use Rattle.cyc_system.specs.Juggling.{TakesTurn, Turns}
-use Rattle.cyc_system.specs.GoingOffline.{quiet, Retires, Leaves}
+use Rattle.cyc_system.specs.GoingOffline.{quiet, Retires, EndsOffline}
 use Rattle.cyc_system.specs.Omni.{AddsOmni, entering_each}
 use Rattle.cyc_system.specs.Online.{GoesOnline, staying, is_staying, returns, return_at, after_return}
 use Rattle.cyc_system_laws.proofs.Flow.{AllFixed, all_brought, all_taken, on_cpus, flows, flow_at, sum_set}
@@ -230,7 +230,7 @@ module _ {R : Type 0} (firing : Raise R) (g : Sent
       (sixteen_set s.records k r x here (length-set r.ended n (summed (ended_on n r) taken.sent)) many)) rest ∙ one
 
   pub leaves_same : (n : ℕ) (report : JuggleReport) (answer : Result (Unit {0}) Refusal) (s t : SystemView R) → n < 16
-      → Sixteen s.records → Leaves firing n report answer s t → all_of t ≡ all_of s
+      → Sixteen s.records → EndsOffline firing n report answer s t → all_of t ≡ all_of s
   leaves_same n report answer s t low many (inl (left, is, same)) = same_all s t same
   leaves_same n report answer s t low many (inr (inl (none, is, (before, own, after, found, some, only)))) =
       idly (quiet n before ++ on n (AskPending own (Some found)) ∷ []) s t

@@ -26,7 +26,7 @@ use Rattle.cyc_system.proofs.Receipts.{begun_done, poll_done}
 use Rattle.cyc_system.specs.Calls.{SystemCall}
 use Rattle.cyc_system_laws.specs.Sound.{IsSound}
 use Rattle.cyc_system_laws.specs.Keeping.{EndsRemoval}
-use Rattle.cyc_system_laws.specs.Totalling.{expirations_along, losses_along, Steps, Answers}
+use Rattle.cyc_system_laws.specs.Totalling.{expirations_along, losses_along, Steps, AnswersWith}
 use Rattle.cyc_system_laws.proofs.Totals.{run_grows, run_sound}
 
 module _ {R : Type 0} (view : R → FiringView) (id : ℕ) (s : SystemView R) (sound : IsSound view s) (new : s.last < id) where
@@ -58,7 +58,7 @@ module _ {R : Type 0} (view : R → FiringView) (id : ℕ) (s : SystemView R) (s
 
 -- what a receipt says
 pub receipt_all : {R : Type 0} (firing : Raise R) (id : ℕ) (receipt : Receipt)
-    (s t : SystemView R) → IsSound firing.view s → Answers firing id receipt s t
+    (s t : SystemView R) → IsSound firing.view s → AnswersWith firing id receipt s t
     → (receipt.sent ≡ all_expired id s) × (receipt.lost ≡ all_lost id s)
 receipt_all firing id receipt s t sound (inl d) = (
   begun_done firing (λ (e : Sent). e.sent) id (λ a b. refl) receipt s t sound.fit sound.lawful d (λ r sent lost. sent),
@@ -75,7 +75,7 @@ module _ {C R : Type 0} (handler : Calls C) (firing : Raise R)
     → interrupts level budget answer s t → t.cpu.cyclics ≡ s.cpu.cyclics) (id : ℕ) where
   pub receipt_along : (s t : RunningSystem C R) (u : SystemView R) (way : List SystemCall) (receipt : Receipt)
       (run : FoldsTo (Steps handler firing interrupts) s way t) → IsSound firing.view s.system
-      → s.system.last < id → All (λ call. EndsRemoval id call → ⊥) way → Answers firing id receipt t.system u
+      → s.system.last < id → All (λ call. EndsRemoval id call → ⊥) way → AnswersWith firing id receipt t.system u
       → (receipt.sent ≡ expirations_along (Steps handler firing interrupts) id s way t run)
       × (receipt.lost ≡ losses_along handler firing interrupts id s way t run)
   receipt_along s t u way receipt run sound new open_still answers =

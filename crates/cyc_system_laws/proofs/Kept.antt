@@ -33,7 +33,7 @@ use Rattle.cyc_system.proofs.Others.{begins_others, polls_others, asks_others}
 use Rattle.cyc_system.specs.Turn.{Turn}
 use Rattle.cyc_system.specs.Turn.TheVariants.{StaysBound, StaysPending, StaysRefused, Moves}
 use Rattle.cyc_system.specs.Juggling.{TakesTurn, Turns, single_ids}
-use Rattle.cyc_system.specs.GoingOffline.{quiet, Retires, Leaves}
+use Rattle.cyc_system.specs.GoingOffline.{quiet, Retires, EndsOffline}
 use Rattle.cyc_system.specs.Omni.{AddsOmni, entering_each}
 use Rattle.cyc_system.specs.Online.{GoesOnline, staying, is_staying, returns, return_at}
 use Rattle.cyc_system.specs.Calls.{SystemCall, Changes, Add, AddOmni, Bind, BeginRemove, PollRemove, AskTotals, Reprogram}
@@ -143,7 +143,7 @@ module _ {R : Type 0} (firing : Raise R) (f : Taken → ℕ) (id : ℕ) where
       let one : all_on u ≡ all_on s = omega (arith, a, z) in retires_stay n ids u t (λ p q at. ne (suc p) q at) rest ∙ one
 
   leaves_stay : (n : ℕ) (report : JuggleReport) (answer : Result (Unit {0}) Refusal) (s t : SystemView R)
-      → (is_omnipresent id s ≡ true → ⊥) → Leaves firing n report answer s t → all_on t ≡ all_on s
+      → (is_omnipresent id s ≡ true → ⊥) → EndsOffline firing n report answer s t → all_on t ≡ all_on s
   leaves_stay n report answer s t single (inl (left, is, same)) = ap all_on same
   leaves_stay n report answer s t single (inr (inl (none, is, (before, own, after, found, some, only)))) =
       idle_same f id firing (quiet n before ++ on n (AskPending own (Some found)) ∷ []) s.cpus t.cpus

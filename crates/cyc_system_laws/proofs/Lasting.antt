@@ -9,12 +9,12 @@ use Rattle.cyc_types.specs.declared.level.Soft.{Soft}
 use Rattle.cyc_soft.specs.declared.Ran.{Ran}
 use Rattle.cyc_soft.specs.declared.SoftRefused.{SoftRefused}
 use Rattle.cyc_types.specs.Timers.{Timer}
-use Rattle.cyc_types.specs.Expirations.{Expiration, after, all_after}
+use Rattle.cyc_types.specs.Expirations.{Expiration, after_expirations, all_after}
 use Rattle.cyc_timers.specs.Rows.{Cyclic, timers}
 use Rattle.cyc_timers.specs.declared.fire.Fired.{Fired}
 use Rattle.cyc_timers.specs.declared.fire.FireRefused.{FireRefused}
 use Rattle.cyc_cpu.specs.Cpu.{CpuView, Running, running}
-use Rattle.cyc_cpu.specs.Calls.{Does as CpuDoes, Fire}
+use Rattle.cyc_cpu.specs.Calls.{CpuDoes as CpuDoes, Fire}
 use Rattle.cyc_cpu.specs.declared.moving.Taken.{Taken}
 use Rattle.cyc_agreement.specs.Cpus.{ChangesAt}
 use Rattle.cyc_system.specs.declared.system.SoftFault.{SoftFault}
@@ -35,14 +35,16 @@ module _ (id : ℕ) (f : Level → ℕ → ℕ) where
   sum_timers (c ∷ cs) = let a = sum_by-cons (λ (c : Cyclic). kind c.timer) c cs in let b = sum_by-cons kind c.timer (timers cs) in
       let d = sum_timers cs in omega (arith, a, b, d)
 
-  one_after : (now : ℕ) (made : List Expiration) (t : Timer) → kind (after now made t) ≡ kind t
-  unfolding after
+  one_after : (now : ℕ) (made : List Expiration) (t : Timer) → kind (after_expirations now made t) ≡ kind t
+  unfolding after_expirations
   one_after now made t = refl
 
-  all_kept : (now : ℕ) (made : List Expiration) (ts : List Timer) → sum_by kind (map (after now made) ts) ≡ sum_by kind ts
+  all_kept : (now : ℕ) (made : List Expiration) (ts : List Timer)
+      → sum_by kind (map (after_expirations now made) ts) ≡ sum_by kind ts
   all_kept now made [] = refl
   all_kept now made (t ∷ ts) =
-      let a = sum_by-cons kind (after now made t) (map (after now made) ts) in let b = sum_by-cons kind t ts in
+      let a = sum_by-cons kind (after_expirations now made t) (map (after_expirations now made) ts) in let b = sum_by-cons kind
+      t ts in
       let c = one_after now made t in let d = all_kept now made ts in omega (arith, a, b, c, d)
 
   fired_kinds : (now : ℕ) (made : List Expiration) (cs cs' : List Cyclic) → timers cs' ≡ all_after now made (timers cs)

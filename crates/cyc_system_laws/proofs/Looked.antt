@@ -35,7 +35,7 @@ use Rattle.cyc_system.proofs.Folds.{folds_keep}
 use Rattle.cyc_system.specs.Turn.{Turn}
 use Rattle.cyc_system.specs.Turn.TheVariants.{StaysBound, StaysPending, StaysRefused, Moves}
 use Rattle.cyc_system.specs.Juggling.{TakesTurn, Turns, single_ids}
-use Rattle.cyc_system.specs.GoingOffline.{Retires, Leaves}
+use Rattle.cyc_system.specs.GoingOffline.{Retires, EndsOffline}
 use Rattle.cyc_system.specs.Omni.{AddsOmni}
 use Rattle.cyc_system.specs.Online.{GoesOnline, is_staying, after_return}
 use Rattle.cyc_system.specs.Calls.{SystemCall, Changes, Add, AddOmni, Bind, BeginRemove, PollRemove, AskTotals, Reprogram}
@@ -159,7 +159,7 @@ module _ {R B : Type 0} (firing : Raise R) (h : Record → B) (none : B)
       ∙ ended_look s u k n r _ here records
 
   leaves_look : (n : ℕ) (report : JuggleReport) (answer : Result (Unit {0}) Refusal) (s t : SystemView R)
-      → Leaves firing n report answer s t → look t ≡ look s
+      → EndsOffline firing n report answer s t → look t ≡ look s
   leaves_look n report answer s t (inl (left, is, same)) = ap look same
   leaves_look n report answer s t (inr (inl (nothing, is, (before, own, after, found, some, only)))) = looked_same s t only.1
   leaves_look n report answer s t (inr (inr (nothing, is, (u, only, empty, each, off)))) = ap look off

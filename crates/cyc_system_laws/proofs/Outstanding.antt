@@ -6,7 +6,7 @@ use Rattle.std.specs.List.{FoldsTo}
 use Rattle.cyc_types.specs.Counting.{one_at}
 use Rattle.cyc_types.specs.Draining.{DrainCall, Takes, Finishes}
 use Rattle.cyc_types.specs.Firing.{FiringCall, Admits, Loads, Raises, Marks, Polls, Expands, Looks}
-use Rattle.cyc_types.specs.Runs.{Goes, raises_of, losses_of, raised_by, lost_by, finished_by}
+use Rattle.cyc_types.specs.Runs.{Goes, raises_in_call, losses_in_call, raised_by, lost_by, finished_by}
 use Rattle.cyc_types.proofs.Runs.{finished_on}
 use Rattle.cyc_types.specs.declared.firing.Raised.TheVariants.{First, More, Lost}
 use Rattle.cyc_level.specs.declared.Event.{Event}
@@ -19,7 +19,7 @@ use Rattle.cyc_level.proofs.Keeps.{keeps_law}
 use Rattle.cyc_level.proofs.Maps.{some_and}
 use Rattle.cyc_core.specs.Tables.{Tables, level_of}
 use Rattle.cyc_core.specs.Reached.{Happens}
-use Rattle.cyc_core.specs.FiringSide.{Fires}
+use Rattle.cyc_core.specs.FiringSide.{FiringDoes}
 use Rattle.cyc_core.specs.DrainingSide.{take_events, Drains}
 use Rattle.cyc_core.proofs.Changes.{held_cyclic}
 use Rattle.cyc_cpu.specs.Soft.{raise_tables}
@@ -35,7 +35,7 @@ folds_law : (l m : SoftLevel) (events : List Event) → FoldsTo Happens l events
 folds_law l m [] run law = subst Lawful run law
 folds_law l m (event ∷ events) (k, first, rest) law = folds_law k m events rest (happens_law l k event first law)
 
-fires_law : (l m : SoftLevel) (call : FiringCall) → Fires l call m → Lawful l → Lawful m
+fires_law : (l m : SoftLevel) (call : FiringCall) → FiringDoes l call m → Lawful l → Lawful m
 fires_law l m (Admits id index) d law = happens_law l m (Admit id index) d law
 fires_law l m (Loads id pend) d law = subst Lawful (sym d.1) law
 fires_law l m (Raises id answer) d law = folds_law l m _ d.0 law
@@ -121,8 +121,8 @@ module _ (id : ℕ) where
   same_count : (l m : SoftLevel) → m ≡ l → count m id ≡ count l id
   same_count l m e = ap (λ (x : SoftLevel). count x id) e
 
-  fired_call : (l m : SoftLevel) (call : FiringCall) → Fires l call m
-      → count m id + losses_of id call ≡ count l id + raises_of id call
+  fired_call : (l m : SoftLevel) (call : FiringCall) → FiringDoes l call m
+      → count m id + losses_in_call id call ≡ count l id + raises_in_call id call
   fired_call l m (Admits own index) d = let a = same_count _ m d.1 in let b = admits l own index d.0.2 in omega (arith, a, b)
   fired_call l m (Loads own pend) d = let a = same_count l m d.1 in omega (arith, a)
   fired_call l m (Raises own First) ((k, (on, is), (n, (on', is'), last)), hand) =

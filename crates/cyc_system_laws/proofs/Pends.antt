@@ -21,7 +21,7 @@ use Rattle.cyc_timers.specs.declared.fire.FireRefused.{FireRefused}
 use Rattle.cyc_cpu.specs.Cpu.{CpuView, Running, running}
 use Rattle.cyc_cpu.specs.Laws.{IsLawful}
 use Rattle.cyc_cpu.specs.Soft.{raise_tables, firing_at, Interrupts}
-use Rattle.cyc_cpu.specs.Calls.{CpuCall, Changes as CpuChanges, Does as CpuDoes, Fire, SoftInterrupt as CpuSoftInterrupt}
+use Rattle.cyc_cpu.specs.Calls.{CpuCall, CpuChanges as CpuChanges, CpuDoes as CpuDoes, Fire, SoftInterrupt as CpuSoftInterrupt}
 use Rattle.cyc_cpu_laws.specs.Accounts.{account_of, lost_of}
 use Rattle.cyc_cpu_laws.proofs.Accounting.{none_made}
 use Rattle.cyc_cpu_laws.proofs.Cores.{core_proceeds_one}
@@ -36,7 +36,7 @@ use Rattle.cyc_system_laws.specs.Parts.{CpusCall, OnCpu, SetOnline, DoesPart}
 use Rattle.cyc_system_laws.proofs.Over.{at_one}
 use Rattle.cyc_system_laws.proofs.Pieces.{made_of}
 use Rattle.cyc_system_laws.proofs.Flow.{sum_set}
-use Rattle.cyc_system_laws.specs.Pending.{pending_in, pending_on, raised_in, raised_on, Serves}
+use Rattle.cyc_system_laws.specs.Pending.{pending_in, pending_on, raised_in, raised_on, ReachesHandlers}
 use Rattle.cyc_system_laws.specs.Totalling.{losses_of_fire, losses_in}
 use Rattle.cyc_system_laws.proofs.Totals.{fire_here, lost_here}
 use Rattle.cyc_system_laws.proofs.Outstanding.{goes_law, way_law, goes_counts, way_counts}
@@ -204,7 +204,7 @@ module _ {C : Type 0} (handler : Calls C) (id : ℕ) where
   same_on : (n : ℕ) (s t : RunningSystem C Tables) → t ≡ s → pending_on n id t.system.cpus ≡ pending_on n id s.system.cpus
   same_on n s t e = ap (λ (x : RunningSystem C Tables). pending_on n id x.system.cpus) e
 
-  pub kept_on : (n : ℕ) (s t : RunningSystem C Tables) (call : SystemCall) → Call s call t → (Serves n call → ⊥)
+  pub kept_on : (n : ℕ) (s t : RunningSystem C Tables) (call : SystemCall) → Call s call t → (ReachesHandlers n call → ⊥)
       → pending_on n id t.system.cpus ≡ pending_on n id s.system.cpus
   kept_on n s t (FireOne m now answer) (inl (e, why, is, same)) not = same_on n s t same
   kept_on n s t (FireOne m now answer) (inr (clear, (runs, records, last))) not =

@@ -22,7 +22,7 @@ use Rattle.cyc_timers.specs.Rows.{Cyclic}
 use Rattle.cyc_cpu.specs.Cpu.{CpuView, Running, running, HasCounts}
 use Rattle.cyc_cpu.specs.Laws.{IsLawful}
 use Rattle.cyc_cpu.specs.Losses.{IsUnder, IsSpared}
-use Rattle.cyc_cpu.specs.Calls.{CpuCall, Changes as CpuChanges, Does as CpuDoes, Fire}
+use Rattle.cyc_cpu.specs.Calls.{CpuCall, CpuChanges as CpuChanges, CpuDoes as CpuDoes, Fire}
 use Rattle.cyc_cpu_laws.specs.Accounts.{KeepsLimits}
 use Rattle.cyc_cpu_laws.proofs.Stills.{changes_still}
 use Rattle.cyc_cpu_laws.proofs.Ways.{passes_ceiling}

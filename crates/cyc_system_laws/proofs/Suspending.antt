@@ -17,7 +17,7 @@ use Rattle.cyc_soft.specs.declared.SoftRefused.{SoftRefused}
 use Rattle.cyc_timers.specs.declared.fire.Fired.{Fired}
 use Rattle.cyc_timers.specs.declared.fire.FireRefused.{FireRefused}
 use Rattle.cyc_cpu.specs.Cpu.{CpuView, Running, running}
-use Rattle.cyc_cpu.specs.Calls.{CpuCall, Changes as CpuChanges, Does as CpuDoes, Fire}
+use Rattle.cyc_cpu.specs.Calls.{CpuCall, CpuChanges as CpuChanges, CpuDoes as CpuDoes, Fire}
 use Rattle.cyc_cpu.specs.Calls.{Suspend as CpuSuspend, Resume as CpuResume}
 use Rattle.cyc_agreement.specs.Suspending.{is_suspended, on_each}
 use Rattle.cyc_agreement.specs.Cpus.{ChangesAt, IsCpu, Works}

@@ -18,7 +18,7 @@ use Rattle.cyc_timers.specs.declared.fire.FireRefused.{FireRefused}
 use Rattle.cyc_timers.specs.Rows.{timers}
 use Rattle.cyc_cpu.specs.Cpu.{CpuView, Running, running}
 use Rattle.cyc_cpu.specs.Laws.{IsLawful}
-use Rattle.cyc_cpu.specs.Calls.{Does as CpuDoes, Fire}
+use Rattle.cyc_cpu.specs.Calls.{CpuDoes as CpuDoes, Fire}
 use Rattle.cyc_types.specs.Expirations.{expirations}
 use Rattle.cyc_cpu_laws.specs.Accounts.{account_of, Proceeds, expired_of, lost_of}
 use Rattle.cyc_cpu_laws.proofs.Accounting.{proceeds_one, none_made}

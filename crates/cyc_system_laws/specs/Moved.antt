@@ -41,7 +41,7 @@ pub record Moved {R : Type 0} (id source target : ℕ) (v w : CpusView R) : Type
   pub online : w.online ≡ v.online
 
 -- each CPU has the cyclics, the removal, the size and the room that it had: at most its ends were asked
-pub record OnlyAsked {R : Type 0} (v w : CpusView R) : Type 0 where
+pub record OnlyAskedCpus {R : Type 0} (v w : CpusView R) : Type 0 where
   pub cyclics : (n : ℕ) (x y : CpuView R) → IsCpu n x v → IsCpu n y w → y.cyclics ≡ x.cyclics
   pub kept : (n : ℕ) (x y : CpuView R) → IsCpu n x v → IsCpu n y w → SameCpu x y
   pub online : w.online ≡ v.online

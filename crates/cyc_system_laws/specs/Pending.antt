@@ -36,7 +36,7 @@ raised_on n id now answer v =
     option_map_or (λ cpu. raised_in (account_of (Fire now answer) cpu.cyclics) id) (slice_get v.cpus n) 0
 
 -- the call fires this CPU, or is one of its soft interrupts: the two calls that make or do calls of handlers
-abbrev pub Serves : ℕ → SystemCall → Type 0
-Serves n (FireOne m now answer) = m ≡ n
-Serves n (SoftInterrupt m level budget answer) = m ≡ n
-Serves n call = ⊥
+abbrev pub ReachesHandlers : ℕ → SystemCall → Type 0
+ReachesHandlers n (FireOne m now answer) = m ≡ n
+ReachesHandlers n (SoftInterrupt m level budget answer) = m ≡ n
+ReachesHandlers n call = ⊥

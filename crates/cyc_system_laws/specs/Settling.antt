@@ -38,15 +38,15 @@ IsAmong n ns = (before : List ℕ) × StandsAfter before n ns
 
 -- the call asks this CPU: the one that gets a new cyclic, or all that are online; where a cyclic is and where it is to go; those
 -- that have it; or the one that is named
-abbrev pub Asks : {R : Type 0} → ℕ → SystemCall → SystemView R → Type 0
-Asks n (Add level when now answer) s = destination None s.cpus ≡ Some n
-Asks n (AddOmni level when skew now answer) s = IsAmong n (online_cpus s.cpus)
-Asks n (Bind id (Some m) answer) s = HasHome id n s ⊎ (n ≡ m)
-Asks n (BeginRemove id answer) s = IsAmong n (cpus_with id s.cpus)
-Asks n (Juggle m answer) s = n ≡ m
-Asks n (Offline m answer) s = n ≡ m
-Asks n (Online m now answer) s = n ≡ m
-Asks n call s = ⊥
+abbrev pub AsksCpu : {R : Type 0} → ℕ → SystemCall → SystemView R → Type 0
+AsksCpu n (Add level when now answer) s = destination None s.cpus ≡ Some n
+AsksCpu n (AddOmni level when skew now answer) s = IsAmong n (online_cpus s.cpus)
+AsksCpu n (Bind id (Some m) answer) s = HasHome id n s ⊎ (n ≡ m)
+AsksCpu n (BeginRemove id answer) s = IsAmong n (cpus_with id s.cpus)
+AsksCpu n (Juggle m answer) s = n ≡ m
+AsksCpu n (Offline m answer) s = n ≡ m
+AsksCpu n (Online m now answer) s = n ≡ m
+AsksCpu n call s = ⊥
 
 -- the call doesn't fire this CPU
 abbrev pub FiresNot : ℕ → SystemCall → Type 0

@@ -11,7 +11,7 @@ use Rattle.cyc_types.specs.declared.receipt.Receipt.{Receipt}
 use Rattle.cyc_soft.specs.declared.Ran.{Ran}
 use Rattle.cyc_soft.specs.declared.SoftRefused.{SoftRefused}
 use Rattle.cyc_cpu.specs.Cpu.{Running, running}
-use Rattle.cyc_cpu.specs.Calls.{Does as CpuDoes, Fire}
+use Rattle.cyc_cpu.specs.Calls.{CpuDoes as CpuDoes, Fire}
 use Rattle.cyc_types.specs.Runs.{lost_by}
 use Rattle.cyc_timers.specs.declared.fire.Fired.{Fired}
 use Rattle.cyc_timers.specs.declared.fire.FireRefused.{FireRefused}
@@ -70,7 +70,7 @@ module _ {C R : Type 0} (handler : Calls C) (firing : Raise R)
   losses_along s (call ∷ way) t run = losses_in call s run.0 run.1.0 + losses_along run.0 way t run.2
 
 -- the removal of this id answers with this receipt, as it begins or at a poll
-abbrev pub Answers : {R : Type 0} → Raise R → ℕ → Receipt
+abbrev pub AnswersWith : {R : Type 0} → Raise R → ℕ → Receipt
     → SystemView R → SystemView R → Type 0
-Answers firing id receipt s t =
+AnswersWith firing id receipt s t =
     Changes firing s (BeginRemove id (Ok (Done receipt))) t ⊎ Changes firing s (PollRemove id (Ok (Some receipt))) t

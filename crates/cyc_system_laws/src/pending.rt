@@ -17,8 +17,8 @@ ghost use Rattle.cyc_system.specs.Calls.{SystemCall, Changes, Does, AskTotals, F
 ghost use Rattle.cyc_system_laws.specs.Gone.{AreLevelsLawful};
 ghost use Rattle.cyc_system_laws.specs.Sound.{IsSound};
 ghost use Rattle.cyc_system_laws.specs.Keeping.{EndsRemoval};
-ghost use Rattle.cyc_system_laws.specs.Totalling.{Steps, expirations_along, losses_in, Answers};
-ghost use Rattle.cyc_system_laws.specs.Pending.{pending_on, all_pending, raised_on, Serves};
+ghost use Rattle.cyc_system_laws.specs.Totalling.{Steps, expirations_along, losses_in, AnswersWith};
+ghost use Rattle.cyc_system_laws.specs.Pending.{pending_on, all_pending, raised_on, ReachesHandlers};
 
 use cyc_types::Calls;
 
@@ -30,7 +30,7 @@ use cyc_types::Calls;
 pub fn pending_law<C: Calls>()
     ensures kept { (id n : ℕ) (s t : RunningSystem C Tables) (call : SystemCall)
         → Does C.Calls raise_tables (Interrupts C.Calls) s call t
-        → (Serves n call → ⊥) → pending_on n id t.system.cpus ≡ pending_on n id s.system.cpus }
+        → (ReachesHandlers n call → ⊥) → pending_on n id t.system.cpus ≡ pending_on n id s.system.cpus }
     ensures fired { (id n now : ℕ) (answer : Result Fired FireRefused) (s t : RunningSystem C Tables) → IsSound firing_at s.system
         → (d : Does C.Calls raise_tables (Interrupts C.Calls) s (FireOne n now answer) t)
         → pending_on n id t.system.cpus + losses_in C.Calls raise_tables (Interrupts C.Calls) id (FireOne n now answer) s t d
@@ -51,7 +51,7 @@ pub fn pending_law<C: Calls>()
         → (pending_on n id s.cpus ≡ 0) × (pending_on n id t.cpus ≡ 0) }
     // The answer of a removal finds none outstanding on any CPU, and leaves none.
     ensures receipt { (id : ℕ) (receipt : Receipt) (s t : SystemView Tables) → IsSound firing_at s → IsSound firing_at t
-        → Answers raise_tables id receipt s t → (all_pending id s ≡ 0) × (all_pending id t ≡ 0) }
+        → AnswersWith raise_tables id receipt s t → (all_pending id s ≡ 0) × (all_pending id t ≡ 0) }
     // What `totals` says is pending is all that is outstanding.
     ensures totals { (id : ℕ) (totals : SystemTotals) (s t : SystemView Tables) → IsSound firing_at s
         → Changes raise_tables s (AskTotals id (Some totals)) t → totals.pending ≡ all_pending id s }
@@ -72,6 +72,6 @@ pub fn balance_law<C: Calls>()
     ensures receipt { (id : ℕ) (s t : RunningSystem C Tables) (u : SystemView Tables) (way : List SystemCall) (receipt : Receipt)
         → FoldsTo (Steps C.Calls raise_tables (Interrupts C.Calls)) s way t
         → IsSound firing_at s.system → AreLevelsLawful s.system → s.system.last < id → IsSound firing_at u
-        → All (λ call. EndsRemoval id call → ⊥) way → Answers raise_tables id receipt t.system u
+        → All (λ call. EndsRemoval id call → ⊥) way → AnswersWith raise_tables id receipt t.system u
         → receipt.sent + C.count s.calls id ≡ receipt.lost + C.count t.calls id }
 {}

@@ -17,7 +17,7 @@ ghost use Rattle.cyc_system.specs.Removing.{cpus_with};
 ghost use Rattle.cyc_system.specs.Counts.{AreLawful};
 ghost use Rattle.cyc_system.specs.Juggling.{MovesAway, single_ids};
 ghost use Rattle.cyc_system.specs.Calls.{SystemCall, Changes, Does, BeginRemove, Juggle, Offline};
-ghost use Rattle.cyc_system_laws.specs.Settling.{IsRefusedUntil, IsAmong, Asks, FiresNot, refused_turns, IsRefusedTurn};
+ghost use Rattle.cyc_system_laws.specs.Settling.{IsRefusedUntil, IsAmong, AsksCpu, FiresNot, refused_turns, IsRefusedTurn};
 ghost use Rattle.cyc_system_laws.specs.Settling.{IsUnsettledOrGrown, AreSettledBeside};
 
 use cyc_types::{Calls, Raise};
@@ -30,7 +30,7 @@ use cyc_types::{Calls, Raise};
 /// It does nothing when it runs: its clauses are the law.
 pub fn settled_law<R: Raise>()
     ensures refused { (s t : SystemView R) (call : SystemCall) → Changes R.Raise s call t → IsRefusedUntil call
-        → (n : ℕ) × (cpu : CpuView R) × IsCpu n cpu s.cpus × Asks n call s × (IsSettled R.view cpu → ⊥) }
+        → (n : ℕ) × (cpu : CpuView R) × IsCpu n cpu s.cpus × AsksCpu n call s × (IsSettled R.view cpu → ⊥) }
     // A cyclic all of whose CPUs have settled is removed at once.
     ensures kept { (id calls : ℕ) (s t : SystemView R) → AreLawful R.view s
         → Changes R.Raise s (BeginRemove id (Ok (Kept calls))) t

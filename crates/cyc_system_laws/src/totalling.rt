@@ -11,7 +11,7 @@ ghost use Rattle.cyc_system.specs.System.{SystemView, RunningSystem};
 ghost use Rattle.cyc_system.specs.Calls.{SystemCall};
 ghost use Rattle.cyc_system_laws.specs.Sound.{IsSound};
 ghost use Rattle.cyc_system_laws.specs.Keeping.{EndsRemoval};
-ghost use Rattle.cyc_system_laws.specs.Totalling.{Steps, expirations_along, losses_along, Answers};
+ghost use Rattle.cyc_system_laws.specs.Totalling.{Steps, expirations_along, losses_along, AnswersWith};
 
 use cyc_types::{Calls, Raise};
 
@@ -37,7 +37,7 @@ pub fn expirations_law<C: Calls, R: Raise>()
     // The run begins before the id is given.
     ensures receipt { (id : ℕ) (s t : RunningSystem C R) (u : SystemView R) (way : List SystemCall) (receipt : Receipt)
         → (run : FoldsTo (Steps C.Calls R.Raise no_interrupts) s way t) → IsSound R.view s.system
-        → s.system.last < id → All (λ call. EndsRemoval id call → ⊥) way → Answers R.Raise id receipt t.system u
+        → s.system.last < id → All (λ call. EndsRemoval id call → ⊥) way → AnswersWith R.Raise id receipt t.system u
         → (receipt.sent ≡ expirations_along (Steps C.Calls R.Raise no_interrupts) id s way t run)
         × (receipt.lost ≡ losses_along C.Calls R.Raise no_interrupts id s way t run) }
 {}
@@ -65,7 +65,7 @@ pub fn expirations_core_law<C: Calls>()
     ensures receipt { (id : ℕ) (s t : RunningSystem C Tables) (u : SystemView Tables) (way : List SystemCall) (receipt : Receipt)
         → (run : FoldsTo (Steps C.Calls raise_tables (Interrupts C.Calls)) s way t)
         → IsSound firing_at s.system → s.system.last < id → All (λ call. EndsRemoval id call → ⊥) way
-        → Answers raise_tables id receipt t.system u → (receipt.sent ≡ expirations_along
+        → AnswersWith raise_tables id receipt t.system u → (receipt.sent ≡ expirations_along
         (Steps C.Calls raise_tables (Interrupts C.Calls)) id s way t run)
         × (receipt.lost ≡ losses_along C.Calls raise_tables (Interrupts C.Calls) id s way t run) }
 {}

@@ -31,7 +31,7 @@ use Rattle.cyc_system_laws.specs.SystemRemoval.TheVariants.{Done, Kept}
 use Rattle.cyc_system_laws.specs.Laws.{cyclic_in}
 use Rattle.cyc_system_laws.specs.Counts.{all_expired}
 use Rattle.cyc_system_workers.specs.Refusals.{no_cyclic, omnipresent}
-use Rattle.cyc_agreement.specs.Omni.{entering_each, component_first as cpu_first}
+use Rattle.cyc_agreement.specs.Omni.{entering_each, component_begins_at as cpu_first}
 use Rattle.cyc_agreement.specs.Online.{staying}
 use Rattle.cyc_system_laws.specs.SystemCalls.{SystemCall, Changes, Add, AddOmni, Bind, BeginRemove, PollRemove, AskTotals}
 use Rattle.cyc_system_laws.specs.SystemCalls.{Suspend, Resume, Reprogram, ReprogramOn, Juggle, Offline, Online, FireOne}
@@ -41,7 +41,16 @@ use Rattle.cyc_system_workers.specs.declared.advancing.Advanced.{Advanced}
 use Rattle.cyc_system_workers.specs.Advancing.{AllFire}
 use Rattle.cyc_system_workers.specs.Settling.{OnlyAsked}
 use Rattle.cyc_system_laws.proofs.Pieces.{made_of}
-use Rattle.cyc_expected.specs.Course.{component_first, components_from, due_of, next_of, Event, Begins, BeginsOnAll, IsSet}
+use Rattle.cyc_expected.specs.Course.{
+  component_begins_at,
+  components_from,
+  due_everywhere,
+  course_after,
+  Event,
+  Begins,
+  BeginsOnAll,
+  IsSet,
+}
 use Rattle.cyc_expected.specs.Course.{IsSetOn, Ends, Fires, Course, OnEach, Told, told_after, told_by}
 use Rattle.cyc_system_laws.specs.Sound.{IsSound}
 use Rattle.cyc_system_laws.specs.Keeping.{over_stays, EndsRemoval, TouchesStays, TouchesRecord}
@@ -87,7 +96,7 @@ each_online : (k : ℕ → ℕ → ℕ) (level : Level) (when : When) (skew now 
 each_online k level when skew now from [] = refl
 each_online k level when skew now from (true ∷ ups) =
     let e = given_everywhere level when skew in
-    let a = sum_by-cons (λ m. option_map_or (λ x. k x when.interval) m 0) (Some (component_first from e now))
+    let a = sum_by-cons (λ m. option_map_or (λ x. k x when.interval) m 0) (Some (component_begins_at from e now))
     (components_from (from + 1) e now ups) in
     let b = sum_by-cons (λ n. k (cpu_first n when skew now) when.interval) from (numbers_from (from + 1) ups) in
     let c = each_online k level when skew now (from + 1) ups in omega (arith, a, b, c)
@@ -331,10 +340,10 @@ module _ {C R : Type 0} (handler : Calls C) (firing : Raise R) (id : ℕ) where
       subst (λ (x : SystemSide R C). IsToldEach (told_after (Fires now) told) x.system) (sym same) (record {
         everywhere = h.everywhere;
         moments = map (λ m. option_map (λ x. next x h.everywhere.interval now) m) h.moments;
-        course = ap (next_of now) h.course;
+        course = ap (course_after now) h.course;
         so = subst (λ (e : ℕ). IsOnEach firing id h.everywhere.interval
             (map (λ m. option_map (λ x. next x h.everywhere.interval now) m) h.moments) e after.side.system)
-            (ap (λ (c : Course). told.expired + due_of now c) (sym h.course))
+            (ap (λ (c : Course). told.expired + due_everywhere now c) (sym h.course))
             (fires_each now h.everywhere.interval h.moments told.expired s after a
             (subst (λ (x : SystemSide R C). IsSound firing.view x.system) same b) ready fires accepted h.so);
       })

@@ -14,7 +14,7 @@ use Rattle.cyc_timers.specs.declared.fire.Fired.{Fired}
 use Rattle.cyc_timers.specs.declared.fire.FireRefused.{FireRefused}
 use Rattle.cyc_cpu.specs.Cpu.{CpuView, Running, running}
 use Rattle.cyc_cpu.specs.Calls.{no_interrupts}
-use Rattle.cyc_system_workers.specs.WorkersSettling.{Asks}
+use Rattle.cyc_system_workers.specs.WorkersSettling.{AsksSettled}
 use Rattle.cyc_system_laws.proofs.Lists.{among}
 use Rattle.cyc_system_workers.proofs.Presence.{has_low}
 use Rattle.cyc_system_laws.proofs.Recording.{found}
@@ -146,7 +146,7 @@ module _ {C R : Type 0} (handler : Calls C) (firing : Raise R) (id : ℕ) where
     pub cyclics : y.cyclics ≡ before.cyclics
     pub removal : y.removal ≡ before.removal
 
-  asked_removal : (answers : List Bool) (x y : CpuView R) → FoldsTo (Asks firing) x answers y → y.removal ≡ x.removal
+  asked_removal : (answers : List Bool) (x y : CpuView R) → FoldsTo (AsksSettled firing) x answers y → y.removal ≡ x.removal
   asked_removal [] x y e = ap (λ (z : CpuView R). z.removal) (sym e)
   asked_removal (true ∷ answers) x y (z, (first, lawful), rest) = asked_removal answers z y rest ∙ first.0.kept.removal
   asked_removal (false ∷ answers) x y (z, (first, lawful), rest) = asked_removal answers z y rest ∙ first.0.kept.removal

@@ -16,7 +16,7 @@ use Rattle.cyc_types.specs.Reasons.{when as if_so, bad_now}
 use Rattle.cyc_model.specs.State.{Everywhere}
 use Rattle.cyc_timers.specs.Rows.{Cyclic}
 use Rattle.cyc_cpu.specs.Cpu.{CpuView, IsCyclic, with_moment}
-use Rattle.cyc_cpu.specs.Calls.{Changes as CpuChanges, Reprogram as CpuReprogram}
+use Rattle.cyc_cpu.specs.Calls.{CpuChanges as CpuChanges, Reprogram as CpuReprogram}
 use Rattle.cyc_places.specs.declared.record.Placement.{Placement}
 use Rattle.cyc_places.specs.declared.record.Placement.TheVariants as stands
 use Rattle.cyc_places.specs.declared.record.Record.{Record}
@@ -34,13 +34,13 @@ use Rattle.cyc_agreement.proofs.Regained.{all_back}
 use Rattle.cyc_system_laws.specs.System.{SystemView, has, removal_on, is_online, is_leaving_here, is_omnipresent}
 use Rattle.cyc_system_workers.specs.Refusals.{omnipresent}
 use Rattle.cyc_system_laws.specs.Laws.{cyclic_in, cyclic_on}
-use Rattle.cyc_agreement.specs.Omni.{component_first as cpu_first}
+use Rattle.cyc_agreement.specs.Omni.{component_begins_at as cpu_first}
 use Rattle.cyc_agreement.specs.Online.{online_cpu}
 use Rattle.cyc_system_laws.specs.SystemCalls.{SystemCall, Changes, Add, AddOmni, Bind, BeginRemove, PollRemove, AskTotals}
 use Rattle.cyc_system_laws.specs.SystemCalls.{Suspend, Resume, Reprogram, ReprogramOn, Juggle, Offline, Online, FireOne}
 use Rattle.cyc_system_laws.specs.SystemCalls.{SoftInterrupt}
 use Rattle.cyc_system_laws.proofs.Pieces.{made_of}
-use Rattle.cyc_expected.specs.Course.{component_first, components_from}
+use Rattle.cyc_expected.specs.Course.{component_begins_at, components_from}
 use Rattle.cyc_system_laws.specs.Sound.{IsSound}
 use Rattle.cyc_system_laws.specs.Keeping.{TouchesRecord}
 use Rattle.cyc_system_laws.proofs.Counts.{within}
@@ -74,13 +74,13 @@ off_now (up ∷ ups) zero = refl
 off_now (up ∷ ups) (suc n) = off_now ups n
 
 components_at : (k : ℕ) (e : Everywhere) (now : ℕ) (ups : List Bool) (n : ℕ) → moment_on n (components_from k e now ups)
-    ≡ cond (option_map_or (λ (up : Bool). up) (slice_get ups n) false) (Some (component_first (k + n) e now)) None
+    ≡ cond (option_map_or (λ (up : Bool). up) (slice_get ups n) false) (Some (component_begins_at (k + n) e now)) None
 components_at k e now [] n = refl
-components_at k e now (true ∷ ups) zero = let z : k ≡ k + 0 = omega arith in ap (λ (j : ℕ). Some (component_first j e now)) z
+components_at k e now (true ∷ ups) zero = let z : k ≡ k + 0 = omega arith in ap (λ (j : ℕ). Some (component_begins_at j e now)) z
 components_at k e now (false ∷ ups) zero = refl
 components_at k e now (up ∷ ups) (suc n) = components_at (k + 1) e now ups n
     ∙ (let z : k + 1 + n ≡ k + suc n = omega arith in
-    ap (λ (j : ℕ). cond (option_map_or (λ (up : Bool). up) (slice_get ups n) false) (Some (component_first j e now)) None) z)
+    ap (λ (j : ℕ). cond (option_map_or (λ (up : Bool). up) (slice_get ups n) false) (Some (component_begins_at j e now)) None) z)
 
 components_long : (k : ℕ) (e : Everywhere) (now : ℕ) (ups : List Bool) → length (components_from k e now ups) ≡ length ups
 components_long k e now [] = refl
@@ -343,9 +343,9 @@ module _ {R : Type 0} (firing : Raise R) (id : ℕ) where
           → moment_on n (components_from 0 (given_everywhere level when skew) now s.cpus.online)
           ≡ cond up (Some (cpu_first n when skew now)) None
       told n up e = components_at 0 (given_everywhere level when skew) now s.cpus.online n
-          ∙ ((λ i. cond (e i) (Some (component_first (0 + n) (given_everywhere level when skew) now)) None)
+          ∙ ((λ i. cond (e i) (Some (component_begins_at (0 + n) (given_everywhere level when skew) now)) None)
           ∙ (let z : 0 + n ≡ n = omega arith in
-          ap (λ (j : ℕ). cond up (Some (component_first j (given_everywhere level when skew) now)) None) z))
+          ap (λ (j : ℕ). cond up (Some (component_begins_at j (given_everywhere level when skew) now)) None) z))
 
       low : (n : ℕ) → is_online n s.cpus ≡ true → n < length s.cpus.online
       low n e = by (slice_get s.cpus.online n) refl e

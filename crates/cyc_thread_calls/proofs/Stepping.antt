@@ -26,10 +26,10 @@ use Rattle.cyc_words.specs.declared.named.Named.{Named}
 use Rattle.cyc_words.specs.declared.named.Named.TheVariants.{Cyclic}
 use Rattle.cyc_threads.specs.declared.progress.Progress.{Progress}
 use Rattle.cyc_threads.specs.StepCalls.{CallsFor}
-use Rattle.cyc_words.specs.Names.{named_at, is_leaving, NoneLeaves}
-use Rattle.cyc_threads.specs.Words.{Does}
+use Rattle.cyc_words.specs.Names.{named_at, has_open_removal, NoneLeaves}
+use Rattle.cyc_threads.specs.Words.{DoesStep}
 use Rattle.cyc_thread_calls.specs.Leading.{call_of, calls_in}
-use Rattle.cyc_thread_calls.specs.Meeting.{accepted}
+use Rattle.cyc_thread_calls.specs.Meeting.{was_accepted}
 use Rattle.cyc_thread_calls.specs.Way.{Standing, OnOne, OnAll, is_series, is_moment, is_taken, after_step}
 use Rattle.cyc_thread_calls.specs.Way.{with_standing}
 use Rattle.cyc_thread_calls.specs.Memory.{NoMemoryRefused}
@@ -95,18 +95,19 @@ module _ {C R : Type 0} (handler : Calls C)
   none_noted : (all : List Named) (name id : ℕ) → name < length all → NoneLeaves all
       → NoneLeaves (slice_set all name (Cyclic id))
   none_noted all name id low none other = dite (ℕ_discrete other name)
-      (λ e. ap is_leaving (ap (λ (k : ℕ). named_at (slice_set all name (Cyclic id)) k) e ∙ set_here all name (Cyclic id) low))
-      (λ ne. ap is_leaving (set_beside all name other (Cyclic id) ne) ∙ none other)
+      (λ e. ap has_open_removal (ap (λ (k : ℕ). named_at (slice_set all name (Cyclic id)) k) e
+      ∙ set_here all name (Cyclic id) low))
+      (λ ne. ap has_open_removal (set_beside all name other (Cyclic id) ne) ∙ none other)
 
   -- A step was accepted as the closed form says, and what is true stays.
   pub record Next (given : ℕ) (has : ℕ → Standing) (x : Step) (s t : Progress R C)
-      (d : Does handler firing x s t) : Type 0 where
-    pub agree : OnlyMoves x ⊎ (accepted handler firing x s t d ≡ is_taken cpus suspended has x)
+      (d : DoesStep handler firing x s t) : Type 0 where
+    pub agree : OnlyMoves x ⊎ (was_accepted handler firing x s t d ≡ is_taken cpus suspended has x)
     pub fits : Fits firing cpus names (names_after given x) (cond (is_taken cpus suspended has x) (after_step x has) has) t
 
   -- and nothing is open after it, as before it
   pub record NextCalm (given : ℕ) (has : ℕ → Standing) (x : Step) (s t : Progress R C)
-      (d : Does handler firing x s t) : Type 0 where
+      (d : DoesStep handler firing x s t) : Type 0 where
     pub next : Next given has x s t d
     pub calm : IsCalmNow firing s → IsCalmNow firing t
 
@@ -164,7 +165,7 @@ module _ {C R : Type 0} (handler : Calls C)
       (waited_room firing cpus names given has s h w (omega (arith, low, few))) (λ q. mem (ap Err q)) did.did)
 
   pub add_next : (given : ℕ) (has : ℕ → Standing) (a : AddStep) (s t : Progress R C)
-      (d : Does handler firing (steps.Add a) s t) → Fits firing cpus names given has s
+      (d : DoesStep handler firing (steps.Add a) s t) → Fits firing cpus names given has s
       → HasWaited firing s → given + 1 ≤ names → a.name < names
       → NoMemoryRefused (calls_in (call_of handler firing (steps.Add a) s t d))
       → NextCalm given has (steps.Add a) s t d
@@ -222,7 +223,7 @@ module _ {C R : Type 0} (handler : Calls C)
       (waited_room firing cpus names given has s h w (omega (arith, low, few))) (λ q. mem (ap Err q)) did.did)
 
   pub omni_next : (given : ℕ) (has : ℕ → Standing) (a : OmniStep) (s t : Progress R C)
-      (d : Does handler firing (steps.Omni a) s t) → Fits firing cpus names given has s
+      (d : DoesStep handler firing (steps.Omni a) s t) → Fits firing cpus names given has s
       → HasWaited firing s → given + 1 ≤ names → a.name < names
       → NoMemoryRefused (calls_in (call_of handler firing (steps.Omni a) s t d))
       → NextCalm given has (steps.Omni a) s t d

@@ -28,8 +28,8 @@ use Rattle.cyc_thread_calls.specs.Calls.{SystemCall, Changes, Add, AddOmni}
 use Rattle.cyc_thread_calls.specs.Named.TheVariants.{Cyclic}
 use Rattle.cyc_thread_calls.specs.Progress.{Progress}
 use Rattle.cyc_thread_calls.specs.StepCalls.{CallsFor}
-use Rattle.cyc_thread_calls.specs.Names.{named_at, id_of, is_leaving}
-use Rattle.cyc_thread_calls.specs.Words.{Does}
+use Rattle.cyc_thread_calls.specs.Names.{named_at, cyclic_id, has_open_removal}
+use Rattle.cyc_thread_calls.specs.Words.{DoesStep}
 use Rattle.cyc_thread_calls.specs.SystemRingsLeading.{Make}
 use Rattle.cyc_thread_calls.specs.Leading.{call_of}
 use Rattle.cyc_thread_calls.specs.Way.{is_series}
@@ -92,17 +92,22 @@ module _ {C R : Type 0} (handler : Calls C) (firing : Raise R) (names given : �
         at_other = λ a ne. ap (λ ns. named_at ns a) set ∙ set_beside s.names name a (Cyclic id) ne;
         last = (let a = h.few in omega (arith, a, next, last));
         is = is;
-        there = λ own e. subst (λ (k : ℕ). is_there (stands k t.side.system) ≡ true) (same_some (ap id_of e))
+        there = λ own e. subst (λ (k : ℕ). is_there (stands k t.side.system) ≡ true) (same_some (ap cyclic_id e))
             (ap is_there is ∙ there);
         new = λ own e. (let same : id ≡ own = same_some e in (
           omega (arith, last, same),
           λ other ne at. (let old = h.ids other own at in omega (arith, old, next, same)),
         ));
-        others = λ other own ne e. kept own (λ same. (let old = h.ids other own (ap id_of e) in omega (arith, old, next, same)));
+        others = λ other own ne e. kept own (λ same. (let old = h.ids other own (ap cyclic_id e) in omega (
+          arith,
+          old,
+          next,
+          same,
+        )));
         known = λ own e. dite (ℕ_discrete own id) (λ q. inl (ap Some (sym q)))
             (λ ne. inr (
               sym (ap is_there (kept own ne)) ∙ e,
-              λ at. none_some (sym (ap id_of (h.fresh name (omega (arith, here)))) ∙ at),
+              λ at. none_some (sym (ap cyclic_id (h.fresh name (omega (arith, here)))) ∙ at),
             ));
         fresh = λ a high same. omega (arith, high, same, here);
       })
@@ -113,10 +118,10 @@ module _ {C R : Type 0} (handler : Calls C) (firing : Raise R) (names given : �
   got_calm : (name id : ℕ) → name ≡ given → t.names ≡ slice_set s.names name (Cyclic id)
       → AllStill t.side.system.cpus → IsCalmNow firing t
   got_calm name id here set still = record {
-    none = λ other. ap (λ ns. is_leaving (named_at ns other)) set ∙ dite (ℕ_discrete other name)
-        (λ e. ap (λ (k : ℕ). is_leaving (named_at (slice_set s.names name (Cyclic id)) k)) e
-        ∙ ap is_leaving (set_here s.names name (Cyclic id) (let long = h.long in omega (arith, here, long, space))))
-        (λ ne. ap is_leaving (set_beside s.names name other (Cyclic id) ne) ∙ w.none other);
+    none = λ other. ap (λ ns. has_open_removal (named_at ns other)) set ∙ dite (ℕ_discrete other name)
+        (λ e. ap (λ (k : ℕ). has_open_removal (named_at (slice_set s.names name (Cyclic id)) k)) e
+        ∙ ap has_open_removal (set_here s.names name (Cyclic id) (let long = h.long in omega (arith, here, long, space))))
+        (λ ne. ap has_open_removal (set_beside s.names name other (Cyclic id) ne) ∙ w.none other);
     still = still;
   }
 
@@ -168,7 +173,7 @@ module _ {C R : Type 0} (handler : Calls C) (firing : Raise R) (names given : �
       by (inr (d, chosen, full)) = inl (or_right (not (is_series a.start a.interval))
           (are_too_many (how_many is_single told + 1) (many_online told) told) (too_many d chosen full))
 
-  pub add_next : (a : AddStep) (d : Does handler firing (steps.Add a) s t) → a.name ≡ given
+  pub add_next : (a : AddStep) (d : DoesStep handler firing (steps.Add a) s t) → a.name ≡ given
       → Outcome firing names (given + 1) told (steps.Add a) t (call_of handler firing (steps.Add a) s t d) ⊥
   add_next a (inl (when, starts, lasts, long, (answer, did))) here = added a when answer here did
   add_next a (inr (numbers, same)) here = refused firing names (given + 1) told (steps.Add a) t None ⊥ refl
@@ -229,7 +234,7 @@ module _ {C R : Type 0} (handler : Calls C) (firing : Raise R) (names given : �
       by (inr (before, n, after, full)) = inl (or_right (not (is_series a.start a.interval)) (one_is_full told)
           (one_full before n after full))
 
-  pub omni_next : (a : OmniStep) (d : Does handler firing (steps.Omni a) s t) → a.name ≡ given
+  pub omni_next : (a : OmniStep) (d : DoesStep handler firing (steps.Omni a) s t) → a.name ≡ given
       → Outcome firing names (given + 1) told (steps.Omni a) t (call_of handler firing (steps.Omni a) s t d) ⊥
   omni_next a (inl (when, starts, lasts, long, (answer, did))) here = added_everywhere a when answer here did
   omni_next a (inr (numbers, same)) here = refused firing names (given + 1) told (steps.Omni a) t None ⊥ refl

@@ -35,7 +35,7 @@ use Rattle.cyc_thread_calls.specs.Settled.{AllSettled}
 use Rattle.cyc_thread_calls.specs.Named.{Named}
 use Rattle.cyc_thread_calls.specs.Named.TheVariants.{Cyclic}
 use Rattle.cyc_thread_calls.specs.Progress.{Progress}
-use Rattle.cyc_thread_calls.specs.Names.{named_at, id_of, NoneLeaves}
+use Rattle.cyc_thread_calls.specs.Names.{named_at, cyclic_id, NoneLeaves}
 use Rattle.cyc_thread_reasons.specs.Known.{Absent, Known}
 use Rattle.cyc_thread_reasons.specs.Reasons.{is_single, is_bound_to, how_many, many_online, are_too_many}
 use Rattle.cyc_thread_reasons.specs.Explained.{IsTurnPutOff, IsLeft}
@@ -205,7 +205,7 @@ module _ {C R : Type 0} (firing : Raise R) (names given : ℕ) (told : Known) (s
   bound_why : (b : Bool) (a own k : ℕ) (r : Record) → named_at p.names a ≡ Cyclic own → IsRecord t.records k r → r.id ≡ own
       → r.placement ≡ On n b → is_up n t.cpus ≡ true → WhyLeft
   bound_why true a own k r is at named place on = inl (inl (any_at (is_bound_to n) told.names a Absent
-      (let low = name_low p.names a own (ap id_of is) in let x = h.long in let y = h.told_long in omega (arith, low, x, y))
+      (let low = name_low p.names a own (ap cyclic_id is) in let x = h.long in let y = h.told_long in omega (arith, low, x, y))
       (ap (is_bound_to n) (h.each a ∙ ap (λ (z : Named). given_of z t) is ∙ stands_at t.records k r own h.rising at named
       ∙ ap whereabouts_of place) ∙ true_eq n n refl)))
   bound_why false a own k r is at named place on =

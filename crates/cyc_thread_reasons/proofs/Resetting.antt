@@ -16,14 +16,14 @@ use Rattle.cyc_script.specs.declared.step.Step.TheVariants as steps
 use Rattle.cyc_thread_calls.proofs.FirstReason.{not_when, passes, not_le}
 use Rattle.cyc_thread_calls.proofs.Spots.{none_some}
 use Rattle.cyc_thread_calls.specs.System.{SystemView, is_unknown, is_omnipresent, removal_on, has as has_on}
-use Rattle.cyc_thread_calls.specs.System.{is_online as is_up, is_leaving as is_leaving_id}
+use Rattle.cyc_thread_calls.specs.System.{is_online as is_up, has_open_removal as is_leaving_id}
 use Rattle.cyc_thread_calls.specs.Refusals.{no_cyclic, no_cpu, offline_cpu, no_component}
 use Rattle.cyc_thread_calls.specs.Calls.{Changes, Reprogram, ReprogramOn, reprograms}
 use Rattle.cyc_thread_calls.specs.Named.{Named}
 use Rattle.cyc_thread_calls.specs.Named.TheVariants.{Nothing, Cyclic, Leaving, Removed}
 use Rattle.cyc_thread_calls.specs.Progress.{Progress}
 use Rattle.cyc_thread_calls.specs.StepCalls.{CallsFor}
-use Rattle.cyc_thread_calls.specs.Names.{named_at, id_of, is_leaving}
+use Rattle.cyc_thread_calls.specs.Names.{named_at, cyclic_id, has_open_removal}
 use Rattle.cyc_words.specs.Words.{WithId}
 use Rattle.cyc_thread_calls.specs.SystemRingsLeading.{Make}
 use Rattle.cyc_thread_calls.specs.Leading.{call_with}
@@ -155,11 +155,12 @@ module _ {C R : Type 0} (firing : Raise R) (names given : ℕ) (told : Known) (s
   nothing_reset r named at e = or_right (not (is_moment r.moment)) (not (can_be_reprogrammed r.cpu (name_has r.name told) told))
       (absent_not r.cpu (name_has r.name told) told (h.each r.name ∙ ap (λ (n : Named). given_of n s.side.system) at ∙ e))
 
-  pub reset_of : (r : ReprogramStep) (moment : ℕ) (named : Named) → named_at s.names r.name ≡ named → is_leaving named ≡ false
-      → (d : WithId (id_of named)
+  pub reset_of : (r : ReprogramStep) (moment : ℕ) (named : Named) → named_at s.names r.name ≡ named
+      → has_open_removal named ≡ false
+      → (d : WithId (cyclic_id named)
       (λ id. (answer : Result (Unit {0}) Refusal) × CallsFor firing r.name (reprograms r.cpu id moment answer) s t) (t ≡ s))
       → Out firing names given told s t h w (steps.Reprogram r)
-      (call_with firing (Unit {0}) (λ id answer. reprograms r.cpu id moment answer) r.name s t (id_of named) d)
+      (call_with firing (Unit {0}) (λ id answer. reprograms r.cpu id moment answer) r.name s t (cyclic_id named) d)
   reset_of r moment Nothing at stays d =
       idle firing names given told s t h w (steps.Reprogram r) d (nothing_reset r Nothing at refl)
   reset_of r moment (Removed receipt) at stays d =

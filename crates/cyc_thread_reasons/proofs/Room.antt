@@ -26,7 +26,7 @@ use Rattle.cyc_thread_calls.specs.System.{SystemView}
 use Rattle.cyc_thread_calls.specs.Named.{Named}
 use Rattle.cyc_thread_calls.specs.Named.TheVariants.{Nothing, Cyclic, Leaving, Removed}
 use Rattle.cyc_thread_calls.specs.Progress.{Progress}
-use Rattle.cyc_thread_calls.specs.Names.{named_at, id_of, NoneLeaves}
+use Rattle.cyc_thread_calls.specs.Names.{named_at, cyclic_id, NoneLeaves}
 use Rattle.cyc_thread_calls.specs.Sound.{IsSound}
 use Rattle.cyc_thread_reasons.specs.Known.{Absent, Known}
 use Rattle.cyc_thread_reasons.specs.Reasons.{is_single, has_components, may_be_on, how_many, may_be_full, are_too_many}
@@ -150,7 +150,7 @@ module _ {C R : Type 0} (firing : Raise R) (names given : ℕ) (told : Known) (p
       → Stands n r.placement → test (get_or xs a d) ≡ true)
       → length x.cyclics ≤ length (filter test xs)
   counted_on test d xs long n x at passes =
-      let few = pigeons_of test d xs (ids_of x) (λ a. id_of (named_at p.names a)) apart stand in
+      let few = pigeons_of test d xs (ids_of x) (λ a. cyclic_id (named_at p.names a)) apart stand in
       let e = length-map x.cyclics (λ c. c.timer.id) in omega (arith, few, e)
     where
       apart : HasNoDoubles (ids_of x)
@@ -166,10 +166,10 @@ module _ {C R : Type 0} (firing : Raise R) (names given : ℕ) (told : Known) (p
           ∙ any_at (λ own. own == get_or (ids_of x) i 0) (ids_of x) i 0 low (true_eq _ _ refl)
 
       stand : (i : ℕ) → i < length (ids_of x) → (a : ℕ) × (a < length xs) × (test (get_or xs a d) ≡ true)
-          × (id_of (named_at p.names a) ≡ Some (get_or (ids_of x) i 0))
+          × (cyclic_id (named_at p.names a) ≡ Some (get_or (ids_of x) i 0))
       stand i low = let id = get_or (ids_of x) i 0 in let (a, is, k, r, at_record, named, there) = named_on n id (here i low) in
-          let under = name_low p.names a id (ap id_of is) in let l = h.long in
-          (a, omega (arith, under, l, long), passes a id k r is at_record named there, ap id_of is)
+          let under = name_low p.names a id (ap cyclic_id is) in let l = h.long in
+          (a, omega (arith, under, l, long), passes a id k r is at_record named there, ap cyclic_id is)
 
   -- the CPU may be full
   pub full_told : (n : ℕ) (x : CpuView R) → IsCpu n x s.cpus → most_cyclics ≤ length x.cyclics → may_be_full n told ≡ true
@@ -192,7 +192,7 @@ module _ {C R : Type 0} (firing : Raise R) (names given : ℕ) (told : Known) (p
   pub place_at : (a id k : ℕ) (r : Record) → named_at p.names a ≡ Cyclic id → IsRecord s.records k r → r.id ≡ id
       → get_or places a None ≡ Some r.placement
   place_at a id k r is at_record named =
-      get_or-map (λ named. place_of named s) p.names a Nothing None (name_low p.names a id (ap id_of is))
+      get_or-map (λ named. place_of named s) p.names a Nothing None (name_low p.names a id (ap cyclic_id is))
       ∙ ap (λ (z : Named). place_of z s) is
       ∙ ap (λ o. option_map (λ (q : Record). q.placement) o) (record_here id k r s.records h.rising at_record named)
 
@@ -248,7 +248,7 @@ module _ {C R : Type 0} (firing : Raise R) (names given : ℕ) (told : Known) (p
       (less_but_one (length ns * most_cyclics) (sum_by (λ n. length (filter (is_on n) places)) ns)
       (length (filter is_one places)) (length ns * length (filter is_all places)) (how_many is_single told) (sum_low ns full)
       (sum_on_but_one is_on is_one is_all one_place no_place ns apart None places a
-      (let under = name_low p.names a id (ap id_of is) in let b = h.long in let c = places_long in omega (arith, under, b, c))
+      (let under = name_low p.names a id (ap cyclic_id is) in let b = h.long in let c = places_long in omega (arith, under, b, c))
       (ap is_one here) (λ i low. ap (is_on (get_or ns i 0)) here ∙ false_ne n (get_or ns i 0) (λ e. beside i low (sym e))))
       singles))
     where

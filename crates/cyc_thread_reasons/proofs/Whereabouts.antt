@@ -24,7 +24,7 @@ use Rattle.cyc_places.specs.Places.{is_everywhere as is_placed_everywhere}
 use Rattle.cyc_agreement.specs.Cpus.{CpusView}
 use Rattle.cyc_agreement.specs.Binding.{Records, HasPlacement, Binds}
 use Rattle.cyc_agreement.specs.RemovalLaws.{IsUntouched}
-use Rattle.cyc_agreement.specs.GoingOffline.{Retires, Leaves}
+use Rattle.cyc_agreement.specs.GoingOffline.{Retires, EndsOffline}
 use Rattle.cyc_agreement.specs.Online.{GoesOnline, is_staying, after_return}
 use Rattle.cyc_agreement.specs.System.{ids_on}
 use Rattle.cyc_agreement.proofs.CpuSpots.{get_set_same}
@@ -255,7 +255,7 @@ module _ {R : Type 0} (firing : Raise R) where
       stands_then s u t (ended_stand s u k n r _ here records) (retires_stand n ids u t rest)
 
   pub leaves_stand : (n : ℕ) (report : JuggleReport) (answer : Result (Unit {0}) Refusal) (s t : SystemView R)
-      → Leaves firing n report answer s t → SameStands s t
+      → EndsOffline firing n report answer s t → SameStands s t
   leaves_stand n report answer s t (inl (left, is, same)) id = stands_as s t same id
   leaves_stand n report answer s t (inr (inl (nothing, is, (before, own, after, number, some, only)))) id =
       stands_same s t only.1 id

@@ -18,8 +18,8 @@ use Rattle.cyc_system_workers.specs.Settled.{AllSettled}
 use Rattle.cyc_system_workers.specs.declared.side.SystemSide.{SystemSide}
 use Rattle.cyc_system_workers.specs.Settling.{OnlyAsked}
 use Rattle.cyc_system_laws.specs.Sound.{IsSound}
-use Rattle.cyc_threads.specs.StepCalls.{CallsFor, Poll, Polls, Settles, Waits}
-use Rattle.cyc_threads.specs.Counting.{Told, Tells, TellsOf, Reports}
+use Rattle.cyc_threads.specs.StepCalls.{CallsFor, Poll, Polls, SettlesAll, Waits}
+use Rattle.cyc_threads.specs.Counting.{NameLine, Tells, TellsOf, Reports}
 
 -- there is room for one element more
 pub room_left : (long place all room : ℕ) → long ≡ place → place < all → all ≤ room → long < room
@@ -52,7 +52,7 @@ module _ {C R : Type 0} (firing : Raise R) where
       → AllSettled firing.view side.system.cpus.cpus → NoneLeaves u.names → IsSound firing.view side.system
       → Waits firing s (record { side = side; clock = u.clock; names = u.names })
   waited s u side (polls, run) asked settled none sound =
-      let q : Settles firing u (record { side = side; clock = u.clock; names = u.names }) = record {
+      let q : SettlesAll firing u (record { side = side; clock = u.clock; names = u.names }) = record {
         asked = asked;
         settled = settled;
         none = none;
@@ -63,7 +63,7 @@ module _ {C R : Type 0} (firing : Raise R) where
 
   -- the lines of the first names
   pub record Begun (k : ℕ) (lines : List Line) (s t : Progress R C) : Type 0 where
-    pub all : List Told
+    pub all : List NameLine
     pub tells : FoldsTo (Tells firing) s all t
     pub names : map (λ told. told.named) all ≡ take k s.names
     pub lines_are : map (λ told. told.line) all ≡ lines
@@ -74,12 +74,12 @@ module _ {C R : Type 0} (firing : Raise R) where
 
   pub one_told : (k : ℕ) (lines : List Line) (line : Line) (s t u : Progress R C) → k < length s.names → Begun k lines s t
       → TellsOf firing (named_at t.names k) line t u → u.names ≡ t.names → Begun (k + 1) (lines ++ line ∷ []) s u
-  one_told k lines line s t u low b d same = let told : Told = record { named = named_at t.names k; line = line } in record {
+  one_told k lines line s t u low b d same = let told : NameLine = record { named = named_at t.names k; line = line } in record {
     all = b.all ++ told ∷ [];
     tells = folds_more (Tells firing) s b.all t told u b.tells d;
-    names = map-append (λ (w : Told). w.named) b.all (told ∷ []) ∙ ap (λ ns. ns ++ named_at t.names k ∷ []) b.names
+    names = map-append (λ (w : NameLine). w.named) b.all (told ∷ []) ∙ ap (λ ns. ns ++ named_at t.names k ∷ []) b.names
         ∙ ap (λ ns. take k s.names ++ named_at ns k ∷ []) b.same ∙ sym (take_more s.names k Nothing low);
-    lines_are = map-append (λ (w : Told). w.line) b.all (told ∷ []) ∙ ap (λ ls. ls ++ line ∷ []) b.lines_are;
+    lines_are = map-append (λ (w : NameLine). w.line) b.all (told ∷ []) ∙ ap (λ ls. ls ++ line ∷ []) b.lines_are;
     same = same ∙ b.same;
   }
 

@@ -13,14 +13,14 @@ use Rattle.cyc_words.specs.Doing.{WordState, word_state, DoesCall, DoesWord}
 use Rattle.cyc_words.proofs.Within.{of_call, then_call}
 use Rattle.cyc_threads.specs.declared.progress.Progress.{Progress}
 use Rattle.cyc_threads.specs.StepCalls.{CallsFor, Advances}
-use Rattle.cyc_threads.specs.Words.{Does}
+use Rattle.cyc_threads.specs.Words.{DoesStep}
 
 module _ {C R : Type 0} (handler : Calls C) (firing : Raise R) where
   abbrev Worded : Step → Progress R C → Progress R C → Type 0
   Worded x s t = WithCall s.clock s.names x (λ name call answer. CallsFor firing name call s t) (λ why. t ≡ s)
 
   -- a word that makes a call is what its step does
-  is_done : (x : Step) (s t : Progress R C) → MakesCall x → Worded x s t → Does handler firing x s t
+  is_done : (x : Step) (s t : Progress R C) → MakesCall x → Worded x s t → DoesStep handler firing x s t
   is_done (steps.Add a) s t m w = w
   is_done (steps.Omni a) s t m w = w
   is_done (steps.Bind b) s t m w = w
@@ -38,14 +38,14 @@ module _ {C R : Type 0} (handler : Calls C) (firing : Raise R) where
   -- what follows of what a step does: of the call of a word, of an `advance`, and of nothing
   pub does_by : (L : Type 0) (x : Step) (s t : Progress R C)
       → ((name : ℕ) (call : SystemCall) → CallsFor firing name call s t → L)
-      → ((now : ℕ) → Advances handler firing now s t → L) → (t ≡ s → L) → Does handler firing x s t → L
+      → ((now : ℕ) → Advances handler firing now s t → L) → (t ≡ s → L) → DoesStep handler firing x s t → L
   does_by L x s t call advances same = by x
     where
       worded : (x : Step) → Worded x s t → L
       worded x w = of_call (λ name made answer. CallsFor firing name made s t) (λ why. t ≡ s) s.clock s.names L
           (λ name made answer c. call name made c) (λ why e. same e) x w
 
-      by : (x : Step) → Does handler firing x s t → L
+      by : (x : Step) → DoesStep handler firing x s t → L
       by (steps.Add a) d = worded (steps.Add a) d
       by (steps.Omni a) d = worded (steps.Omni a) d
       by (steps.Bind b) d = worded (steps.Bind b) d
@@ -76,7 +76,7 @@ module _ {C R : Type 0} (handler : Calls C) (firing : Raise R) where
   }
 
   pub word_done : (x : Step) (s : Progress R C) (result : Result WordAnswer Refusal) (u : WordState R) → MakesCall x
-      → DoesWord firing s.clock x result (word_state s.side.system s.names) u → Does handler firing x s (with_state s u)
+      → DoesWord firing s.clock x result (word_state s.side.system s.names) u → DoesStep handler firing x s (with_state s u)
   word_done x s result u m d = is_done x s (with_state s u) m (then_call _ _ s.clock s.names
       (λ name call answer. CallsFor firing name call s (with_state s u)) (λ why. with_state s u ≡ s)
       (λ name call answer p. called_for s name call u p.1)

@@ -10,11 +10,11 @@ use Rattle.cyc_threads.specs.StepCalls.{CallsFor, Waits, Advances}
 
 -- What a step does, at the clock. A `softint` does nothing: other threads drain the levels. Every word but it and `advance` makes
 -- at most one call of the system.
-abbrev pub Does : {C R : Type 0} → Calls C
+abbrev pub DoesStep : {C R : Type 0} → Calls C
     → Raise R → Step → Progress R C → Progress R C → Type 0
-Does handler firing (steps.Advance now) s t = Advances handler firing now s t
-Does handler firing (steps.Softint i) s t = t ≡ s
-Does handler firing x s t =
+DoesStep handler firing (steps.Advance now) s t = Advances handler firing now s t
+DoesStep handler firing (steps.Softint i) s t = t ≡ s
+DoesStep handler firing x s t =
     WithCall s.clock s.names x (λ name call answer. CallsFor firing name call s t) (λ why. t ≡ s)
 
 -- every word but `advance` and `remove` waits first until no removal is open and all CPUs have settled
@@ -33,4 +33,4 @@ Begins firing true s t = Waits firing s t
 abbrev pub TakesStep : {C R : Type 0} → Calls C
     → Raise R → Progress R C → Step → Progress R C → Type 0
 TakesStep {C} {R} handler firing s x t =
-    (u : Progress R C) × Begins firing (waits_first x) s u × Does handler firing x u t
+    (u : Progress R C) × Begins firing (waits_first x) s u × DoesStep handler firing x u t

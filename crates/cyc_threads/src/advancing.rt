@@ -3,7 +3,7 @@
 ghost use Rattle.std.specs.Prelude.{◌≡◌, ◌<◌, ◌≤◌, ℕ, length, None, IfOk, IfErr, IfNone, IfSome};
 ghost use Rattle.cyc_types.specs.Limits.{most_cpus};
 ghost use Rattle.cyc_types.specs.Series.{never};
-ghost use Rattle.cyc_threads.specs.StepCalls.{Advances, IsReady, IsFirstRefused, refusal_at, refusal_of};
+ghost use Rattle.cyc_threads.specs.StepCalls.{Advances, HasLeads, IsFirstRefused, refusal_at, refusal_of_fire};
 ghost use Rattle.cyc_threads.specs.Steps.{AdvanceHalts};
 
 use crate::halt::Halt;
@@ -17,7 +17,7 @@ use std::thread::Threads;
 
 /// Why the fire of a CPU was refused.
 fn refusal_of(answer: &Option<Result<Fired, FireRefused>>) -> Option<Refusal>
-    ensures { result ≡ refusal_of answer.now }
+    ensures { result ≡ refusal_of_fire answer.now }
 {
     match answer {
         Some(Err(refused)) => Some(refused.why),
@@ -70,7 +70,7 @@ pub(crate) fn advance_clock<W: Threads + Wait, R: Raise + Send + Drop, C: Calls 
     nanoseconds: u64,
 ) -> Result<Progress<R, C>, Halt>
     requires before { nanoseconds < never }
-    requires ready { IsReady progress }
+    requires ready { HasLeads progress }
     ensures fired { IfOk result (λ after. Advances C.Calls R.Raise nanoseconds progress after) }
     ensures halted { IfErr result (λ h. AdvanceHalts C.Calls R.Raise nanoseconds progress h) }
 {

@@ -6,7 +6,7 @@ ghost use Rattle.cyc_types.specs.declared.refusal.Refusal.TheVariants.{Memory};
 ghost use Rattle.cyc_cpu.specs.Cpu.{IsFresh};
 ghost use Rattle.cyc_agreement.specs.Cpus.{new_cpus};
 ghost use Rattle.cyc_system_laws.specs.Sound.{IsSound};
-ghost use Rattle.cyc_threads.specs.StepCalls.{IsReady};
+ghost use Rattle.cyc_threads.specs.StepCalls.{HasLeads};
 ghost use Rattle.cyc_words.specs.declared.named.Named.TheVariants.{Nothing};
 ghost use Rattle.cyc_threads.specs.Running.{most};
 
@@ -38,7 +38,7 @@ pub(crate) fn lead<R: Raise + Drop, C: Drop>(
     ensures leads { IfOk result (λ p. p.side.leads ≡ leads) }
     ensures clock { IfOk result (λ p. p.clock ≡ 0) }
     ensures names { IfOk result (λ p. p.names ≡ replicate names Nothing) }
-    ensures ready { IfOk result IsReady }
+    ensures ready { IfOk result HasLeads }
     ensures sound { IfOk result (λ p. IsSound R.view p.side.system) }
     ensures refused { IfErr result (λ e. e ≡ Memory) }
 {

@@ -4,8 +4,8 @@ ghost use Rattle.std.specs.Prelude.{◌≡◌, ◌<◌, ℕ, IfOk, IfErr};
 ghost use Rattle.cyc_types.specs.Series.{never};
 ghost use Rattle.cyc_script.specs.declared.step.Step.TheVariants as steps;
 ghost use Rattle.cyc_words.specs.Words.{MakesCall};
-ghost use Rattle.cyc_threads.specs.StepCalls.{IsReady};
-ghost use Rattle.cyc_threads.specs.Words.{Begins, Does, TakesStep, waits_first};
+ghost use Rattle.cyc_threads.specs.StepCalls.{HasLeads};
+ghost use Rattle.cyc_threads.specs.Words.{Begins, DoesStep, TakesStep, waits_first};
 ghost use Rattle.cyc_threads.specs.Steps.{IsTold, IsBefore, Runs, StepHalts, WhyHalted};
 
 use crate::advancing::advance_clock;
@@ -39,7 +39,7 @@ fn begin_step<W: Wait, R: Raise + Drop, C: Calls + Drop>(
     step: &Step,
     signals: &Signals<C>,
 ) -> Result<Progress<R, C>, Halt>
-    requires { IsReady progress }
+    requires { HasLeads progress }
     ensures begun { IfOk result (λ after. Begins R.Raise (waits_first step.now) progress after) }
     ensures halted { IfErr result (λ h. IsTold C.may_refuse h) }
 {
@@ -52,7 +52,7 @@ fn begin_step<W: Wait, R: Raise + Drop, C: Calls + Drop>(
 /// The word of a step that makes a call. After a `remove` it wakes the draining workers, which make the calls that are kept.
 fn do_word<R: Raise, C: Calls>(progress: &mut Progress<R, C>, word: &Step)
     requires { MakesCall word.now }
-    ensures { Does C.Calls R.Raise word.now progress.old progress.new }
+    ensures { DoesStep C.Calls R.Raise word.now progress.old progress.new }
 {
     let _answer = take_word(
         &mut progress.side.system,
@@ -72,9 +72,9 @@ fn do_step<W: Threads + Wait, R: Raise + Send + Drop, C: Calls + Send + Drop>(
     progress: Progress<R, C>,
     step: &Step,
 ) -> Result<Progress<R, C>, Halt>
-    requires ready { IsReady progress }
+    requires ready { HasLeads progress }
     requires before { IsBefore step.now }
-    ensures did { IfOk result (λ after. Does C.Calls R.Raise step.now progress after) }
+    ensures did { IfOk result (λ after. DoesStep C.Calls R.Raise step.now progress after) }
     ensures halted { IfErr result (λ h. StepHalts C.Calls R.Raise step.now progress h) }
 {
     let mut progress = progress;
@@ -94,7 +94,7 @@ fn take_step<W: Threads + Wait + Sync, R: Raise + Send + Drop, C: Calls + Send +
     step: &Step,
     signals: &Signals<C>,
 ) -> Result<Progress<R, C>, Halt>
-    requires ready { IsReady progress }
+    requires ready { HasLeads progress }
     requires before { IsBefore step.now }
     ensures taken { IfOk result (λ after. TakesStep C.Calls R.Raise progress step.now after) }
     ensures halted { IfErr result (λ h. StepHalts C.Calls R.Raise step.now progress h) }
@@ -121,7 +121,7 @@ pub fn take_steps<W: Threads + Wait + Sync, R: Raise + Send + Drop, C: Calls + S
     script: &Script,
     signals: &Signals<C>,
 ) -> Result<Progress<R, C>, Halt>
-    requires { IsReady progress }
+    requires { HasLeads progress }
     ensures ran { IfOk result (λ after. Runs C.Calls R.Raise progress script.now.steps.items after) }
     ensures halted { IfErr result (λ h. WhyHalted C.Calls R.Raise progress script.now.steps.items h) }
 {

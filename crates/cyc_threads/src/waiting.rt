@@ -6,7 +6,7 @@ ghost use Rattle.cyc_types.specs.declared.receipt.Receipt.{Receipt};
 ghost use Rattle.cyc_types.specs.declared.refusal.Refusal.{Refusal};
 ghost use Rattle.cyc_system_workers.specs.Calls.{PollRemove};
 ghost use Rattle.cyc_system_workers.specs.WorkersRefusals.{CanRefuse};
-ghost use Rattle.cyc_threads.specs.StepCalls.{CallsFor, Poll, Polls, Waits, IsReady};
+ghost use Rattle.cyc_threads.specs.StepCalls.{CallsFor, Poll, Polls, Waits, HasLeads};
 ghost use Rattle.cyc_words.specs.Names.{NoneLeaves};
 ghost use Rattle.cyc_threads.specs.Steps.{IsTold};
 
@@ -67,7 +67,7 @@ pub(crate) fn wait<W: Wait, R: Raise + Drop, C: Calls + Drop>(
     progress: Progress<R, C>,
     signals: &Signals<C>,
 ) -> Result<Progress<R, C>, Halt>
-    requires { IsReady progress }
+    requires { HasLeads progress }
     ensures waited { IfOk result (λ after. Waits R.Raise progress after) }
     ensures halted { IfErr result (λ h. IsTold C.may_refuse h) }
 {

@@ -7,7 +7,7 @@ use Rattle.cyc_types.specs.Firing.{FiringCall, Raises}
 use Rattle.cyc_types.specs.declared.level.Level.{Level}
 use Rattle.cyc_types.specs.declared.level.Level.TheVariants.{Low, Lock, High}
 use Rattle.cyc_types.proofs.Runs.{folds_on, times_on, goes_on}
-use Rattle.cyc_timers.specs.Acts.{Sides, Acts, RaisedOnce, AreRaises, way_losses, id_at, acting}
+use Rattle.cyc_timers.specs.Acts.{Sides, Acts, RaisedOnce, AreRaises, way_losses, id_at_level, acting}
 
 raises_on : (xs ys : List ℕ) (way more : List FiringCall) → AreRaises xs way → AreRaises ys more
     → AreRaises (xs ++ ys) (way ++ more)
@@ -114,7 +114,8 @@ module _ {C R : Type 0} (called : C → ℕ → C → Type 0) (count : C → ℕ
 -- one expiration at its level
 module _ {C R : Type 0} (called : C → ℕ → C → Type 0) (count : C → ℕ → ℕ) (firing : Raise R) where
   abbrev pub One : Level → ℕ → Sides C R → Sides C R → ℕ → Type 0
-  One l id s s' n = (a : Acts (acting called count firing) (id_at High l id) (id_at Lock l id) (id_at Low l id) s s')
+  One l id s s' n = (a : Acts (acting called count firing) (id_at_level High l id) (id_at_level Lock l id) (id_at_level Low l
+      id) s s')
       × (n ≡ way_losses a.lock_way + way_losses a.low_way)
 
   pub one_high : (l : Level) (id : ℕ) (c c' : C) (k w : R) → l ≡ High → called c id c'

@@ -33,21 +33,21 @@ same_level High Low = false
 same_level High Lock = false
 same_level High High = true
 
-abbrev pub is_of : Level → Option Timer → Bool
-is_of level None = false
-is_of level (Some t) = same_level level t.level
+abbrev pub is_of_level : Level → Option Timer → Bool
+is_of_level level None = false
+is_of_level level (Some t) = same_level level t.level
 
 -- the expiration is of a cyclic of this level
 abbrev pub is_at : Level → List Timer → Expiration → Bool
-is_at level ts p = is_of level (timer_of p.id ts)
+is_at level ts p = is_of_level level (timer_of p.id ts)
 
 -- the ids of the expirations of one level, in order
 abbrev pub ids_at : Level → List Timer → List Expiration → List ℕ
 ids_at level ts made = map (λ p. p.id) (filter (is_at level ts) made)
 
 -- the id, where its level is this one
-abbrev pub id_at : Level → Level → ℕ → List ℕ
-id_at level own id = cond (same_level level own) (id ∷ []) []
+abbrev pub id_at_level : Level → Level → ℕ → List ℕ
+id_at_level level own id = cond (same_level level own) (id ∷ []) []
 
 -- the call is a raise of this id
 abbrev pub IsRaise : ℕ → FiringCall → Type 0

@@ -40,8 +40,8 @@ pub record Both (A : Type 0) : Type 0 where
   pub lock : A
   pub low : A
 
-abbrev pub both : {A : Type 0} → (lock low : A) → Both A
-both lock low = record { lock = lock; low = low }
+abbrev pub lock_and_low : {A : Type 0} → (lock low : A) → Both A
+lock_and_low lock low = record { lock = lock; low = low }
 
 -- both ends have the cyclics of their levels, and the marks of open removals are these
 pub record IsReady {R : Type 0} (view : R → FiringView) (size most : ℕ) (marks : Both (Option ℕ)) (ends : Both R)
@@ -52,7 +52,7 @@ pub record IsReady {R : Type 0} (view : R → FiringView) (size most : ℕ) (mar
 
 -- the marks at two ends
 abbrev pub marks_at : {R : Type 0} → (R → FiringView) → (lock low : R) → Both (Option ℕ)
-marks_at view lock low = both (view lock).marked (view low).marked
+marks_at view lock low = lock_and_low (view lock).marked (view low).marked
 
 -- the firing side of a CPU: both ends are ready, and an open removal is marked at the end of its level
 pub record IsHard {R : Type 0} (view : R → FiringView) (size most : ℕ) (removal : Option ℕ) (ends : Both R)

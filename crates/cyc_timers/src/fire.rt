@@ -11,9 +11,9 @@ ghost use Rattle.cyc_types.specs.declared.refusal.Refusal.TheVariants.{CountSpen
 ghost use Rattle.cyc_types.specs.Timers.{earliest};
 ghost use Rattle.cyc_types.specs.Expirations.{Expiration, expirations};
 ghost use Rattle.cyc_timers.specs.Rows.{timers_of, cyclics_of};
-ghost use Rattle.cyc_timers.specs.Ends.{IsReady, both, marks_at};
+ghost use Rattle.cyc_timers.specs.Ends.{IsReady, lock_and_low, marks_at};
 ghost use Rattle.cyc_timers.specs.Made.{Makes, WhyStopped, fire_state};
-ghost use Rattle.cyc_timers.specs.Acts.{Sides, Acts, RaisedOnce, acting, id_at, way_losses};
+ghost use Rattle.cyc_timers.specs.Acts.{Sides, Acts, RaisedOnce, acting, id_at_level, way_losses};
 
 use crate::table::Table;
 use cyc_types::{
@@ -80,7 +80,7 @@ pub fn expire_at<C: Calls, R: Raise>(
     requires lock { level ≡ Lock → MayRaise id (R.view lock.old) }
     requires low { level ≡ Low → MayRaise id (R.view low.old) }
     ensures acts { IfOk result (λ lost. (a : Acts (acting (at_level C.called High) C.count R.Raise)
-        (id_at High level id) (id_at Lock level id) (id_at Low level id)
+        (id_at_level High level id) (id_at_level Lock level id) (id_at_level Low level id)
         (record { calls = calls.old; lock = lock.old; low = low.old })
         (record { calls = calls.new; lock = lock.new; low = low.new }))
         × (lost ≡ way_losses a.lock_way + way_losses a.low_way)) }
@@ -164,7 +164,7 @@ pub fn fire_all<C: Calls, R: Raise>(
     now: Moment,
 ) -> Result<Fired, FireRefused>
     requires now { now < never }
-    requires ready { IsReady R.view table.old.size most (marks_at R.view lock.old low.old) (both lock.old low.old)
+    requires ready { IsReady R.view table.old.size most (marks_at R.view lock.old low.old) (lock_and_low lock.old low.old)
         table.old.rows }
 
     // The whole list was made, and no more.
@@ -186,7 +186,7 @@ pub fn fire_all<C: Calls, R: Raise>(
         × WhyStopped C.may_refuse most at last (timers_of table.new.rows) e.why) }
 
     // The CPU is ready for the next.
-    ensures ready { IsReady R.view table.new.size most (marks_at R.view lock.old low.old) (both lock.new low.new)
+    ensures ready { IsReady R.view table.new.size most (marks_at R.view lock.old low.old) (lock_and_low lock.new low.new)
         table.new.rows }
     ensures size { table.new.size ≡ table.old.size }
     ensures room { table.new.room ≡ table.old.room }

@@ -5,7 +5,7 @@ ghost use Rattle.std.specs.Prelude.{IfErr, OnOk, OnErr, IfNone, IfSome, All, [],
 ghost use Rattle.std.specs.Bool.{OnTrue, OnFalse};
 ghost use Rattle.cyc_types.specs.Limits.{cyclics};
 ghost use Rattle.cyc_types.specs.Series.{never};
-ghost use Rattle.cyc_types.specs.Timers.{IsSound};
+ghost use Rattle.cyc_types.specs.Timers.{IsSoundTimer};
 ghost use Rattle.cyc_types.specs.declared.refusal.Refusal.TheVariants.{Memory};
 ghost use Rattle.cyc_timers.specs.Rows.{Row, TableView, new_table, timers_of, IsRow, IsRising, HasNo, HasDistinctIndexes};
 ghost use Rattle.cyc_timers.specs.Rows.{vacant_row, with_record, with_counts, at_moment, IsRecordOf, IsFirstAt};
@@ -294,7 +294,7 @@ impl Table {
     /// when it runs.
     pub fn law(&self)
         ensures rising { IsRising self.now.rows }
-        ensures sound { All IsSound (timers_of self.now.rows) }
+        ensures sound { All IsSoundTimer (timers_of self.now.rows) }
         ensures apart { HasDistinctIndexes self.now.rows }
         ensures below { All (λ r. r.index < self.now.size) self.now.rows }
     {

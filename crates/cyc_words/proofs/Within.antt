@@ -8,7 +8,7 @@ use Rattle.cyc_script.specs.declared.step.Step.TheVariants as steps
 use Rattle.cyc_system.specs.Calls.{SystemCall}
 use Rattle.cyc_words.specs.declared.named.Named.{Named}
 use Rattle.cyc_words.specs.declared.answer.WordAnswer.{WordAnswer}
-use Rattle.cyc_words.specs.Names.{named_at, id_of}
+use Rattle.cyc_words.specs.Names.{named_at, cyclic_id}
 use Rattle.cyc_words.specs.Words.{WithSeries, WithMoment, WithId, WithCall}
 
 pub with_series : (start interval : ℤ) (P : When → Type 0) (Q N : Type 0) → WithSeries start interval P N
@@ -39,11 +39,11 @@ module _ (P : ℕ → SystemCall → Result WordAnswer Refusal → Type 0) (N : 
     pub of_call : (x : Step) → WithCall clock names x P N → L
     of_call (steps.Add a) d = with_series a.start a.interval _ L _ d (λ when p. go _ _ _ p.1) (λ n. stop _ n)
     of_call (steps.Omni a) d = with_series a.start a.interval _ L _ d (λ when p. go _ _ _ p.1) (λ n. stop _ n)
-    of_call (steps.Bind b) d = with_id (id_of (named_at names b.name)) _ L _ d (λ id p. go _ _ _ p.1) (λ n. stop _ n)
-    of_call (steps.Unbind name) d = with_id (id_of (named_at names name)) _ L _ d (λ id p. go _ _ _ p.1) (λ n. stop _ n)
+    of_call (steps.Bind b) d = with_id (cyclic_id (named_at names b.name)) _ L _ d (λ id p. go _ _ _ p.1) (λ n. stop _ n)
+    of_call (steps.Unbind name) d = with_id (cyclic_id (named_at names name)) _ L _ d (λ id p. go _ _ _ p.1) (λ n. stop _ n)
     of_call (steps.Reprogram r) d = with_moment r.moment _ L _ d
-        (λ moment q. with_id (id_of (named_at names r.name)) _ L _ q (λ id p. go _ _ _ p.1) (λ n. stop _ n)) (λ n. stop _ n)
-    of_call (steps.Remove name) d = with_id (id_of (named_at names name)) _ L _ d (λ id p. go _ _ _ p.1) (λ n. stop _ n)
+        (λ moment q. with_id (cyclic_id (named_at names r.name)) _ L _ q (λ id p. go _ _ _ p.1) (λ n. stop _ n)) (λ n. stop _ n)
+    of_call (steps.Remove name) d = with_id (cyclic_id (named_at names name)) _ L _ d (λ id p. go _ _ _ p.1) (λ n. stop _ n)
     of_call (steps.Advance now) d = absurd d
     of_call (steps.Softint i) d = absurd d
     of_call (steps.Juggle n) d = go _ _ _ d.1
@@ -62,17 +62,17 @@ module _ (P : ℕ → SystemCall → Result WordAnswer Refusal → Type 0) (N : 
     then_call (steps.Omni a) (inl (when, s, i, l, (answer, p))) = inl (when, s, i, l, (answer, go _ _ _ p))
     then_call (steps.Omni a) (inr (bad, n)) = inr (bad, stop _ n)
     then_call (steps.Bind b) d =
-        then_id (id_of (named_at names b.name)) _ _ _ _ (λ id p. (p.0, go _ _ _ p.1)) (λ n. stop _ n) d
+        then_id (cyclic_id (named_at names b.name)) _ _ _ _ (λ id p. (p.0, go _ _ _ p.1)) (λ n. stop _ n) d
     then_call (steps.Unbind name) d =
-        then_id (id_of (named_at names name)) _ _ _ _ (λ id p. (p.0, go _ _ _ p.1)) (λ n. stop _ n) d
+        then_id (cyclic_id (named_at names name)) _ _ _ _ (λ id p. (p.0, go _ _ _ p.1)) (λ n. stop _ n) d
     then_call (steps.Reprogram r) (inl (moment, is, d)) = inl (
       moment,
       is,
-      then_id (id_of (named_at names r.name)) _ _ _ _ (λ id p. (p.0, go _ _ _ p.1)) (λ n. stop _ n) d,
+      then_id (cyclic_id (named_at names r.name)) _ _ _ _ (λ id p. (p.0, go _ _ _ p.1)) (λ n. stop _ n) d,
     )
     then_call (steps.Reprogram r) (inr (bad, n)) = inr (bad, stop _ n)
     then_call (steps.Remove name) d =
-        then_id (id_of (named_at names name)) _ _ _ _ (λ id p. (p.0, go _ _ _ p.1)) (λ n. stop _ n) d
+        then_id (cyclic_id (named_at names name)) _ _ _ _ (λ id p. (p.0, go _ _ _ p.1)) (λ n. stop _ n) d
     then_call (steps.Advance now) d = d
     then_call (steps.Softint i) d = d
     then_call (steps.Juggle n) (answer, p) = (answer, go _ _ _ p)

@@ -10,22 +10,22 @@ abbrev pub named_at : List Named → ℕ → Named
 named_at names name = slice_index_or names name Nothing
 
 -- the id of its cyclic; once that is removed it has none, since a call for it would be refused and change nothing
-abbrev pub id_of : Named → Option ℕ
-id_of Nothing = None
-id_of (Cyclic id) = Some id
-id_of (Leaving id) = Some id
-id_of (Removed receipt) = None
+abbrev pub cyclic_id : Named → Option ℕ
+cyclic_id Nothing = None
+cyclic_id (Cyclic id) = Some id
+cyclic_id (Leaving id) = Some id
+cyclic_id (Removed receipt) = None
 
 -- the removal of its cyclic is open
-abbrev pub is_leaving : Named → Bool
-is_leaving Nothing = false
-is_leaving (Cyclic id) = false
-is_leaving (Leaving id) = true
-is_leaving (Removed receipt) = false
+abbrev pub has_open_removal : Named → Bool
+has_open_removal Nothing = false
+has_open_removal (Cyclic id) = false
+has_open_removal (Leaving id) = true
+has_open_removal (Removed receipt) = false
 
 -- no removal is open
 abbrev pub NoneLeaves : List Named → Type 0
-NoneLeaves names = (name : ℕ) → is_leaving (named_at names name) ≡ false
+NoneLeaves names = (name : ℕ) → has_open_removal (named_at names name) ≡ false
 
 -- what the answer to a call changes of what its name has: an add gives it an id, and a removal opens, or ends with a receipt
 abbrev pub news : SystemCall → Option Named

@@ -12,7 +12,7 @@ use Rattle.cyc_system.specs.Calls.{reprograms}
 use Rattle.cyc_words.specs.declared.named.Named.{Named}
 use Rattle.cyc_words.specs.declared.answer.WordAnswer.{WordAnswer}
 use Rattle.cyc_words.specs.declared.answer.WordAnswer.TheVariants.{Added, Done, Removing, Juggled}
-use Rattle.cyc_words.specs.Names.{named_at, id_of}
+use Rattle.cyc_words.specs.Names.{named_at, cyclic_id}
 
 -- ---- what a step asks for
 
@@ -64,15 +64,15 @@ WithCall clock names (steps.Add a) Call Refused = WithSeries a.start a.interval
 WithCall clock names (steps.Omni a) Call Refused = WithSeries a.start a.interval
     (λ when. (answer : Result ℕ Refusal) × Call a.name (AddOmni a.level when a.skew clock answer) (word_answer Added answer))
     (Refused (no_series a.start))
-WithCall clock names (steps.Bind b) Call Refused = WithId (id_of (named_at names b.name))
+WithCall clock names (steps.Bind b) Call Refused = WithId (cyclic_id (named_at names b.name))
     (λ id. (answer : Result (Unit {0}) Refusal) × Call b.name (Bind id (Some b.cpu) answer) (word_answer done answer))
     (Refused NoCyclic)
-WithCall clock names (steps.Unbind name) Call Refused = WithId (id_of (named_at names name))
+WithCall clock names (steps.Unbind name) Call Refused = WithId (cyclic_id (named_at names name))
     (λ id. (answer : Result (Unit {0}) Refusal) × Call name (Bind id None answer) (word_answer done answer)) (Refused NoCyclic)
 WithCall clock names (steps.Reprogram r) Call Refused = WithMoment r.moment
-    (λ moment. WithId (id_of (named_at names r.name)) (λ id. (answer : Result (Unit {0}) Refusal)
+    (λ moment. WithId (cyclic_id (named_at names r.name)) (λ id. (answer : Result (Unit {0}) Refusal)
     × Call r.name (reprograms r.cpu id moment answer) (word_answer done answer)) (Refused NoCyclic)) (Refused BadWhen)
-WithCall clock names (steps.Remove name) Call Refused = WithId (id_of (named_at names name))
+WithCall clock names (steps.Remove name) Call Refused = WithId (cyclic_id (named_at names name))
     (λ id. (answer : Result SystemRemoval Refusal) × Call name (BeginRemove id answer) (word_answer Removing answer))
     (Refused NoCyclic)
 WithCall clock names (steps.Advance now) Call Refused = ⊥

@@ -6,7 +6,7 @@ ghost use Rattle.cyc_types.specs.declared.refusal.Refusal.TheVariants.{BadWhen, 
 ghost use Rattle.cyc_script.specs.declared.step.Step.TheVariants as steps;
 ghost use Rattle.cyc_system.specs.Calls.{Bind as BindCall, Changes, reprograms};
 ghost use Rattle.cyc_words.specs.declared.named.Named.{Named as OneNamed};
-ghost use Rattle.cyc_words.specs.Names.{named_at, id_of};
+ghost use Rattle.cyc_words.specs.Names.{named_at, cyclic_id};
 ghost use Rattle.cyc_words.specs.Words.{WithId, word_answer, done};
 ghost use Rattle.cyc_words.specs.Doing.{DoesCall, DoesWord, word_state};
 
@@ -19,7 +19,7 @@ use cyc_types::{CyclicId, Moment, Raise, Refusal};
 
 /// The id of a name's cyclic. Once that is removed there is none: a call for it would be refused, and change nothing.
 pub(crate) fn id_of(named: Named) -> Option<CyclicId>
-    ensures { result ≡ id_of named }
+    ensures { result ≡ cyclic_id named }
 {
     match named {
         Named::Nothing => None,
@@ -46,7 +46,7 @@ pub(crate) fn bind<R: Raise>(
     name: Name,
     cpu: Option<u32>,
 ) -> Result<WordAnswer, Refusal>
-    ensures { WithId (id_of (named_at names.now name)) (λ id. (answer : Result (Unit {0}) AnyRefusal)
+    ensures { WithId (cyclic_id (named_at names.now name)) (λ id. (answer : Result (Unit {0}) AnyRefusal)
         × (result ≡ word_answer done answer)
         × DoesCall R.Raise name (BindCall id cpu answer) (word_state system.old names.now) (word_state system.new names.now))
         ((result ≡ Err NoCyclic) × (word_state system.new names.now ≡ word_state system.old names.now)) }

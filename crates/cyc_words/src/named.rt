@@ -2,7 +2,7 @@
 
 ghost use Rattle.std.specs.Prelude.{◌≡◌, ℕ, slice_set, replicate, length, IfOk, IfSome, IfNone, false};
 ghost use Rattle.cyc_words.specs.declared.named.Named.TheVariants as named;
-ghost use Rattle.cyc_words.specs.Names.{named_at, is_leaving, NoneLeaves};
+ghost use Rattle.cyc_words.specs.Names.{named_at, has_open_removal, NoneLeaves};
 
 use cyc_types::{CyclicId, Receipt};
 use std::alloc::{AllocError, Global};
@@ -32,13 +32,13 @@ pub struct Names {
 impl Model for Names {
     ghost use Rattle.std.specs.Prelude.{◌≡◌, ◌<◌, ℕ, List, false};
     ghost use Rattle.cyc_words.specs.declared.named.Named.{Named as OneNamed};
-    ghost use Rattle.cyc_words.specs.Names.{named_at, is_leaving};
+    ghost use Rattle.cyc_words.specs.Names.{named_at, has_open_removal};
 
     ghost Value = { List OneNamed };
 
     ghost view = { λ n. n.list.items };
 
-    ghost invariant = { λ n. (name : ℕ) → name < n.from → is_leaving (named_at n.list.items name) ≡ false };
+    ghost invariant = { λ n. (name : ℕ) → name < n.from → has_open_removal (named_at n.list.items name) ≡ false };
 }
 
 impl Names {

@@ -11,7 +11,7 @@ use Rattle.cyc_types.specs.declared.Raise.{Ghosts as Raise}
 use Rattle.cyc_types.proofs.Runs.{folds_on}
 use Rattle.cyc_cpu.specs.Cpu.{CpuView}
 use Rattle.cyc_cpu.specs.Moving.{IsSettled}
-use Rattle.cyc_workers.specs.Settling.{Asks, Settles}
+use Rattle.cyc_workers.specs.Settling.{AsksSettled, Settles}
 use Rattle.cyc_workers.specs.Settled.{AllAsked, AreSettled, AllSettled, AsksAt}
 
 pub get_set_same : {A : Type 0} (xs : List A) (i : ℕ) (x : A) → i < length xs → slice_get (slice_set xs i x) i ≡ Some x
@@ -37,7 +37,7 @@ module _ {R : Type 0} (firing : Raise R) where
   }
 
   settles_then : (x y z : CpuView R) → Settles firing x y → Settles firing y z → Settles firing x z
-  settles_then x y z a b = (a.0 ++ b.0, folds_on (Asks firing) x a.0 y b.0 z a.1 b.1)
+  settles_then x y z a b = (a.0 ++ b.0, folds_on (AsksSettled firing) x a.0 y b.0 z a.1 b.1)
 
   -- one more was
   pub asked_at : (k : ℕ) (u v w : List (CpuView R)) → AllAsked firing u v → AsksAt firing k v w → AllAsked firing u w

@@ -5,7 +5,7 @@ ghost use Rattle.std.specs.List.{slice_get};
 ghost use Rattle.cyc_cpu.specs.Cpu.{CpuView};
 ghost use Rattle.cyc_cpu.specs.Moving.{IsSettled};
 ghost use Rattle.cyc_workers.specs.Refusals.{CanRefuse};
-ghost use Rattle.cyc_workers.specs.Settling.{Asks, Settles};
+ghost use Rattle.cyc_workers.specs.Settling.{AsksSettled, Settles};
 ghost use Rattle.cyc_workers.specs.Settled.{AllAsked, AllSettled, AsksAt};
 
 use crate::signals::Signals;
@@ -17,7 +17,7 @@ use std::sync::{Arc, Wait};
 use std::thread;
 
 fn ask<R: Raise>(hard: &mut Hard<R>) -> bool
-    ensures { Asks R.Raise hard.old result hard.new }
+    ensures { AsksSettled R.Raise hard.old result hard.new }
 {
     let answer = hard.settled();
     hard.law();

@@ -19,7 +19,16 @@ use Rattle.ring_rule.specs.declared.RaiseStep.TheVariants.{Loaded, Marked, Clear
 use Rattle.ring_rule.specs.declared.DrainStep.{DrainStep}
 use Rattle.ring_rule.specs.declared.Setting.{Setting}
 use Rattle.ring_rule.specs.Words.{pend_word, mark_bit, slot_word, producer_word, entry_id, hard_word, soft_word}
-use Rattle.ring_rule.specs.Trail.{open_stay, ended_calls, firer_hand_of, marked_of, seen_pend, id_in, made_calls, consumer_index}
+use Rattle.ring_rule.specs.Trail.{
+  open_stay,
+  ended_calls,
+  firer_hand_of,
+  marked_of,
+  seen_pend,
+  id_in_entry,
+  made_calls,
+  consumer_index,
+}
 use Rattle.ring_rule.specs.Log.{raise_side, drain_side, stay_word}
 use Rattle.ring_rule.specs.Shown.{IsSameStay, BankHolds, TrailsShow, StillHolds}
 use Rattle.ring_rule.specs.Steps.{TellsLoad, TellsMark, TellsClear}
@@ -236,7 +245,7 @@ module _ (k : Setting) (ws : List ℕ) (rs : List RaiseStep) (ds : List DrainSte
       hand_stored = tt;
       fresh = λ bank more most. high 0 (producer_word bank) (omega arith) ∙ le.fresh bank more most;
       held_is = λ e h. let x = le.held_is e h in let ne : entry_id e ≢ id = λ y. let a : in_hand id l.drainer_hand ≡ 1 =
-          ap (in_hand id) (N.shows.drainer_is ∙ (ap id_in h ∙ ap Some y)) ∙ hand_here id in omega (arith, a, gone) in
+          ap (in_hand id) (N.shows.drainer_is ∙ (ap id_in_entry h ∙ ap Some y)) ∙ hand_here id in omega (arith, a, gone) in
           (x.0, left (entry_id e) x.0 ne x.1, x.2);
       followed_is = le.followed_is;
       bank_is = le.bank_is;

@@ -9,7 +9,17 @@ use Rattle.ring_rule.specs.declared.Role.{Role}
 use Rattle.ring_rule.specs.declared.Role.TheVariants.{Joint, Raise, Drain, Spent}
 use Rattle.ring_rule.specs.declared.SeatView.{SeatView}
 use Rattle.ring_rule.specs.declared.Setting.{Setting}
-use Rattle.ring_rule.specs.Log.{RingStep, of_raise, of_drain, raise_side, drain_side, step_event, events_of, level_after, replay}
+use Rattle.ring_rule.specs.Log.{
+  RingStep,
+  of_raise,
+  of_drain,
+  raise_side,
+  drain_side,
+  step_event,
+  events_of,
+  level_after_steps,
+  replay,
+}
 use Rattle.ring_rule.specs.Log.{AllTrue}
 use Rattle.ring_rule.specs.Rule.{RingState, HasItsTrail, IsSeat, AllShown, MeetsRule}
 use Rattle.ring_rule.specs.Conservation.{LevelStands, AllStood, EndsWithIts, StandsFor, Conserves}
@@ -45,8 +55,8 @@ level_stands k log small true on shown = let N = log_now k log small on shown in
   shows = N.shows;
   still = N.still;
   lawful = N.law;
-  conserved = conserved_level (level_after k.ceiling log) N.law;
-  booked = booked k (replay k.start log) (raise_side log) (drain_side log) (level_after k.ceiling log) N;
+  conserved = conserved_level (level_after_steps k.ceiling log) N.law;
+  booked = booked k (replay k.start log) (raise_side log) (drain_side log) (level_after_steps k.ceiling log) N;
   accounted = accounted k log on N;
   finished = finished_stays k log on N;
 }

@@ -19,7 +19,7 @@ use Rattle.ring_rule.specs.declared.RaiseStep.{RaiseStep}
 use Rattle.ring_rule.specs.declared.DrainStep.{DrainStep}
 use Rattle.ring_rule.specs.declared.DrainStep.TheVariants.{Subtracted}
 use Rattle.ring_rule.specs.declared.Setting.{Setting}
-use Rattle.ring_rule.specs.Trail.{open_stay, ended_calls, seen_pend, held_entry, id_in, drainer_hand_of, made_calls}
+use Rattle.ring_rule.specs.Trail.{open_stay, ended_calls, seen_pend, held_entry, id_in_entry, drainer_hand_of, made_calls}
 use Rattle.ring_rule.specs.Trail.{consumer_index}
 use Rattle.ring_rule.specs.Log.{raise_side, drain_side, held_word}
 use Rattle.ring_rule.specs.Shown.{IsSameStay, TrailsShow, StillHolds}
@@ -38,7 +38,7 @@ same_called true m e (Some s) None ok h = h
 same_called true m e (Some s) (Some c) ok h = let x = h.3 in (h.0, h.1, h.2, omega (arith, x))
 same_called false m e o p ok h = subst (λ (x : ℕ). IsSameStay x e o p) (let x : m ≡ 0 + m = omega arith in x) h
 
-laid_id : (n : ℕ) (h : Option ℕ) → id_in (hand_after_finish n h) ≡ hand_after_finish n (id_in h)
+laid_id : (n : ℕ) (h : Option ℕ) → id_in_entry (hand_after_finish n h) ≡ hand_after_finish n (id_in_entry h)
 laid_id zero h = refl
 laid_id (suc zero) h = refl
 laid_id (suc (suc n)) h = refl
@@ -73,7 +73,7 @@ module _ (k : Setting) (small : k.ceiling < 2 ^ 32) (ws : List ℕ) (rs : List R
   index_low = admitted_low l N.law id c known.1
 
   hand_is : l.drainer_hand ≡ Some id
-  hand_is = N.shows.drainer_is ∙ ap id_in has
+  hand_is = N.shows.drainer_is ∙ ap id_in_entry has
 
   abbrev n : ℕ
   n = get_or ws i 0
@@ -147,7 +147,7 @@ module _ (k : Setting) (small : k.ceiling < 2 ^ 32) (ws : List ℕ) (rs : List R
     firer_is = sh.firer_is;
     drainer_is = (λ z. hand_after_finish (sym counts z) (sh.drainer_is z)) ∙ sym (laid_id (n % 2 ^ 32) (held_entry ds));
     marked_is = sh.marked_is;
-    stays = λ j. let hand : drainer_hand_of ds ≡ Some id = ap id_in has in
+    stays = λ j. let hand : drainer_hand_of ds ≡ Some id = ap id_in_entry has in
         subst (λ (x : Option ℕ). IsSameStay (in_hand j x + made_calls j ds) (ended_calls j rs) (open_stay j rs) (m' j)) (sym hand)
         (same_called (eqb j id) (made_calls j ds) (ended_calls j rs) (open_stay j rs) (l.cyclics j)
         (λ t. dite (ℕ_discrete j id) (λ e. (c, ap l.cyclics e ∙ known.1)) (λ ne. let f : eqb j id ≡ false = ne_eqb j id ne in
@@ -191,7 +191,7 @@ subtract_law k slots seat me e role has i at_i =
     let same : me.0.drain_trail ≡ t = (drains k s R seat me.0 at me.1 i 0 role).1.0 in
     let l : SoftLevel = level k s R in let N : RingNow k s.words (raise_side R.log) t l = ring_now k s R in
     let has' : held_entry t ≡ Some e = ap held_entry (sym same) ∙ has in let hand : l.drainer_hand ≡ Some (entry_id e) =
-    N.shows.drainer_is ∙ ap id_in has' in
+    N.shows.drainer_is ∙ ap id_in_entry has' in
     let w : ℕ = pend_word (entry_index e) in let n : ℕ = get_or s.words w 0 in let x : ℕ = get_or s.words i 0 in
     let here : w ≡ i = sym at_i in
     let values : (j : ℕ) → w ≡ j → (get_or s.words w 0 + (2 ^ 64 - 1)) % 2 ^ 64 ≡ (get_or s.words j 0 + (2 ^ 64 - 1)) % 2 ^ 64 =

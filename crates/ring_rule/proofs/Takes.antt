@@ -15,7 +15,7 @@ use Rattle.ring_rule.specs.declared.DrainStep.{DrainStep}
 use Rattle.ring_rule.specs.declared.DrainStep.TheVariants.{Took}
 use Rattle.ring_rule.specs.declared.Setting.{Setting}
 use Rattle.ring_rule.specs.Words.{slot_word, entry_id, entry_index}
-use Rattle.ring_rule.specs.Trail.{producer_index, held_entry, id_in, soft_bank_of, consumer_index, producer_seen}
+use Rattle.ring_rule.specs.Trail.{producer_index, held_entry, id_in_entry, soft_bank_of, consumer_index, producer_seen}
 use Rattle.ring_rule.specs.Log.{raise_side, drain_side}
 use Rattle.ring_rule.specs.Shown.{HoldsEntry, BankHolds, TrailsShow, StillHolds}
 use Rattle.ring_rule.specs.Steps.{TellsTake}
@@ -115,7 +115,7 @@ take_law k slots seat me end role bare saw more i lies =
     ∙ ap (λ (t : List DrainStep). slot_word (soft_bank_of t) (consumer_index k.start t)) (sym same)) ∙ sym lies in (
       (Took (get_or s.words i 0)),
       drain_goes k s R seat me.0 at me.1 i (get_or s.words i 0) role (Took (get_or s.words i 0))
-          ((N.shows.drainer_is ∙ ap id_in (ap held_entry (sym same) ∙ bare), left), R.enabled)
+          ((N.shows.drainer_is ∙ ap id_in_entry (ap held_entry (sym same) ∙ bare), left), R.enabled)
           (loaded (λ x. TrailsShow k.start x (raise_side R.log) (Took (get_or s.words i 0) ∷ t) (after Take l)) s.words i
           (subst (λ (j : ℕ). TrailsShow k.start s.words (raise_side R.log) (Took (get_or s.words j 0) ∷ t) (after Take l)) here
           (takes_shown k s.words (raise_side R.log) t l N id oldest)))

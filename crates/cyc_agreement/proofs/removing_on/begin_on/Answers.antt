@@ -1,7 +1,7 @@
 use Rattle.std.proofs.Common.{None, Ok, sym, ap, ◌∙◌, subst}
 use Rattle.std.proofs.lemmas.Option.{slice_get_within}
 use Rattle.cyc_types.specs.Reasons.{busy, or_else}
-use Rattle.cyc_cpu.specs.Calls.{Changes, BeginRemove}
+use Rattle.cyc_cpu.specs.Calls.{CpuChanges, BeginRemove}
 use Rattle.cyc_agreement.specs.Cpus.{with_cpu}
 use Rattle.cyc_agreement.specs.Holding.{Holds}
 use Rattle.cyc_agreement.specs.Withdrawing.{system}
@@ -36,7 +36,7 @@ pub unreachable-requires : goal.unreachable-requires
 unreachable-requires g c =
     let v = c.args.cpus.now in let rs = c.args.records.now.list in let n = c.args.number in let (last, h) = c.requires.holds in
     let x = c.cpu_mut.result.now in let y = c.begin_remove.new.self in
-    let d = subst (λ r. Changes g.R.Raise x (BeginRemove c.args.id r) y) c.in_default-begin_remove.is c.begin_remove.ensures in
+    let d = subst (λ r. CpuChanges g.R.Raise x (BeginRemove c.args.id r) y) c.in_default-begin_remove.is c.begin_remove.ensures in
     is_begun g.R.Raise c.args.id x y c.in_default-begin_remove.field-0 (sym (removal_there v n x c.cpu_mut.ensures.cpu)
     ∙ removal_there v n c.cpu.result.now c.cpu.ensures ∙ sym c.removal.ensures ∙ is_none c.removal.result c.in_default.not-Some)
     (cyclic_here v n c.args.id x
@@ -50,7 +50,7 @@ pub returns-in-Done-clause-did : goal.returns-in-Done-clause-did
 returns-in-Done-clause-did g c last =
     let v = c.args.cpus.now in let rs = c.args.records.now.list in let n = c.args.number in let (first, h) = c.requires.holds in
     let x = c.cpu_mut.result.now in let y = c.begin_remove.new.self in let at = c.cpu_mut.ensures.cpu in
-    let d = subst (λ r. Changes g.R.Raise x (BeginRemove c.args.id r) y) (c.in-Ok.is ∙ ap Ok c.in-Done.is)
+    let d = subst (λ r. CpuChanges g.R.Raise x (BeginRemove c.args.id r) y) (c.in-Ok.is ∙ ap Ok c.in-Done.is)
     c.begin_remove.ensures in
     subst (λ l. BeginsRemoval g.R.Raise c.args.id (Ok (Done c.in-Done.receipt)) (system v rs last)
     (system (with_cpu v n y) l last)) (sym c.remove.ensures)
@@ -61,7 +61,7 @@ pub returns-in-Done-clause-holds : goal.returns-in-Done-clause-holds
 returns-in-Done-clause-holds g c last h =
     let v = c.args.cpus.now in let rs = c.args.records.now.list in let n = c.args.number in
     let x = c.cpu_mut.result.now in let y = c.begin_remove.new.self in let at = c.cpu_mut.ensures.cpu in
-    let d = subst (λ r. Changes g.R.Raise x (BeginRemove c.args.id r) y) (c.in-Ok.is ∙ ap Ok c.in-Done.is)
+    let d = subst (λ r. CpuChanges g.R.Raise x (BeginRemove c.args.id r) y) (c.in-Ok.is ∙ ap Ok c.in-Done.is)
     c.begin_remove.ensures in
     subst (λ l. Holds (system (with_cpu v n y) l last)) (sym c.remove.ensures)
     (holds_at_once g.R.Raise v rs last c.args.id c.args.position n h c.law.ensures.rising c.law.ensures.all c.requires.own
@@ -71,7 +71,7 @@ pub returns-in-Kept-clause-did : goal.returns-in-Kept-clause-did
 returns-in-Kept-clause-did g c last =
     let v = c.args.cpus.now in let rs = c.args.records.now.list in let n = c.args.number in let (first, h) = c.requires.holds in
     let x = c.cpu_mut.result.now in let y = c.begin_remove.new.self in let at = c.cpu_mut.ensures.cpu in
-    let d = subst (λ r. Changes g.R.Raise x (BeginRemove c.args.id r) y) (c.in-Ok.is ∙ ap Ok c.in-Kept.is)
+    let d = subst (λ r. CpuChanges g.R.Raise x (BeginRemove c.args.id r) y) (c.in-Ok.is ∙ ap Ok c.in-Kept.is)
     c.begin_remove.ensures in
     stays_open g.R.Raise v rs first c.args.id c.args.position n h c.law.ensures.rising c.law.ensures.all c.requires.own
     x y at (c.law-2.ensures n x at) c.law-3.ensures c.in-Kept.kept d last c.from.result c.from.ensures
@@ -80,7 +80,7 @@ pub returns-in-Kept-clause-holds : goal.returns-in-Kept-clause-holds
 returns-in-Kept-clause-holds g c last h =
     let v = c.args.cpus.now in let rs = c.args.records.now.list in let n = c.args.number in
     let x = c.cpu_mut.result.now in let y = c.begin_remove.new.self in let at = c.cpu_mut.ensures.cpu in
-    let d = subst (λ r. Changes g.R.Raise x (BeginRemove c.args.id r) y) (c.in-Ok.is ∙ ap Ok c.in-Kept.is)
+    let d = subst (λ r. CpuChanges g.R.Raise x (BeginRemove c.args.id r) y) (c.in-Ok.is ∙ ap Ok c.in-Kept.is)
     c.begin_remove.ensures in
     holds_kept g.R.Raise v rs last c.args.id c.args.position n h c.law.ensures.rising c.law.ensures.all c.requires.own
     x y at (c.law-2.ensures n x at) c.law-3.ensures c.in-Kept.kept d

@@ -1,6 +1,6 @@
 use Rattle.std.proofs.Common.{◌≡◌, true, Some, Ok, sym, ◌∙◌, subst}
 use Rattle.std.proofs.lemmas.Option.{slice_get_within}
-use Rattle.cyc_cpu.specs.Calls.{Changes, PollRemove}
+use Rattle.cyc_cpu.specs.Calls.{CpuChanges, PollRemove}
 use Rattle.cyc_agreement.specs.Cpus.{OfCpu, with_cpu}
 use Rattle.cyc_agreement.specs.System.{is_leaving_here}
 use Rattle.cyc_agreement.specs.Holding.{Holds}
@@ -38,7 +38,7 @@ returns-in_default-clause-did g c last =
     let v = c.args.cpus.now in let rs = c.args.records.now.list in let n = c.args.number in
     let (first, h) = c.requires.holds in let x = c.cpu_mut.result.now in
     let y = c.poll_remove-answer.new.self in let at = c.cpu_mut.ensures.cpu in
-    let d = subst (λ r. Changes g.R.Raise x (PollRemove r) y) c.in_default.is c.poll_remove-answer.ensures in
+    let d = subst (λ r. CpuChanges g.R.Raise x (PollRemove r) y) c.in_default.is c.poll_remove-answer.ensures in
     let was_open : OfCpu n (λ cpu. true ≡ is_leaving_here c.args.id cpu) v = λ cpu there.
     (sym c.if-not-is_leaving_at.false ∙ c.is_leaving_at.ensures cpu there) in
     still_waits g.R.Raise v rs first c.args.id c.args.position n h c.law.ensures.rising c.law.ensures.all c.requires.own
@@ -49,7 +49,7 @@ pub returns-in_default-clause-holds : goal.returns-in_default-clause-holds
 returns-in_default-clause-holds g c last h =
     let v = c.args.cpus.now in let rs = c.args.records.now.list in let n = c.args.number in
     let x = c.cpu_mut.result.now in let y = c.poll_remove-answer.new.self in let at = c.cpu_mut.ensures.cpu in
-    let d = subst (λ r. Changes g.R.Raise x (PollRemove r) y) c.in_default.is c.poll_remove-answer.ensures in
+    let d = subst (λ r. CpuChanges g.R.Raise x (PollRemove r) y) c.in_default.is c.poll_remove-answer.ensures in
     let was_open : OfCpu n (λ cpu. true ≡ is_leaving_here c.args.id cpu) v = λ cpu there.
     (sym c.if-not-is_leaving_at.false ∙ c.is_leaving_at.ensures cpu there) in
     holds_waiting g.R.Raise v rs last c.args.id c.args.position n h c.law.ensures.rising c.law.ensures.all c.requires.own
@@ -61,7 +61,7 @@ returns-clause-did g c last =
     let v = c.args.cpus.now in let rs = c.args.records.now.list in let n = c.args.number in
     let (first, h) = c.requires.holds in let x = c.cpu_mut.result.now in
     let y = c.poll_remove-answer.new.self in let at = c.cpu_mut.ensures.cpu in
-    let d = subst (λ r. Changes g.R.Raise x (PollRemove r) y) c.in-Some.is c.poll_remove-answer.ensures in
+    let d = subst (λ r. CpuChanges g.R.Raise x (PollRemove r) y) c.in-Some.is c.poll_remove-answer.ensures in
     let was_open : OfCpu n (λ cpu. true ≡ is_leaving_here c.args.id cpu) v = λ cpu there.
     (sym c.if-not-is_leaving_at.false ∙ c.is_leaving_at.ensures cpu there) in
     subst (λ l. PollsRemoval g.R.Raise c.args.id (Ok (Some c.in-Some.receipt)) (system v rs last)
@@ -74,7 +74,7 @@ pub returns-clause-holds : goal.returns-clause-holds
 returns-clause-holds g c last h =
     let v = c.args.cpus.now in let rs = c.args.records.now.list in let n = c.args.number in
     let x = c.cpu_mut.result.now in let y = c.poll_remove-answer.new.self in let at = c.cpu_mut.ensures.cpu in
-    let d = subst (λ r. Changes g.R.Raise x (PollRemove r) y) c.in-Some.is c.poll_remove-answer.ensures in
+    let d = subst (λ r. CpuChanges g.R.Raise x (PollRemove r) y) c.in-Some.is c.poll_remove-answer.ensures in
     let was_open : OfCpu n (λ cpu. true ≡ is_leaving_here c.args.id cpu) v = λ cpu there.
     (sym c.if-not-is_leaving_at.false ∙ c.is_leaving_at.ensures cpu there) in
     subst (λ l. Holds (system (with_cpu v n y) l last)) (sym c.remove.ensures)

@@ -1,7 +1,7 @@
 use Rattle.std.proofs.Common.{◌≡◌, ℕ, true, List, sym, ap, ◌∙◌, subst, arith}
 use Rattle.std.proofs.lemmas.List.{get_or_default}
 use Rattle.cyc_heap.specs.declared.entry.Entry.{Entry}
-use Rattle.cyc_heap.specs.Tournament.{nowhere, entry_at, index_of}
+use Rattle.cyc_heap.specs.Tournament.{nowhere, entry_at, cyclic_index}
 use Rattle.cyc_heap.specs.Few.{shown, IsChanged}
 use Rattle.cyc_heap.proofs.Sifting.{found, position_open, position_shown, changed_tree, changed_leaf}
 use Rattle.cyc_heap.proofs.changes.change_few.Goals as goal
@@ -28,7 +28,7 @@ returns-clause-tree c =
     let valid = e.valid in
     let f = c.put.ensures in
     changed_tree c.args.held c.args.leaves c.unwrap-position.result c.args.index es c.put.new.entries.items
-    c.at_moment-entry.result t low here f.long f.heap f.filled (ap index_of e.value ∙ ap index_of (sym at) ∙ here)
+    c.at_moment-entry.result t low here f.long f.heap f.filled (ap cyclic_index e.value ∙ ap cyclic_index (sym at) ∙ here)
     (omega (arith, m, valid))
 
 pub returns-clause-changed : goal.returns-clause-changed
@@ -51,7 +51,7 @@ returns-clause-changed c =
     = e.value ∙ ap (λ (e : Entry). with_moment e c.args.moment) (sym at ∙ sym shows) in
     subst (λ e. IsChanged c.args.leaves c.args.index e old new) word
     (changed_leaf c.args.held c.args.leaves c.unwrap-position.result c.args.index es c.put.new.entries.items
-    c.at_moment-entry.result t low here f.long f.heap f.filled (ap index_of e.value ∙ ap index_of (sym at) ∙ here)
+    c.at_moment-entry.result t low here f.long f.heap f.filled (ap cyclic_index e.value ∙ ap cyclic_index (sym at) ∙ here)
     (omega (arith, m, valid)))
   where
     with_moment : Entry → ℕ → Entry

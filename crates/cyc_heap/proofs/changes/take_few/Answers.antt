@@ -2,7 +2,7 @@ use Rattle.std.proofs.Common.{◌-◌, true, List, length, take, sym, ap, ◌∙
 use Rattle.std.proofs.Math.ListN.{set}
 use Rattle.std.proofs.lemmas.List.{get_or_default}
 use Rattle.cyc_heap.specs.declared.entry.Entry.{Entry}
-use Rattle.cyc_heap.specs.Tournament.{nowhere, entry_at, index_of, free_entry}
+use Rattle.cyc_heap.specs.Tournament.{nowhere, entry_at, cyclic_index, free_entry}
 use Rattle.cyc_heap.specs.Few.{shown, IsHeapBut, IsFilled, IsTree, IsChanged}
 use Rattle.cyc_heap.proofs.Sifting.{found, cut_open, cut_apart, last_tree, last_changed, moved_tree, moved_changed}
 use Rattle.cyc_heap.proofs.changes.take_few.Goals as goal
@@ -26,7 +26,7 @@ put-requires-clause-apart c =
     let x = c.index-moved.result.now in
     let at = get_or_default es (c.args.held - 1) nowhere x (omega (arith, low, within)) ∙ sym c.index-moved.ensures in
     λ p less _ e. cut_apart c.args.held c.args.leaves c.unwrap-position.result c.args.index es t low here p less
-    (ap (λ f. index_of (entry_at (set es (c.args.held - 1) f) p)) (sym c.free.ensures) ∙ e ∙ ap index_of (sym at))
+    (ap (λ f. cyclic_index (entry_at (set es (c.args.held - 1) f) p)) (sym c.free.ensures) ∙ e ∙ ap cyclic_index (sym at))
 
 pub returns-then-position-last-clause-tree : goal.returns-then-position-last-clause-tree
 returns-then-position-last-clause-tree c =

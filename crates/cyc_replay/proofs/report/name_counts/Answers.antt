@@ -3,8 +3,8 @@ use Rattle.cyc_system.specs.System.{running_system}
 use Rattle.cyc_system.specs.Calls.{AskTotals}
 use Rattle.cyc_replay.specs.Shown.{ShowsSystem}
 use Rattle.cyc_model.specs.Report.{counts_of}
-use Rattle.cyc_replay.specs.Machine.{id_in}
-use Rattle.cyc_replay.specs.Removal.{told_by}
+use Rattle.cyc_replay.specs.Machine.{id_of_named}
+use Rattle.cyc_replay.specs.Removal.{told_by_receipt}
 use Rattle.cyc_replay.proofs.Doing.{keeps, refuses}
 use Rattle.cyc_replay.proofs.Named.{same_id}
 use Rattle.cyc_replay.proofs.Remembering.{nobody_counts}
@@ -14,20 +14,20 @@ use Rattle.cyc_replay.proofs.report.name_counts.Goals as goal
 pub returns-in_default-clause-counts : goal.returns-in_default-clause-counts
 returns-in_default-clause-counts c = λ step s r h.
     let m = c.args.machine.now in let name = c.args.name in
-    let found = c.id_in.ensures ∙ ap id_in c.at.ensures in
+    let found = c.id_in.ensures ∙ ap id_of_named c.at.ensures in
     let none = same_id s m name None h (sym c.in_default.is ∙ found) in
     c.no_counts.ensures ∙ sym (ap (λ k. counts_of k s) none ∙ nobody_counts step s r)
 
 pub returns-in_default-answer-clause-counts : goal.returns-in_default-answer-clause-counts
 returns-in_default-answer-clause-counts c = λ step s r h.
     let m = c.args.machine.now in let name = c.args.name in let id = c.in-Some.id in let w = c.totals-answer.new.self in
-    let found = c.id_in.ensures ∙ ap id_in c.at.ensures in
+    let found = c.id_in.ensures ∙ ap id_of_named c.at.ensures in
     let at = sym (sym c.in-Some.is ∙ found) in
     let named = same_id s m name (Some id) h (sym c.in-Some.is ∙ found) in
     let gone = (c.report_law.ensures.none id s m.system w h.system h.shows c.in_default-answer.ensures).0 in
     let (receipt, removed, told) = h.remembers.counted name id at gone in
     let calls = c.from-called.ensures ∙ c.called_by.ensures ∙ h.called id in
-    c.counts_left.ensures receipt (c.at-in_default-answer.ensures ∙ removed) ∙ ap (told_by receipt) calls
+    c.counts_left.ensures receipt (c.at-in_default-answer.ensures ∙ removed) ∙ ap (told_by_receipt receipt) calls
     ∙ sym told ∙ sym (ap (λ k. counts_of k s) named)
 
 pub returns-in_default-answer-clause-holds : goal.returns-in_default-answer-clause-holds
@@ -48,7 +48,7 @@ pub returns-clause-counts : goal.returns-clause-counts
 returns-clause-counts c = λ step s r h.
     let m = c.args.machine.now in let name = c.args.name in let id = c.in-Some.id in let w = c.totals-answer.new.self in
     let totals = c.in-Some-answer.totals in
-    let found = c.id_in.ensures ∙ ap id_in c.at.ensures in
+    let found = c.id_in.ensures ∙ ap id_of_named c.at.ensures in
     let named = same_id s m name (Some id) h (sym c.in-Some.is ∙ found) in
     let told = (c.report_law.ensures.some id totals s m.system w h.system h.shows c.in-Some-answer.ensures).1 in
     let calls = c.from-called.ensures ∙ c.called_by.ensures ∙ h.called id in

@@ -5,7 +5,7 @@ use Rattle.std.specs.Io.KnownBytes.{Appends}
 use Rattle.cyc_text.specs.Puts.{AppendsPrefix}
 use Rattle.cyc_text.proofs.Puts.{prefix_more, stops}
 use Rattle.cyc_model.specs.Script.{names_of, no_indexes}
-use Rattle.cyc_replay.specs.Runs.{Runs}
+use Rattle.cyc_replay.specs.Runs.{RunsTo}
 use Rattle.cyc_replay.proofs.Introduced.{names_so_far}
 use Rattle.cyc_replay.proofs.Moments.{before_never}
 use Rattle.cyc_replay.proofs.RunningMachine.{take_on, number_on, whole_line, line_then}
@@ -62,7 +62,7 @@ loop-taken-preserved g c =
     record {
       number = omega (arith, number);
       whole = c.in_ok-put_step.ensures.write;
-      runs = subst (λ xs. Runs script.cpus script.ceiling (names_of script) xs c.put_step.new.machine)
+      runs = subst (λ xs. RunsTo script.cpus script.ceiling (names_of script) xs c.put_step.new.machine)
           (sym (take_on steps i x low here))
           (c.in_ok-put_step.ensures.runs (take i steps) at (names_so_far script i) c.loop-taken.invariant.runs);
       text = subst (λ text. Appends (g.S.Sink.written c.args.sink.now) (g.S.Sink.written c.put_step.new.sink) text)

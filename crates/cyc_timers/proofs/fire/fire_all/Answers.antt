@@ -6,7 +6,7 @@ use Rattle.cyc_types.proofs.Firings.{fire_start, fire_done, fire_bound}
 use Rattle.cyc_timers.specs.Rows.{timers_of, cyclics_of}
 use Rattle.cyc_types.specs.Levels.{at_level}
 use Rattle.cyc_types.specs.declared.level.Level.TheVariants.{High}
-use Rattle.cyc_timers.specs.Ends.{IsReady, both}
+use Rattle.cyc_timers.specs.Ends.{IsReady, lock_and_low}
 use Rattle.cyc_timers.specs.Made.{Makes, WhyStopped, fire_state}
 use Rattle.cyc_timers.specs.Acts.{acting}
 use Rattle.cyc_timers.proofs.Tables.{timers_long}
@@ -89,8 +89,9 @@ loop-root-preserved g c =
       room = c.expire_root.ensures.room ∙ i.room;
       rising = t.rising;
       sound = t.sound;
-      ready = subst (λ n. IsReady g.R.Raise.view n c.args.most (both (g.R.Raise.view c.args.lock.now).marked (g.R.Raise.view
-          c.args.low.now).marked) (both c.expire_at.new.lock c.expire_at.new.low) c.expire_root.new.self.rows)
+      ready = subst (λ n. IsReady g.R.Raise.view n c.args.most (lock_and_low (g.R.Raise.view c.args.lock.now).marked
+          (g.R.Raise.view
+          c.args.low.now).marked) (lock_and_low c.expire_at.new.lock c.expire_at.new.low) c.expire_root.new.self.rows)
           (sym same_size) t.ready;
       made = (made ++ next_of r.timer ∷ [], simp length-append (omega (arith, long)), t.fires, t.makes, t.few);
     }

@@ -5,7 +5,7 @@ use Rattle.cyc_types.specs.Runs.{Goes}
 use Rattle.cyc_types.specs.declared.level.Level.TheVariants.{Low, Lock}
 use Rattle.cyc_timers.specs.Rows.{cyclic_of, cyclics_of}
 use Rattle.cyc_cpu.specs.Cpu.{CpuView}
-use Rattle.cyc_timers.specs.Ends.{IsHard, both}
+use Rattle.cyc_timers.specs.Ends.{IsHard, lock_and_low}
 use Rattle.cyc_cpu.specs.Removal.{calls_at, HasPolled}
 use Rattle.cyc_cpu.proofs.Lawful.{spared_row}
 use Rattle.cyc_cpu.proofs.Cyclics.{is_cyclic}
@@ -100,9 +100,9 @@ invariant_of-self-2 g c =
     (e.sound_low h.ready.low_end.sound)
     (unmarked_low g.R.Raise.view i.table.size i.most i.removal i.lock i.low i.table.rows k r h c.law.ensures.rising
     is removed)) in
-    subst (λ xs. IsHard g.R.Raise.view c.remove.new.self.size i.most None (both c.poll_at.new.lock c.poll_at.new.low) xs)
+    subst (λ xs. IsHard g.R.Raise.view c.remove.new.self.size i.most None (lock_and_low c.poll_at.new.lock c.poll_at.new.low) xs)
     (sym (c.remove.ensures.rows k r is named))
-    (subst (λ m. IsHard g.R.Raise.view m i.most None (both c.poll_at.new.lock c.poll_at.new.low) (remove i.table.rows k))
+    (subst (λ m. IsHard g.R.Raise.view m i.most None (lock_and_low c.poll_at.new.lock c.poll_at.new.low) (remove i.table.rows k))
     (sym c.remove.ensures.size) left)
 
 pub returns : goal.returns

@@ -4,7 +4,7 @@ use Rattle.std.proofs.lemmas.List.{get_or_default}
 use Rattle.cyc_finder.specs.declared.slots.Slot.{Slot}
 use Rattle.cyc_finder.specs.Sorted.{IsPassed, ComesAfter, IsNextAfter}
 use Rattle.cyc_finder.specs.Indexes.{Entry, FinderView, id_in}
-use Rattle.cyc_finder.specs.Slots.{IsGone}
+use Rattle.cyc_finder.specs.Slots.{IsGoneSlot}
 use Rattle.cyc_finder.proofs.Here.{rank, none_after, next_is, here_at}
 use Rattle.cyc_finder.proofs.finder.Finder.next_after.Goals as goal
 
@@ -17,7 +17,7 @@ returns-then-position-len-clause-none c =
     (subst (λ ys. AllWithin (λ (s : Slot). IsPassed n s.id) ys 0 a) e c.after.ensures.before)
     (subst (λ ys. AllWithin (λ (s : Slot). ComesAfter n s.id) ys a (length ys)) e c.after.ensures.from)
     c.max-from.ensures
-    (subst (λ ys. AllWithin IsGone ys c.max-from.result c.next_here-position.result) e2 c.next_here-position.ensures.gone)
+    (subst (λ ys. AllWithin IsGoneSlot ys c.max-from.result c.next_here-position.result) e2 c.next_here-position.ensures.gone)
     (let p = c.if-position-len.true in let l = c.len.ensures in omega (arith, p, l)))
 
 pub returns-clause-some : goal.returns-clause-some
@@ -34,7 +34,7 @@ returns-clause-some c =
       next_is xs i.first c.self.invariant.first n a c.max-from.result p
           (subst (λ ys. AllWithin (λ (s : Slot). IsPassed n s.id) ys 0 a) e c.after.ensures.before)
           (subst (λ ys. AllWithin (λ (s : Slot). ComesAfter n s.id) ys a (length ys)) e c.after.ensures.from)
-          c.max-from.ensures (subst (λ ys. AllWithin IsGone ys c.max-from.result p) e2 c.next_here-position.ensures.gone)
+          c.max-from.ensures (subst (λ ys. AllWithin IsGoneSlot ys c.max-from.result p) e2 c.next_here-position.ensures.gone)
           c.next_here-position.ensures.after s.id j within slot,
       here_at xs p s.id j within slot,
     )

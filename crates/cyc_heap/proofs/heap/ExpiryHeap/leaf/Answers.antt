@@ -2,7 +2,7 @@ use Rattle.std.proofs.Common.{◌≡◌, length, take, Some, sym, ap, ◌∙◌,
 use Rattle.std.proofs.lemmas.List.{length-take-le, get_or_default}
 use Rattle.cyc_heap.specs.declared.entry.Entry.{Entry}
 use Rattle.cyc_heap.specs.Tournament.{nowhere, key, entry_at}
-use Rattle.cyc_heap.specs.Few.{shown, HasNo}
+use Rattle.cyc_heap.specs.Few.{shown, HasNoIndex}
 use Rattle.cyc_heap.proofs.Views.{within, at_past, at_used, at_free}
 use Rattle.cyc_heap.proofs.Sifting.{found}
 use Rattle.cyc_heap.proofs.Fronts.{tree, shown_many, none_free, position_held}
@@ -36,7 +36,7 @@ returns-in-None-clause-free c = λ _. (
     let i = c.self.inside in
     none_free i.is_few i.held i.root i.leaves i.size i.given i.entries.items i.free.items c.self.invariant.0
     c.self.invariant.1 i.room c.args.self.now c.self.view_is c.if-self.true c.args.index
-    (subst (λ l. HasNo c.args.index (take i.held l)) c.as_slice.ensures.value c.in-None.ensures.none))
+    (subst (λ l. HasNoIndex c.args.index (take i.held l)) c.as_slice.ensures.value c.in-None.ensures.none))
 
 pub returns-then-position-self-clause-free : goal.returns-then-position-self-clause-free
 returns-then-position-self-clause-free c = λ _. (
