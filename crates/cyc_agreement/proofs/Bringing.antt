@@ -8,6 +8,7 @@ use Rattle.cyc_types.specs.declared.Raise.{Ghosts as Raise}
 use Rattle.cyc_types.specs.declared.firing.Sent.{Sent}
 use Rattle.cyc_types.proofs.Runs.{folds_on}
 use Rattle.cyc_types.specs.Counting.{no_counts}
+use Rattle.cyc_types.proofs.Facts.{and_first}
 use Rattle.cyc_cpu.specs.Rows.{Cyclic}
 use Rattle.cyc_cpu.specs.Cpu.{CpuView}
 use Rattle.cyc_cpu.specs.Calls.{MayPlace}
@@ -23,10 +24,6 @@ use Rattle.cyc_agreement.specs.Online.{is_staying, return_at, returns, after_ret
 use Rattle.cyc_agreement.proofs.Prefixes.{changed_to, changed_none, changed_length, changed_all, changed_at, changed_set}
 use Rattle.cyc_agreement.proofs.Prefixes.{changed_keep, passing_more, passing_count, passing_few, ids_in, not_before}
 use Rattle.cyc_agreement.proofs.Returned.{AllEverywhere, Back, back, back_has, back_removals, leaving_same, returns_more}
-
-and_first : (a b : Bool) → (a && b) ≡ true → a ≡ true
-and_first true b e = refl
-and_first false b e = absurd (false_true e)
 
 -- one that stays is omnipresent
 pub staying_everywhere : {R : Type 0} (v : CpusView R) (r : Record) → is_staying v r ≡ true → is_everywhere r.placement ≡ true

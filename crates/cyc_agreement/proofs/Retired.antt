@@ -15,6 +15,7 @@ use Rattle.cyc_types.specs.declared.firing.Sent.{Sent}
 use Rattle.cyc_types.specs.declared.level.Level.TheVariants.{Low, Lock}
 use Rattle.cyc_types.proofs.Runs.{folds_more}
 use Rattle.cyc_types.specs.Counting.{no_counts}
+use Rattle.cyc_types.proofs.Facts.{not_false}
 use Rattle.cyc_cpu.specs.Rows.{Cyclic}
 use Rattle.cyc_cpu.specs.Acts.{same_level}
 use Rattle.cyc_cpu.specs.Cpu.{CpuView, IsCyclic, seen_at}
@@ -111,10 +112,6 @@ filtered_none {A} p (y ∷ ys) k x e at = by (p y) refl e k (filtered_none p ys)
     by true is odd k others at = absurd (let impossible : y ∷ filter p ys ≡ [] = odd in cc)
     by false is rest zero others at = ap p (sym (same_some at)) ∙ is
     by false is rest (suc k) others at = others k x rest at
-
-not_false : (b : Bool) → not b ≡ false → b ≡ true
-not_false true e = refl
-not_false false e = absurd (false_true (sym e))
 
 -- a record of which at most the counts of the source have changed, where it is omnipresent
 pub record SameBeside (source : ℕ) (r q : Record) : Type 0 where

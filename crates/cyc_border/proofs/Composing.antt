@@ -10,6 +10,7 @@ use Rattle.cyc_types.specs.declared.level.Level.TheVariants.{Low, Lock, High}
 use Rattle.cyc_types.proofs.Runs.{lost_on}
 use Rattle.cyc_types.specs.Expirations.{Expiration, after_expirations, all_after}
 use Rattle.cyc_types.specs.Timers.{Timer}
+use Rattle.cyc_types.proofs.Firings.{after_id}
 use Rattle.cyc_timers.specs.Rows.{Cyclic, timers}
 use Rattle.cyc_timers.specs.Acts.{Sides, ids_at, is_at, is_of_level, same_level, timer_of, way_losses, lost_after, acting}
 use Rattle.cyc_timers.specs.Made.{Makes, fire_state}
@@ -18,10 +19,6 @@ use Rattle.cyc_timers.proofs.Acting.{acts_more, losses_on}
 after_level : (now : ℕ) (made : List Expiration) (t : Timer) → (after_expirations now made t).level ≡ t.level
 unfolding after_expirations
 after_level now made t = refl
-
-after_id : (now : ℕ) (made : List Expiration) (t : Timer) → (after_expirations now made t).id ≡ t.id
-unfolding after_expirations
-after_id now made t = refl
 
 -- a cyclic is found at its level all through a fire
 found : (l : Level) (id now : ℕ) (made : List Expiration) (ts : List Timer)

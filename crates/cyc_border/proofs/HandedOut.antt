@@ -12,6 +12,7 @@ use Rattle.cyc_types.specs.declared.refusal.Refusal.TheVariants as why
 use Rattle.cyc_types.specs.Expirations.{Expiration, expirations, all_after}
 use Rattle.cyc_types.specs.Timers.{Timer, HasDistinctIds, IsSoundTimer}
 use Rattle.cyc_types.proofs.Firings.{fire_start}
+use Rattle.cyc_types.proofs.Facts.{same_some}
 use Rattle.cyc_timers.specs.Rows.{timers}
 use Rattle.cyc_timers.specs.Acts.{ids_at, is_at, is_of_level, same_level, timer_of}
 use Rattle.cyc_timers.specs.Made.{Stops, WhyStopped}
@@ -49,9 +50,6 @@ left_of now ts cur made rest soon distinct sound listed is =
     let (end, f, g, s) = goes_through now made rest [] [] ts ts ts soon distinct distinct sound start start listed in
     let same : end ≡ cur = g.is ∙ sym is in
     append_cancel_left made (expirations now cur) rest (ap (λ x. made ++ expirations now x) (sym same) ∙ sym g.whole ∙ listed)
-
-same_some : {A : Type 0} {x y : A} → Some x ≡ Some y → x ≡ y
-same_some {A = A} {x = x} {y = y} e = ap (λ (o : Option A). elim o [ None ↦ x | Some z ↦ z ]) e
 
 module _ {R : Type 0} (firing : Raise R) where
   -- a fire that stops in front of a high one hands out what comes next

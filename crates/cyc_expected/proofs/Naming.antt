@@ -4,6 +4,7 @@ use Rattle.std.proofs.Common.{ap, sym, ◌∙◌, subst, eqb-true, arith, None}
 use Rattle.std.specs.Prelude.{⊤, slice_set, slice_index_or, ◌&&◌}
 use Rattle.std.specs.Option.{option_map}
 use Rattle.std.proofs.lemmas.List.{get_or-set_same, get_or-set_other}
+pub use Rattle.cyc_types.proofs.Facts.{both_true}
 use mathlib.Core.Logic.{dite}
 use native.Mathlib.Decide.{ℕ_discrete}
 use Rattle.cyc_script.specs.WellFormed.{names_fit, name_fits, names_after, names_after_all, moment_after}
@@ -40,10 +41,6 @@ IsWithin names _ = ⊤
 abbrev pub AllWithin : ℕ → List Step → Type 0
 AllWithin names [] = ⊤
 AllWithin names (x ∷ xs) = IsWithin names x × AllWithin names xs
-
-pub both_true : (a b : Bool) → (a && b) ≡ true → (a ≡ true) × (b ≡ true)
-both_true true b e = (refl, e)
-both_true false b e = absurd (cc)
 
 -- the names of a script are
 pub all_within : (names m : ℕ) (xs : List Step) → names_fit m xs ≡ true → names_after_all m xs ≤ names

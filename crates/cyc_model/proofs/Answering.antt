@@ -151,7 +151,7 @@ module _ (name : ℕ) (s : State) (g : Good s) (why : remove_refusal plain name 
 
 -- ---- polls
 
-open_is : (id : ℕ) (c : Cpu) → is_open id c ≡ true → c.removal ≡ Some id
+pub open_is : (id : ℕ) (c : Cpu) → is_open id c ≡ true → c.removal ≡ Some id
 open_is id c h = by c.removal refl h
   where
     by : (r : Option ℕ) → c.removal ≡ r → option_map_or (λ busy. busy == id) r false ≡ true → c.removal ≡ Some id

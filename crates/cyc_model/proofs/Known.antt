@@ -48,7 +48,7 @@ same_known id s t same =
     some_placed (find (λ p. p.id == id) t.placed) ∙ known_ids id t.placed ∙ ap (has_id id) same
     ∙ sym (known_ids id s.placed) ∙ sym (some_placed (find (λ p. p.id == id) s.placed))
 
-same_each : {A : Type 0} → (f : A → State → Outcome) → ((x : A) (s : State) → (f x s).state.placed ≡ s.placed)
+pub same_each : {A : Type 0} → (f : A → State → Outcome) → ((x : A) (s : State) → (f x s).state.placed ≡ s.placed)
     → (xs : List A) (s : State)
     → (each f xs s).state.placed ≡ s.placed
 same_each f same [] s = refl

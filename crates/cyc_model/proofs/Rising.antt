@@ -10,10 +10,11 @@ use mathlib.Core.Logic.{dite}
 use native.Mathlib.Decide.{ℕ_discrete}
 use Rattle.cyc_types.specs.Series.{due}
 use Rattle.cyc_types.specs.Expirations.{Expiration, series, due_of, expirations, times_of}
-use Rattle.cyc_types.proofs.Laws.{count_expirations}
+use Rattle.cyc_types.proofs.Laws.{count_expirations, times_series, times_series_other}
 use Rattle.cyc_level.proofs.Maps.{some_same}
 use Rattle.cyc_model.specs.Cpu.{CyclicState, timers_on, is_of, others}
 use Rattle.cyc_model.specs.Moving.{put_in}
+pub use Rattle.cyc_types.proofs.Laws.{times_cons}
 
 -- the ids rise, above this one
 abbrev pub Rising : ℕ → List CyclicState → Type 0
@@ -199,23 +200,6 @@ tally_found g low id (x ∷ xs) h = dite (ℕ_discrete x.timer.id id)
     none_plus n = omega arith
 
 -- ---- expirations
-
-pub times_cons : (id : ℕ) (p : Expiration) (xs : List Expiration) → times_of id (p ∷ xs) ≡ cond (p.id == id) 1 0 + times_of id xs
-times_cons id p xs = sum_by-cons (λ (q : Expiration). cond (q.id == id) 1 0) p xs
-
-times_series : (id e t n : ℕ) → times_of id (series id e t n) ≡ n
-times_series id e t zero = refl
-times_series id e t (suc n) =
-    let a = times_cons id (record { moment = e; id = id }) (series id (e + t) t n) in
-    let one : cond {A = ℕ} (id == id) 1 0 ≡ 1 = ap (λ (b : Bool). cond {A = ℕ} b 1 0) (eq-eqb id id refl) in
-    let r = times_series id (e + t) t n in omega (arith, a, one, r)
-
-times_series_other : (id other e t n : ℕ) → other ≢ id → times_of id (series other e t n) ≡ 0
-times_series_other id other e t zero ne = refl
-times_series_other id other e t (suc n) ne =
-    let a = times_cons id (record { moment = e; id = other }) (series other (e + t) t n) in
-    let none : cond {A = ℕ} (other == id) 1 0 ≡ 0 = ap (λ (b : Bool). cond {A = ℕ} b 1 0) (ne_eqb other id ne) in
-    let r = times_series_other id other (e + t) t n ne in omega (arith, a, none, r)
 
 -- what is due of one of these
 abbrev pub due_of_found : ℕ → Option CyclicState → ℕ

@@ -11,6 +11,7 @@ use Rattle.cyc_replay.specs.Words.{SetsBelowNever}
 use Rattle.cyc_types.specs.Tally.{TallyView}
 use Rattle.cyc_types.specs.contracts.tally.TallyCalls.TheImpl.{ghosts as tally_calls}
 use Rattle.cyc_types.specs.declared.refusal.Refusal.{Refusal}
+use Rattle.cyc_types.proofs.Facts.{both_true}
 use Rattle.cyc_core.specs.Tables.{Tables}
 use Rattle.cyc_cpu.specs.Soft.{raise_tables, Interrupts}
 use Rattle.cyc_system.specs.System.{SystemView, running_system}
@@ -67,10 +68,6 @@ early now (Offline n) fits = tt
 early now (Online n) fits = tt
 early now Suspend fits = tt
 early now Resume fits = tt
-
-both_true : (a b : Bool) → (a && b) ≡ true → (a ≡ true) × (b ≡ true)
-both_true true b is = (refl, is)
-both_true false b is = absurd (let no : false ≡ true = is in cc)
 
 -- each step of a script sets the clock below never
 pub before_never : (now : ℕ) (steps : List Step) → moments_fit now steps ≡ true → (i : ℕ) (x : Step) → i < length steps

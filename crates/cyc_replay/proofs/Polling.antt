@@ -35,13 +35,7 @@ use Rattle.cyc_replay.proofs.SystemRemoving.{polls_on}
 use Rattle.cyc_replay.proofs.Answering.{same_with, same_open, nowhere, forgotten_shows, all_expired, all_lost}
 use Rattle.cyc_replay.proofs.Answering.{counts_left}
 use Rattle.cyc_replay.proofs.SystemAdvancing.{each_append}
-
-open_is : (id : ℕ) (c : Cpu) → is_open id c ≡ true → c.removal ≡ Some id
-open_is id c h = by c.removal h
-  where
-    by : (r : Option ℕ) → option_map_or (λ busy. busy == id) r false ≡ true → r ≡ Some id
-    by None e = absurd (let isnt : false ≡ true = e in cc)
-    by (Some j) e = ap Some (eqb-true j id e)
+use Rattle.cyc_model.proofs.Answering.{open_is}
 
 -- ---- no poll puts anything in
 

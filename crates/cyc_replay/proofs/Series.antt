@@ -15,6 +15,7 @@ use Rattle.cyc_model.specs.Places.{id_of}
 use Rattle.cyc_model.specs.Bind.{cyclic_is_absent}
 use Rattle.cyc_model.specs.Reprogram.{reprogram_refusal, cpu_refusals}
 use Rattle.cyc_types.specs.Reasons.{first_refusal, when}
+use Rattle.cyc_types.proofs.Facts.{so_true}
 use Rattle.cyc_model.specs.Refusals.{bad_when, magnitude}
 use Rattle.cyc_replay.specs.SystemWords.{IsSeries, IsMoment}
 
@@ -66,10 +67,6 @@ reprogram_nobody r s moment is none =
     is.0 ∙ none
 
 -- ---- what is none
-
-so_true : (b : Bool) → T b → b ≡ true
-so_true true t = refl
-so_true false t = absurd t
 
 pub is_below : (z : ℤ) (k : ℕ) → z <ℤ pos k → int_lt z (pos k) ≡ true
 is_below z k low = so_true _ low.lt

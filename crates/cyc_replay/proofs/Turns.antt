@@ -23,6 +23,7 @@ use Rattle.cyc_cpu_model.specs.Answers.{IsRefused}
 use Rattle.cyc_words.specs.declared.answer.WordAnswer.TheVariants.{Juggled}
 use Rattle.cyc_words.specs.Words.{word_answer, done}
 use Rattle.cyc_replay.specs.WordLines.{word_line}
+pub use Rattle.cyc_model.proofs.Known.{same_each}
 
 -- the cyclics of the CPU had their turns, with this report; or both refuse, for one reason
 abbrev pub Juggles : ℕ → Result JuggleReport Refusal → State → Machine → Type 0
@@ -106,9 +107,3 @@ offline_takes texts step n (Err e) line s m is other (why, h) =
     (truly_refused e (refusal_of plain (steps.Offline n) s) (λ memory. other (ap Err memory)) why) is h
 
 -- ---- what each of several does
-
--- where none of them changes where cyclics are, all leave it
-pub same_each : {A : Type 0} → (f : A → State → Outcome) → ((x : A) (s : State) → (f x s).state.placed ≡ s.placed) → (xs : List A)
-    (s : State) → (each f xs s).state.placed ≡ s.placed
-same_each f keeps [] s = refl
-same_each f keeps (x ∷ xs) s = same_each f keeps xs (f x s).state ∙ keeps x s

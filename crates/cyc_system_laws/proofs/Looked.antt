@@ -43,7 +43,7 @@ use Rattle.cyc_system.specs.Calls.{ReprogramOn, Juggle, Offline, Online, FireOne
 use Rattle.cyc_system_laws.specs.Keeping.{TouchesRecord}
 
 -- a change that neither the test nor the measure sees
-look_set : {A B : Type 0} (p : A → Bool) (h : A → B) (d : B) (xs : List A) (k : ℕ) (x y : A) → slice_get xs k ≡ Some x
+pub look_set : {A B : Type 0} (p : A → Bool) (h : A → B) (d : B) (xs : List A) (k : ℕ) (x y : A) → slice_get xs k ≡ Some x
     → p y ≡ p x → h y ≡ h x
     → option_map_or h (find p (slice_set xs k y)) d ≡ option_map_or h (find p xs) d
 look_set p h d [] k x y is a b = refl
@@ -60,7 +60,7 @@ look_set p h d (z ∷ xs) (suc k) x y is a b = by (p z) (look_set p h d xs k x y
     by true rest = refl
     by false rest = rest
 
-look_map : {A B : Type 0} (p : A → Bool) (h : A → B) (d : B) (f : A → A) → ((x : A) → p (f x) ≡ p x)
+pub look_map : {A B : Type 0} (p : A → Bool) (h : A → B) (d : B) (f : A → A) → ((x : A) → p (f x) ≡ p x)
     → ((x : A) → h (f x) ≡ h x) → (xs : List A)
     → option_map_or h (find p (map f xs)) d ≡ option_map_or h (find p xs) d
 look_map p h d f a b [] = refl
@@ -72,7 +72,7 @@ look_map p h d f a b (x ∷ xs) = ap (λ t. option_map_or h (cond t (Some (f x))
     by true rest = b x
     by false rest = rest
 
-find_more : {A : Type 0} (p : A → Bool) (xs : List A) (x : A) → p x ≡ false → find p (xs ++ x ∷ []) ≡ find p xs
+pub find_more : {A : Type 0} (p : A → Bool) (xs : List A) (x : A) → p x ≡ false → find p (xs ++ x ∷ []) ≡ find p xs
 find_more p [] x fails = ap (λ t. cond t (Some x) None) fails
 find_more p (z ∷ xs) x fails = ap (λ o. cond (p z) (Some z) o) (find_more p xs x fails)
 

@@ -12,6 +12,7 @@ use Rattle.cyc_types.specs.declared.level.Soft.{Soft}
 use Rattle.cyc_types.specs.declared.refusal.Refusal.{Refusal}
 use Rattle.cyc_types.specs.declared.refusal.Refusal.TheVariants.{Suspended, NotSuspended}
 use Rattle.cyc_types.specs.Reasons.{first_refusal, when}
+use Rattle.cyc_types.proofs.Facts.{not_false}
 use Rattle.cyc_soft.specs.declared.Ran.{Ran}
 use Rattle.cyc_soft.specs.declared.SoftRefused.{SoftRefused}
 use Rattle.cyc_timers.specs.declared.fire.Fired.{Fired}
@@ -60,10 +61,6 @@ passed_false false why is = refl
 not_true : (b : Bool) → not b ≡ true → b ≡ false
 not_true true e = absurd (false≢true e)
 not_true false e = refl
-
-not_false : (b : Bool) → not b ≡ false → b ≡ true
-not_false true e = refl
-not_false false e = absurd (false≢true (sym e))
 
 module _ {R : Type 0} (firing : Raise R) where
   -- a system has a CPU

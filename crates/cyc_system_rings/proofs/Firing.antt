@@ -9,6 +9,7 @@ use Rattle.std.proofs.lemmas.Option.{slice_get_within}
 use Rattle.cyc_types.specs.declared.Calls.{Ghosts as Calls}
 use Rattle.cyc_types.specs.declared.Raise.{Ghosts as Raise}
 use Rattle.cyc_types.specs.Series.{never, late, due}
+use Rattle.cyc_types.proofs.Facts.{lt_true}
 use Rattle.cyc_timers.specs.Rows.{Cyclic}
 use Rattle.cyc_timers.specs.declared.fire.Fired.{Fired}
 use Rattle.cyc_timers.specs.declared.fire.FireRefused.{FireRefused}
@@ -36,9 +37,6 @@ use Rattle.cyc_system_rings.proofs.Singles.{of_stay}
 use Rattle.cyc_system_rings.proofs.Runs.{if_fired, all_fired, all_asked, asked_cyclics, no_cyclic_off}
 use Rattle.cyc_system_rings.proofs.Components.{plus_on}
 use Rattle.cyc_system_rings.proofs.Quiet.{IsQuiet}
-
-lt_true : (a b : ℕ) → a < b → nat_lt a b ≡ true
-lt_true a b h = grind (arith, nat_tests)
 
 -- what is due at no moment isn't due before never
 due_never : (interval now : ℕ) → now < never → due never interval now ≡ 0

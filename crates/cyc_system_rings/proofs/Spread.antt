@@ -50,6 +50,7 @@ use Rattle.cyc_system_rings.specs.Events.{given_everywhere}
 use Rattle.cyc_system_rings.proofs.Singles.{ok_err, find_end}
 use Rattle.cyc_system_rings.proofs.Beside.{IsPlain, removals_same, online_after, HereNeeds, here_may, here_same, single_has}
 use Rattle.cyc_system_rings.proofs.Beside.{not_there, found_at}
+use Rattle.cyc_expected.proofs.Spread.{components_long}
 
 -- ---- the component on a CPU
 
@@ -81,10 +82,6 @@ components_at k e now (false ∷ ups) zero = refl
 components_at k e now (up ∷ ups) (suc n) = components_at (k + 1) e now ups n
     ∙ (let z : k + 1 + n ≡ k + suc n = omega arith in
     ap (λ (j : ℕ). cond (option_map_or (λ (up : Bool). up) (slice_get ups n) false) (Some (component_begins_at j e now)) None) z)
-
-components_long : (k : ℕ) (e : Everywhere) (now : ℕ) (ups : List Bool) → length (components_from k e now ups) ≡ length ups
-components_long k e now [] = refl
-components_long k e now (up ∷ ups) = let a = components_long (k + 1) e now ups in omega (arith, a)
 
 -- what is seen of a cyclic: its next expiration and its interval
 abbrev pub seen : Cyclic → ℕ × ℕ

@@ -41,7 +41,7 @@ use Rattle.cyc_thread_calls.proofs.Fitting.{same_records}
 use Rattle.cyc_thread_calls.proofs.Waiting.{IsCalmNow}
 use Rattle.cyc_thread_calls.proofs.Moving.{none_removed}
 
-none_busy : {R : Type 0} (s : SystemView R) (ns : List ℕ) → AllStill s.cpus
+pub none_busy : {R : Type 0} (s : SystemView R) (ns : List ℕ) → AllStill s.cpus
     → first_refusal (map (λ (n : ℕ). busy (removal_on n s.cpus)) ns) ≡ None
 none_busy s [] still = refl
 none_busy s (n ∷ ns) still = passes (busy (removal_on n s.cpus)) (map (λ (m : ℕ). busy (removal_on m s.cpus)) ns) None

@@ -6,6 +6,7 @@ use Rattle.std.specs.List.{FoldsTo}
 use Rattle.cyc_types.specs.declared.Calls.{Ghosts as Calls}
 use Rattle.cyc_types.specs.declared.Raise.{Ghosts as Raise}
 use Rattle.cyc_types.specs.declared.level.Level.{Level}
+pub use Rattle.cyc_types.proofs.Facts.{both_true}
 use Rattle.cyc_threads.proofs.Lists.{true_eq, eq_true, false_ne}
 use Rattle.cyc_threads.proofs.Spots.{same_some, none_some}
 use Rattle.cyc_script.specs.declared.step.Step.{Step}
@@ -54,10 +55,6 @@ not_some None no_one = refl
 not_some (Some level) no_one = absurd (no_one level refl)
 
 -- ---- the level of a name in a script
-
-pub both_true : (a b : Bool) → (a && b) ≡ true → (a ≡ true) × (b ≡ true)
-both_true true b e = (refl, e)
-both_true false b e = absurd (let odd : false ≡ true = e in cc)
 
 -- a name that comes later has a greater number
 named_before : (name k : ℕ) (xs : List Step) → names_fit k xs ≡ true → name < k → level_named name xs ≡ None

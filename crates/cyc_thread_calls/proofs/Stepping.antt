@@ -12,6 +12,7 @@ use Rattle.cyc_types.specs.Limits.{cyclics as most_cyclics, last_id}
 use Rattle.cyc_types.specs.declared.moment.When.{When}
 use Rattle.cyc_types.specs.declared.refusal.Refusal.{Refusal}
 use Rattle.cyc_types.specs.declared.refusal.Refusal.TheVariants as why
+use Rattle.cyc_types.proofs.Facts.{so_true}
 use Rattle.cyc_script.specs.declared.step.Step.{Step}
 use Rattle.cyc_script.specs.declared.step.Add.{Add as AddStep}
 use Rattle.cyc_script.specs.declared.step.Omni.{Omni as OmniStep}
@@ -42,10 +43,6 @@ use Rattle.cyc_thread_calls.proofs.Moving.{stays_same}
 
 -- ---- numbers of a step
 
-so_true : (b : Bool) → T b → b ≡ true
-so_true true t = refl
-so_true false t = absurd t
-
 not_under : (n : ℕ) → int_lt (pos n) (pos 0) ≡ false
 not_under n = grind (arith, nat_tests)
 
@@ -58,7 +55,7 @@ series_of start interval when a b long =
     (λ i. is_series (sym a i) (sym b i))
     ∙ (λ i. not (not_under when.start i) && not (not_short when.interval long i))
 
-no_series_of : (start interval : ℤ) → (start <ℤ pos 0) ⊎ (interval <ℤ pos 1) → is_series start interval ≡ false
+pub no_series_of : (start interval : ℤ) → (start <ℤ pos 0) ⊎ (interval <ℤ pos 1) → is_series start interval ≡ false
 no_series_of start interval (inl low) = ap (λ b. not b && not (int_lt interval (pos 1))) (so_true _ low.lt)
 no_series_of start interval (inr low) = by (int_lt start (pos 0)) (so_true _ low.lt)
   where

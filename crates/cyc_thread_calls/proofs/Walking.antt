@@ -13,6 +13,7 @@ use Rattle.cyc_types.specs.declared.Calls.{Ghosts as Calls}
 use Rattle.cyc_types.specs.declared.Raise.{Ghosts as Raise}
 use Rattle.cyc_types.specs.Limits.{cyclics as most_cyclics}
 use Rattle.cyc_types.specs.Series.{never}
+use Rattle.cyc_types.proofs.Facts.{lt_so}
 use Rattle.cyc_script.specs.declared.step.Step.{Step}
 use Rattle.cyc_script.specs.declared.step.Step.TheVariants as steps
 use Rattle.cyc_script.specs.WellFormed.{names_fit, names_after_all, moments_fit}
@@ -33,9 +34,6 @@ use Rattle.cyc_thread_calls.proofs.Stepping.{NextCalm, add_next, omni_next}
 use Rattle.cyc_thread_calls.proofs.Ending.{remove_ended, advance_fits, advance_calm}
 use Rattle.cyc_thread_calls.proofs.Agreeing.{same_has, set_fits, marks_stay, Spaced, both, memory_split, more_names, stays_next}
 use Rattle.cyc_thread_calls.proofs.Agreeing.{reprogram_next, back_stays}
-
-lt_so : (a b : ℕ) → nat_lt a b ≡ true → a < b
-lt_so a b e = grind (arith, nat_tests, e)
 
 module _ {C R : Type 0} (handler : Calls C)
     (firing : Raise R) (cpus names : ℕ) (few : names ≤ most_cyclics) where

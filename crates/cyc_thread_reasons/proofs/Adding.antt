@@ -15,6 +15,7 @@ use Rattle.cyc_types.specs.declared.level.Level.{Level}
 use Rattle.cyc_types.specs.declared.moment.When.{When}
 use Rattle.cyc_types.specs.declared.refusal.Refusal.{Refusal}
 use Rattle.cyc_types.specs.declared.refusal.Refusal.TheVariants as why
+use Rattle.cyc_types.proofs.Facts.{so_true}
 use Rattle.cyc_places.specs.declared.record.Placement.TheVariants.{On, Everywhere}
 use Rattle.cyc_script.specs.declared.step.Add.{Add as AddStep}
 use Rattle.cyc_script.specs.declared.step.Omni.{Omni as OmniStep}
@@ -47,18 +48,7 @@ use Rattle.cyc_thread_reasons.proofs.Naming.{until_not}
 use Rattle.cyc_thread_reasons.proofs.Full.{IsFull, add_why, omni_why}
 use Rattle.cyc_thread_reasons.proofs.Crowding.{number_online, all_full}
 use Rattle.cyc_thread_reasons.proofs.Room.{full_told, one_too_many}
-
-so_true : (b : Bool) → T b → b ≡ true
-so_true true t = refl
-so_true false t = absurd t
-
-no_series_of : (start interval : ℤ) → (start <ℤ pos 0) ⊎ (interval <ℤ pos 1) → is_series start interval ≡ false
-no_series_of start interval (inl low) = ap (λ b. not b && not (int_lt interval (pos 1))) (so_true _ low.lt)
-no_series_of start interval (inr low) = by (int_lt start (pos 0)) (so_true _ low.lt)
-  where
-    by : (b : Bool) → int_lt interval (pos 1) ≡ true → (not b && not (int_lt interval (pos 1))) ≡ false
-    by true e = refl
-    by false e = ap not e
+use Rattle.cyc_thread_calls.proofs.Stepping.{no_series_of}
 
 -- one of several passes
 any_after : (test : ℕ → Bool) (before rest : List ℕ) (n : ℕ) → test n ≡ true → list_any test (before ++ n ∷ rest) ≡ true

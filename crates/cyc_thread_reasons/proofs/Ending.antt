@@ -40,12 +40,7 @@ use Rattle.cyc_thread_reasons.proofs.Whereabouts.{stands, stands_same, stands_as
 use Rattle.cyc_thread_reasons.proofs.Fitting.{given_of, Fits, base_call, fits_same, fits_set, sets_own}
 use Rattle.cyc_thread_reasons.proofs.Waiting.{Calm, not_here}
 use Rattle.cyc_thread_reasons.proofs.Outcomes.{Outcome, taken, refused, fits_as, calm_as}
-
-none_busy : {R : Type 0} (s : SystemView R) (ns : List ℕ) → AllStill s.cpus
-    → first_refusal (map (λ (n : ℕ). busy (removal_on n s.cpus)) ns) ≡ None
-none_busy s [] still = refl
-none_busy s (n ∷ ns) still = passes (busy (removal_on n s.cpus)) (map (λ (m : ℕ). busy (removal_on m s.cpus)) ns) None
-    (ap busy (none_removed s.cpus n still)) (none_busy s ns still)
+use Rattle.cyc_thread_calls.proofs.Ending.{none_busy}
 
 cyclic_stays : {named : Named} {id : ℕ} → has_open_removal named ≡ true → named ≡ Cyclic id → ⊥
 cyclic_stays leaves e = (let odd : false ≡ true = sym (ap has_open_removal e) ∙ leaves in cc)

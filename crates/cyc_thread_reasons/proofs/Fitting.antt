@@ -22,6 +22,7 @@ use Rattle.cyc_thread_calls.proofs.Fitting.{set_here, set_beside}
 use Rattle.cyc_thread_reasons.specs.Known.{Whereabouts, Absent, Known, name_has}
 use Rattle.cyc_thread_reasons.specs.Reasons.{is_there}
 use Rattle.cyc_thread_reasons.proofs.Whereabouts.{stands, SameStands}
+pub use Rattle.cyc_thread_calls.proofs.Fitting.{name_low}
 
 -- what the system has of what a name has
 abbrev pub given_of : {R : Type 0} → Named → SystemView R → Whereabouts
@@ -43,11 +44,6 @@ cyclic_of Nothing id has stays = absurd (none_some has)
 cyclic_of (Cyclic own) id has stays = ap Cyclic (same_some has)
 cyclic_of (Leaving own) id has stays = absurd (let odd : true ≡ false = stays in cc)
 cyclic_of (Removed receipt) id has stays = absurd (none_some has)
-
-pub name_low : (names : List Named) (name id : ℕ) → cyclic_id (named_at names name) ≡ Some id → name < length names
-name_low names name id has = dite (ℕ_discrete (length names - name) 0)
-    (λ z. absurd (none_some (sym (ap cyclic_id (get_or_past names name Nothing (omega (arith, z)))) ∙ has)))
-    (λ p. omega (arith, p))
 
 module _ {C R : Type 0} (firing : Raise R) (names : ℕ) where
   -- Of so many names so many were introduced, and what the accepted steps told of the CPUs and of the names is so.

@@ -9,6 +9,7 @@ use mathlib.Core.Logic.{dite}
 use native.Mathlib.Decide.{ℕ_discrete}
 use Rattle.cyc_types.specs.declared.Raise.{Ghosts as Raise}
 use Rattle.cyc_types.specs.Limits.{cyclics as most_cyclics}
+use Rattle.cyc_types.proofs.Facts.{lt_true}
 use Rattle.cyc_cpu.specs.Cpu.{CpuView}
 use Rattle.cyc_places.specs.declared.record.Placement.{Placement}
 use Rattle.cyc_places.specs.declared.record.Placement.TheVariants.{On, Everywhere}
@@ -129,9 +130,6 @@ may_stand n (Everywhere first skew) same = refl
 
 le_then : (a b c : ℕ) → a ≤ b → b ≤ c → a ≤ c
 le_then a b c l m = omega (arith, l, m)
-
-lt_true : (a b : ℕ) → a < b → nat_lt a b ≡ true
-lt_true a b h = grind (arith, nat_tests, h)
 
 module _ {C R : Type 0} (firing : Raise R) (names given : ℕ) (told : Known) (p : Progress R C)
     (h : Fits firing names given told p) (none : NoneLeaves p.names) (sound : IsSound firing.view p.side.system) where

@@ -10,6 +10,7 @@ use Rattle.std.proofs.lemmas.Bool.Decides.{nat_tests}
 use Rattle.cyc_types.specs.declared.Calls.{Ghosts as Calls}
 use Rattle.cyc_types.specs.declared.Raise.{Ghosts as Raise}
 use Rattle.cyc_types.specs.Series.{never}
+use Rattle.cyc_types.proofs.Facts.{lt_so}
 use Rattle.cyc_script.specs.declared.step.Step.{Step}
 use Rattle.cyc_script.specs.declared.step.Step.TheVariants as steps
 use Rattle.cyc_script.specs.WellFormed.{name_fits, names_after, names_fit, names_after_all, moment_fits, moment_after}
@@ -35,9 +36,6 @@ use Rattle.cyc_thread_reasons.proofs.Naming.{bind_of, unbind_of, idle}
 use Rattle.cyc_thread_reasons.proofs.Resetting.{reset_of}
 use Rattle.cyc_thread_reasons.proofs.Ending.{remove_of, advance_fits, advance_calm}
 use Rattle.cyc_thread_reasons.proofs.Numbering.{juggle_of, offline_of, online_of}
-
-lt_so : (a b : ℕ) → nat_lt a b ≡ true → a < b
-lt_so a b e = grind (arith, nat_tests, e)
 
 one_name : (k : ℕ) (x : Step) → names_after k x ≤ k + 1
 one_name k (steps.Add a) = omega arith

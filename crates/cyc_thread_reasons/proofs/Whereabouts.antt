@@ -48,6 +48,7 @@ use Rattle.cyc_thread_calls.specs.Calls.{SystemCall, Changes, Add, AddOmni, Bind
 use Rattle.cyc_thread_calls.specs.Calls.{ReprogramOn, Juggle, Offline, Online}
 use Rattle.cyc_thread_reasons.specs.Known.{Whereabouts, Absent, OnOne, OnAll}
 use Rattle.cyc_thread_reasons.specs.Reasons.{is_there, has_components}
+use Rattle.cyc_system_laws.proofs.Looked.{find_more, look_map, look_set}
 
 abbrev pub whereabouts_of : Placement → Whereabouts
 whereabouts_of (On n false) = OnOne None
@@ -124,45 +125,12 @@ record_there (x ∷ rs) id here = by (x.id == id) refl here (record_there rs id)
     by true is h rest = (0, x, refl, eq_true x.id id is)
     by false is h rest = let (k, r, at, named) = rest h in (suc k, r, at, named)
 
-look_set : {A B : Type 0} (p : A → Bool) (h : A → B) (d : B) (xs : List A) (k : ℕ) (x y : A) → slice_get xs k ≡ Some x
-    → p y ≡ p x → h y ≡ h x
-    → option_map_or h (find p (slice_set xs k y)) d ≡ option_map_or h (find p xs) d
-look_set p h d [] k x y is a b = refl
-look_set p h d (z ∷ xs) zero x y is a b = ap (λ t. option_map_or h (cond t (Some y) (find p xs)) d)
-    (a ∙ ap p (sym (same_some is))) ∙ by (p z)
-  where
-    by : (t : Bool) → option_map_or h (cond t (Some y) (find p xs)) d ≡ option_map_or h (cond t (Some z) (find p xs)) d
-    by true = b ∙ ap h (sym (same_some is))
-    by false = refl
-look_set p h d (z ∷ xs) (suc k) x y is a b = by (p z) (look_set p h d xs k x y is a b)
-  where
-    by : (t : Bool) → option_map_or h (find p (slice_set xs k y)) d ≡ option_map_or h (find p xs) d
-        → option_map_or h (cond t (Some z) (find p (slice_set xs k y))) d ≡ option_map_or h (cond t (Some z) (find p xs)) d
-    by true rest = refl
-    by false rest = rest
-
 find_beside : {A : Type 0} (p : A → Bool) (xs : List A) (k : ℕ) (x y : A) → slice_get xs k ≡ Some x → p x ≡ false
     → p y ≡ false → find p (slice_set xs k y) ≡ find p xs
 find_beside p [] k x y is a b = refl
 find_beside p (z ∷ xs) zero x y is a b = ap (λ t. cond t (Some y) (find p xs)) b
     ∙ sym (ap (λ t. cond t (Some z) (find p xs)) (ap p (same_some is) ∙ a))
 find_beside p (z ∷ xs) (suc k) x y is a b = ap (λ o. cond (p z) (Some z) o) (find_beside p xs k x y is a b)
-
-look_map : {A B : Type 0} (p : A → Bool) (h : A → B) (d : B) (f : A → A) → ((x : A) → p (f x) ≡ p x)
-    → ((x : A) → h (f x) ≡ h x) → (xs : List A)
-    → option_map_or h (find p (map f xs)) d ≡ option_map_or h (find p xs) d
-look_map p h d f a b [] = refl
-look_map p h d f a b (x ∷ xs) = ap (λ t. option_map_or h (cond t (Some (f x)) (find p (map f xs))) d) (a x)
-    ∙ by (p x) (look_map p h d f a b xs)
-  where
-    by : (t : Bool) → option_map_or h (find p (map f xs)) d ≡ option_map_or h (find p xs) d
-        → option_map_or h (cond t (Some (f x)) (find p (map f xs))) d ≡ option_map_or h (cond t (Some x) (find p xs)) d
-    by true rest = b x
-    by false rest = rest
-
-find_more : {A : Type 0} (p : A → Bool) (xs : List A) (x : A) → p x ≡ false → find p (xs ++ x ∷ []) ≡ find p xs
-find_more p [] x fails = ap (λ t. cond t (Some x) None) fails
-find_more p (z ∷ xs) x fails = ap (λ o. cond (p z) (Some z) o) (find_more p xs x fails)
 
 module _ (id : ℕ) where
   -- a record that has the same whereabouts

@@ -14,7 +14,7 @@ use Rattle.cyc_types.specs.declared.firing.Raised.TheVariants.{First, More, Lost
 use Rattle.cyc_types.specs.declared.level.Level.{Level}
 use Rattle.cyc_types.specs.Expirations.{Expiration, after_expirations, all_after}
 use Rattle.cyc_types.specs.Timers.{Timer, HasDistinctIds}
-use Rattle.cyc_types.proofs.Firings.{Firing}
+use Rattle.cyc_types.proofs.Firing, after_ids.{Firing, after_id}
 use Rattle.cyc_types.specs.Counting.{no_counts}
 use Rattle.cyc_timers.specs.Rows.{Row, Cyclic, IsRow, IsRising, timers_of, cyclic_of, cyclics_of}
 use Rattle.cyc_timers.specs.Acts.{
@@ -106,10 +106,6 @@ distinct rows rising i j d low_i low_j same =
         | inr more ↦ let h = rising j i e (omega (arith, more, ne)) li in absurd (omega (arith, h, a, b, same))
       ]
     ]
-
-after_id : (now : ℕ) (made : List Expiration) (o : Timer) → (after_expirations now made o).id ≡ o.id
-unfolding after_expirations
-after_id now made o = refl
 
 pub length-all : (now : ℕ) (made : List Expiration) (ts : List Timer) → length (all_after now made ts) ≡ length ts
 unfolding all_after

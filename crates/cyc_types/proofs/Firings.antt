@@ -177,7 +177,7 @@ after_other now made p o other h =
       },
     )
 
-after_id : (now : ℕ) (made : List Expiration) (o : Timer) → (after_expirations now made o).id ≡ o.id
+pub after_id : (now : ℕ) (made : List Expiration) (o : Timer) → (after_expirations now made o).id ≡ o.id
 unfolding after_expirations
 after_id now made o = refl
 

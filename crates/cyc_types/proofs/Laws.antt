@@ -66,7 +66,7 @@ pub count_expirations : (now : ℕ) (ts : List Timer) (f : Expiration → Bool)
 unfolding expirations
 count_expirations now ts f = count_ascending f (flat_map (due_of now) ts)
 
-times_cons : (id : ℕ) (p : Expiration) (xs : List Expiration) → times_of id (p ∷ xs) ≡ cond (p.id == id) 1 0 + times_of id xs
+pub times_cons : (id : ℕ) (p : Expiration) (xs : List Expiration) → times_of id (p ∷ xs) ≡ cond (p.id == id) 1 0 + times_of id xs
 times_cons id p xs = count_cons (λ (q : Expiration). q.id == id) p xs
 
 times_ascending : (id : ℕ) (xs : List Expiration) → times_of id (ascending xs) ≡ times_of id xs
@@ -75,7 +75,7 @@ times_ascending id xs = count_ascending (λ (q : Expiration). q.id == id) xs
 abbrev tally : Bool → ℕ
 tally b = cond b 1 0
 
-times_series : (id e t n : ℕ) → times_of id (series id e t n) ≡ n
+pub times_series : (id e t n : ℕ) → times_of id (series id e t n) ≡ n
 times_series id e t zero = refl
 times_series id e t (suc n) =
     let a = times_cons id (record { moment = e; id = id }) (series id (e + t) t n) in
@@ -83,7 +83,7 @@ times_series id e t (suc n) =
     let one : tally (id == id) ≡ 1 = ap tally yes in
     let r = times_series id (e + t) t n in omega (arith, a, one, r)
 
-times_series_other : (id other e t n : ℕ) → other ≢ id → times_of id (series other e t n) ≡ 0
+pub times_series_other : (id other e t n : ℕ) → other ≢ id → times_of id (series other e t n) ≡ 0
 times_series_other id other e t zero ne = refl
 times_series_other id other e t (suc n) ne =
     let a = times_cons id (record { moment = e; id = other }) (series other (e + t) t n) in
