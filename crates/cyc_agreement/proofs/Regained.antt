@@ -15,7 +15,7 @@ use Rattle.cyc_cpu.specs.Cpu.{CpuView, HasRisingCyclics}
 use Rattle.cyc_places.specs.declared.record.Placement.{Placement}
 use Rattle.cyc_places.specs.declared.record.Placement.TheVariants.{On, Everywhere}
 use Rattle.cyc_places.specs.declared.record.Record.{Record}
-use Rattle.cyc_places.specs.Places.{IsRecord, HasRisingCyclics as RecordsRise, ended_on}
+use Rattle.cyc_places.specs.Places.{IsRecord, HasRisingIds as RecordsRise, ended_on}
 use Rattle.cyc_agreement.specs.Cpus.{CpusView, OfCpu, DoesAt, Works}
 use Rattle.cyc_agreement.proofs.CpuSpots.{get_set_other}
 use Rattle.cyc_agreement.specs.System.{SystemView, is_online, is_everywhere}

@@ -5,7 +5,7 @@ use Rattle.cyc_types.specs.declared.level.Level.TheVariants as level
 use Rattle.cyc_types.specs.declared.level.Soft.{Soft}
 use Rattle.cyc_types.specs.declared.level.Soft.TheVariants as soft
 use Rattle.cyc_types.specs.declared.refusal.Refusal.TheVariants as why
-use Rattle.cyc_types.specs.Refusals.{number_of_refusal as refusal_number}
+use Rattle.cyc_types.specs.Refusals.{number_of as refusal_number}
 use Rattle.cyc_border.specs.declared.numbers.Denied.{Denied}
 use Rattle.cyc_border.specs.declared.numbers.Denied.TheVariants.{Misused, Taken, Refused}
 

@@ -12,7 +12,7 @@ use Rattle.cyc_types.specs.declared.level.Level.{Level}
 use Rattle.cyc_types.specs.declared.level.Level.TheVariants.{Low, Lock, High}
 use Rattle.cyc_level.specs.Level.{AdmittedCyclic, count, count_in}
 use Rattle.cyc_core.specs.Tables.{Tables, level_of}
-use Rattle.cyc_timers.specs.Rows.{CyclicState as Timed}
+use Rattle.cyc_timers.specs.Rows.{Cyclic as Timed}
 use Rattle.cyc_cpu.specs.Cpu.{CpuView, IsCyclic, HasNoCyclic, HasRisingCyclics}
 use Rattle.cyc_cpu_model.specs.Tied.{HasOwn, IsTied}
 use Rattle.cyc_cpu.specs.Soft.{raise_tables}

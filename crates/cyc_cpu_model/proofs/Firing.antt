@@ -13,12 +13,12 @@ use Rattle.cyc_types.specs.declared.level.Level.TheVariants.{Low, Lock, High}
 use Rattle.cyc_types.specs.declared.level.Soft.{Soft}
 use Rattle.cyc_types.specs.declared.level.Soft.TheVariants as soft
 use Rattle.cyc_level.specs.declared.Event.{Event}
-use Rattle.cyc_level.specs.Events.{after_expirations as event_after}
+use Rattle.cyc_level.specs.Events.{after as event_after}
 use Rattle.cyc_types.specs.Expirations.{Expiration, expirations, times_of, after_expirations, all_after}
 use Rattle.cyc_types.specs.Timers.{Timer}
 use Rattle.cyc_types.proofs.Laws.{times_others}
 use Rattle.cyc_core.specs.Tables.{Tables, level_of}
-use Rattle.cyc_timers.specs.Rows.{CyclicState as Timed, timers_on as timed}
+use Rattle.cyc_timers.specs.Rows.{Cyclic as Timed, timers as timed}
 use Rattle.cyc_timers.specs.Acts.{ids_at, is_at, is_of_level as is_of_level, timer_of, same_level, lost_after, acting}
 use Rattle.cyc_timers.specs.Made.{Makes, fire_state}
 use Rattle.cyc_cpu.specs.Cpu.{CpuView, SameCpu}

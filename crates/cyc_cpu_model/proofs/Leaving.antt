@@ -10,9 +10,9 @@ use Rattle.cyc_types.specs.declared.level.Level.{Level}
 use Rattle.cyc_types.specs.declared.level.Level.TheVariants.{Low, Lock, High}
 use Rattle.cyc_level.specs.declared.Event.TheVariants.{Mark, Clear}
 use Rattle.cyc_core.specs.Tables.{Tables}
-use Rattle.cyc_timers.specs.Rows.{CyclicState as Timed}
+use Rattle.cyc_timers.specs.Rows.{Cyclic as Timed}
 use Rattle.cyc_timers.specs.Acts.{same_level}
-use Rattle.cyc_cpu.specs.Cpu.{CpuView, HasRisingCyclics, IsCyclic, cyclic_at as timed_with}
+use Rattle.cyc_cpu.specs.Cpu.{CpuView, HasRisingCyclics, IsCyclic, with_moment as timed_with}
 use Rattle.cyc_cpu.specs.Removal.{Leaves, Opens}
 use Rattle.cyc_cpu.specs.Soft.{raise_tables}
 use Rattle.cyc_model.specs.Acts.{at_own}

@@ -1,6 +1,6 @@
 -- A CPU over levels that no other thread uses, as the definition of a script has it.
 use Rattle.std.specs.Prelude.{Bool, map}
-use Rattle.cyc_timers.specs.Rows.{CyclicState as Timed}
+use Rattle.cyc_timers.specs.Rows.{Cyclic as Timed}
 use Rattle.cyc_core.specs.Tables.{Tables, level_of}
 use Rattle.cyc_cpu.specs.Cpu.{CpuView}
 use Rattle.cyc_model.specs.Cpu.{CyclicState, Cpu}

@@ -9,11 +9,11 @@ use Rattle.cyc_core.specs.Tables.{Tables}
 use Rattle.cyc_cpu.specs.Cpu.{CpuView}
 use Rattle.cyc_places.specs.declared.record.Record.{Record}
 use Rattle.cyc_places.specs.Places.{IsRecord, HasRisingIds, ended_on}
-use Rattle.cyc_system.specs.Cpus.{cpus_from as online_from}
+use Rattle.cyc_system.specs.Cpus.{numbers_from as online_from}
 use Rattle.cyc_system.specs.System.{SystemView, ids_of, is_leaving_here}
 use Rattle.cyc_system.proofs.Spots.{same_some, none_some}
 use Rattle.cyc_system.proofs.Recording.{tail_rises}
-use Rattle.cyc_system.specs.Removing.{cpus_having as cpus_with_in, AnswersRemoval}
+use Rattle.cyc_system.specs.Removing.{cpus_with as cpus_with_in, AnswersRemoval}
 use Rattle.cyc_system.specs.Polling.{leaving_cpus}
 use Rattle.cyc_model.specs.Cpu.{Cpu, is_of, has_cyclic, cyclic_with_id}
 use Rattle.cyc_model.specs.Questions.{outstanding_here}

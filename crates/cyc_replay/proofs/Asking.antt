@@ -14,23 +14,15 @@ use Rattle.cyc_cpu.specs.Cpu.{CpuView}
 use Rattle.cyc_places.specs.declared.record.Placement.{Placement as RecordPlacement}
 use Rattle.cyc_places.specs.declared.record.Placement.TheVariants as placements
 use Rattle.cyc_places.specs.declared.record.Record.{Record}
-use Rattle.cyc_places.specs.Places.{HasRisingIds, is_placed_everywhere as everywhere_in}
-use Rattle.cyc_system.specs.System.{SystemView, ids_of, is_leaving_here, record_of, is_no_cyclic as unknown_in}
-use Rattle.cyc_system.specs.System.{is_being_removed as leaving_in, is_omni as omnipresent_in}
+use Rattle.cyc_places.specs.Places.{HasRisingIds, is_everywhere as everywhere_in}
+use Rattle.cyc_system.specs.System.{SystemView, ids_of, is_leaving_here, record_of, is_unknown as unknown_in}
+use Rattle.cyc_system.specs.System.{is_leaving as leaving_in, is_omnipresent as omnipresent_in}
 use Rattle.cyc_system.specs.Refusals as why
 use Rattle.cyc_system.specs.Binding.{HasPlacement, HasHome}
 use Rattle.cyc_system.proofs.Recording.{record_here}
 use Rattle.cyc_model.specs.Cpu.{Cpu, is_of, has_cyclic}
 use Rattle.cyc_model.specs.State.{State, Placement, Placed, absent}
-use Rattle.cyc_model.specs.Places.{
-  placement_of,
-  is_no_cyclic,
-  is_being_removed,
-  is_placed_everywhere,
-  is_omni,
-  is_bound_at,
-  is_bound,
-}
+use Rattle.cyc_model.specs.Places.{placement_of, is_no_cyclic, is_being_removed, is_placed_everywhere, is_omni, is_bound_at, is_bound}
 use Rattle.cyc_model.specs.Places.{home_at, home_of}
 use Rattle.cyc_types.specs.Reasons.{when, or_else}
 use Rattle.cyc_model.specs.Refusals.{is_no_cpu, cpu_is_offline, no_id_left}

@@ -12,7 +12,7 @@ use Rattle.cyc_text.specs.Lines.{refused}
 use Rattle.cyc_cpu_model.specs.Answers.{IsRefused}
 use Rattle.cyc_cpu.specs.Soft.{raise_tables}
 use Rattle.cyc_text.specs.declared.lines.Counts.{Counts}
-use Rattle.cyc_system.specs.Removing.{cpus_having as cpus_with_in}
+use Rattle.cyc_system.specs.Removing.{cpus_with as cpus_with_in}
 use Rattle.cyc_system.specs.SystemRemoval.{SystemRemoval}
 use Rattle.cyc_system.specs.SystemRemoval.TheVariants.{Done, Kept}
 use Rattle.cyc_script.specs.declared.step.Step.TheVariants.{Remove}

@@ -7,14 +7,9 @@ use Rattle.std.specs.Option.{option_map_or}
 use Rattle.std.proofs.lemmas.List.{length-map}
 use Rattle.cyc_core.specs.Tables.{Tables}
 use Rattle.cyc_cpu.specs.Cpu.{CpuView}
-use Rattle.cyc_system.specs.Cpus.{CpusView, cpus_from as online_from, cpus_online as online_in}
-use Rattle.cyc_system.specs.Destination.{
-  destination_of as destination_in,
-  smallest_cpu as fewest_in,
-  smaller_cpu as fewer_in,
-  cyclics_on as len_in,
-}
-use Rattle.cyc_system.specs.Destination.{is_other_cpu as is_not_in}
+use Rattle.cyc_system.specs.Cpus.{CpusView, numbers_from as online_from, online_cpus as online_in}
+use Rattle.cyc_system.specs.Destination.{destination as destination_in, fewest as fewest_in, fewer as fewer_in, len_of as len_in}
+use Rattle.cyc_system.specs.Destination.{is_not as is_not_in}
 use Rattle.cyc_model.specs.Cpu.{Cpu}
 use Rattle.cyc_model.specs.State.{State, absent, cpus_from, cpus_online}
 use Rattle.cyc_model.specs.Places.{destination_of, smallest_cpu, smaller_cpu, cyclics_on, is_other_cpu}

@@ -15,7 +15,7 @@ use Rattle.cyc_types.specs.declared.level.Level.TheVariants.{High}
 use Rattle.cyc_core.specs.Tables.{Tables}
 use Rattle.cyc_types.specs.Expirations.{times_of, expirations}
 use Rattle.cyc_types.specs.Timers.{Timer}
-use Rattle.cyc_timers.specs.Rows.{timers, CyclicState as Timed}
+use Rattle.cyc_timers.specs.Rows.{timers, Cyclic as Timed}
 use Rattle.cyc_timers.specs.Acts.{ids_at}
 use Rattle.cyc_timers.specs.declared.fire.Fired.{Fired}
 use Rattle.cyc_timers.specs.declared.fire.FireRefused.{FireRefused}

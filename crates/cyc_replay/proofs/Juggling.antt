@@ -7,7 +7,7 @@ use Rattle.std.specs.Option.{option_map_or}
 use Rattle.cyc_types.specs.declared.refusal.JuggleReport.{JuggleReport}
 use Rattle.cyc_types.specs.declared.refusal.Refusal.{Refusal}
 use Rattle.cyc_types.specs.declared.refusal.Refusal.TheVariants.{NoCpu, Offline, LastCpu}
-use Rattle.cyc_cpu_model.specs.Rows.{CyclicState as Timed}
+use Rattle.cyc_cpu_model.specs.Rows.{Cyclic as Timed}
 use Rattle.cyc_core.specs.Tables.{Tables}
 use Rattle.cyc_script.specs.declared.step.Step.TheVariants as steps
 use Rattle.cyc_text.specs.Lines.{moved}
@@ -17,8 +17,8 @@ use Rattle.cyc_system.specs.Agreement.{Agrees}
 use Rattle.cyc_system.specs.System.{SystemView, ids_of, ids_on}
 use Rattle.cyc_system.specs.Turn.{Turn as TurnThere}
 use Rattle.cyc_system.specs.Turn.TheVariants as there
-use Rattle.cyc_system.specs.Juggling.{Turns, MovesAway, counted_turn as counted_there, single_ids_of as single_there}
-use Rattle.cyc_system.specs.Juggling.{is_last_online as last_there, juggle_refusals}
+use Rattle.cyc_system.specs.Juggling.{Turns, MovesAway, counted as counted_there, single_ids as single_there}
+use Rattle.cyc_system.specs.Juggling.{last_cpu as last_there, juggle_refusals}
 use Rattle.cyc_system.specs.Calls.{Changes, Juggle}
 use Rattle.cyc_model.specs.Cpu.{CyclicState, Cpu}
 use Rattle.cyc_model.specs.Questions.{plain}

@@ -11,7 +11,7 @@ use Rattle.cyc_script.specs.declared.step.Softint.{Softint as SoftintStep}
 use Rattle.cyc_text.specs.Lines.{removed, ran}
 use Rattle.cyc_cpu.specs.Soft.{raise_tables}
 use Rattle.cyc_places.specs.declared.record.Record.{Record}
-use Rattle.cyc_system.specs.System.{SystemView, RunningSystem, is_being_removed as leaving_there}
+use Rattle.cyc_system.specs.System.{SystemView, RunningSystem, is_leaving as leaving_there}
 use Rattle.cyc_system.specs.Polling.{Polled, PollsOn, PollsEach, PollsRemoval, leaving_cpus}
 use Rattle.cyc_model.specs.Acts.{calls_of}
 use Rattle.cyc_model.specs.Cpu.{Cpu, cyclic_with_id}

@@ -15,8 +15,8 @@ use Rattle.cyc_cpu.specs.Soft.{raise_tables}
 use Rattle.cyc_system.specs.System.{SystemView, removal_on}
 use Rattle.cyc_system.specs.SystemRemoval.{SystemRemoval}
 use Rattle.cyc_system.specs.SystemRemoval.TheVariants as system
-use Rattle.cyc_system.specs.Removing.{cpus_having as cpus_with_in, Begun, BeginsOn, BeginsEach, BeginsRemoval, kept_in}
-use Rattle.cyc_system.specs.Removing.{unknown_cyclic, busy_on_any as busy_in}
+use Rattle.cyc_system.specs.Removing.{cpus_with as cpus_with_in, Begun, BeginsOn, BeginsEach, BeginsRemoval, kept_in}
+use Rattle.cyc_system.specs.Removing.{unknown_cyclic, busy_on_each as busy_in}
 use Rattle.cyc_model.specs.Acts.{calls_of}
 use Rattle.cyc_model.specs.Report.{counts_of}
 use Rattle.cyc_model.specs.Cpu.{CyclicState, has_cyclic, cyclic_with_id}

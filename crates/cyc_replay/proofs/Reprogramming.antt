@@ -8,7 +8,7 @@ use Rattle.cyc_script.specs.declared.step.Reprogram.{Reprogram as ReprogramStep}
 use Rattle.cyc_script.specs.declared.step.Step.TheVariants as steps
 use Rattle.cyc_cpu.specs.Soft.{raise_tables}
 use Rattle.cyc_cpu.specs.Calls.{Reprogram as CpuReprogram}
-use Rattle.cyc_system.specs.Cpus.{on_number as on_cpu}
+use Rattle.cyc_system.specs.Cpus.{on as on_cpu}
 use Rattle.cyc_system.specs.System.{SystemView}
 use Rattle.cyc_system.specs.Calls.{Changes, reprograms}
 use Rattle.cyc_system.specs.Adding.{OnlyWorks}

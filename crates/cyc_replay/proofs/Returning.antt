@@ -23,12 +23,12 @@ use Rattle.cyc_places.specs.declared.record.Placement.{Placement as RecordPlacem
 use Rattle.cyc_places.specs.declared.record.Placement.TheVariants as placements
 use Rattle.cyc_places.specs.declared.record.Record.{Record}
 use Rattle.cyc_places.specs.Places.{IsRecord, HasRisingIds, is_everywhere as everywhere_in, ended_on, with_ended}
-use Rattle.cyc_system.specs.Cpus.{CpusView, Works, on_number as on_cpu}
-use Rattle.cyc_system.specs.System.{SystemView, is_being_removed as leaving_in}
+use Rattle.cyc_system.specs.Cpus.{CpusView, Works, on as on_cpu}
+use Rattle.cyc_system.specs.System.{SystemView, is_leaving as leaving_in}
 use Rattle.cyc_system.specs.Refusals as why
 use Rattle.cyc_system.specs.Omni.{component_first}
-use Rattle.cyc_system.specs.Online.{is_staying, staying_omni as staying_in, returns, return_here as returns_at, after_return}
-use Rattle.cyc_system.specs.Online.{is_online_already as online_there}
+use Rattle.cyc_system.specs.Online.{is_staying, staying as staying_in, returns, return_at as returns_at, after_return}
+use Rattle.cyc_system.specs.Online.{online_cpu as online_there}
 use Rattle.cyc_system.specs.Calls.{Online as GoOnline, Changes}
 use Rattle.cyc_model.specs.Acts.{calls_of, events_at}
 use Rattle.cyc_model.specs.Cpu.{Cpu, nothing_here}
@@ -41,16 +41,7 @@ use Rattle.cyc_model.specs.Places.{is_being_removed, without_ended}
 use Rattle.cyc_model.specs.Add.{one_admitted}
 use Rattle.cyc_types.specs.Reasons.{or_else, when, only_if, busy, bad_now}
 use Rattle.cyc_types.specs.Counting.{no_counts}
-use Rattle.cyc_model.specs.Online.{
-  is_on_all,
-  staying_omni,
-  is_online_already,
-  no_room_for_all,
-  online_refusal,
-  again,
-  return_here,
-  return_of,
-}
+use Rattle.cyc_model.specs.Online.{is_on_all, staying_omni, is_online_already, no_room_for_all, online_refusal, again, return_here, return_of}
 use Rattle.cyc_model.specs.Online.{return_all, go_online}
 use Rattle.cyc_model.proofs.Agreement.{agrees_with}
 use Rattle.cyc_model.proofs.Local.{Local, same_low_lock, local_nothing, local_widen, local_place}

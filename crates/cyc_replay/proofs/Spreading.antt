@@ -15,7 +15,7 @@ use Rattle.cyc_cpu.specs.Soft.{raise_tables}
 use Rattle.cyc_cpu.specs.Calls.{AskRoom, Reserve, Widen, Place}
 use Rattle.cyc_places.specs.declared.record.Placement.TheVariants as placements
 use Rattle.cyc_places.specs.Places.{IsRecord, new_record}
-use Rattle.cyc_system.specs.Cpus.{CpusView, Works, on_number as on_cpu, cpus_online as online_in}
+use Rattle.cyc_system.specs.Cpus.{CpusView, Works, on as on_cpu, online_cpus as online_in}
 use Rattle.cyc_system.specs.Reserving.{rooms, reserves}
 use Rattle.cyc_system.specs.System.{SystemView}
 use Rattle.cyc_system.specs.Refusals as why

@@ -41,7 +41,7 @@ use Rattle.cyc_cpu_model.specs.Shown.{shown_cyclic, shown_cpu}
 use Rattle.cyc_cpu_model.specs.Tied.{IsTied, HasOwn}
 use Rattle.cyc_cpu_model.proofs.Levels.{only_looked}
 use Rattle.std.specs.Prelude.{Result, OnOk, IfErr}
-use Rattle.cyc_places.specs.Places.{IsRecord, HasRisingCyclics as RecordsRise}
+use Rattle.cyc_places.specs.Places.{IsRecord, HasRisingIds as RecordsRise}
 use Rattle.cyc_system.specs.System.{SystemView}
 use Rattle.cyc_system.specs.Agreement.{Agrees}
 use Rattle.cyc_system.proofs.Spots.{same_some, none_some}

@@ -6,7 +6,7 @@ use mathlib.Core.Logic.{dite}
 use native.Mathlib.Decide.{ℕ_discrete}
 use Rattle.cyc_types.specs.declared.firing.Sent.{Sent}
 use Rattle.cyc_types.specs.Counting.{no_counts}
-use Rattle.cyc_cpu_model.specs.Rows.{CyclicState as Timed}
+use Rattle.cyc_cpu_model.specs.Rows.{Cyclic as Timed}
 use Rattle.cyc_cpu.specs.Cpu.{HasNoCyclic, HasRisingCyclics}
 use Rattle.cyc_model.specs.Cpu.{CyclicState, Cpu, is_of}
 use Rattle.cyc_model.specs.State.{absent, kept_if, cpus_from}

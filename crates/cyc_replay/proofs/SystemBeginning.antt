@@ -7,7 +7,7 @@ use Rattle.cyc_types.specs.declared.level.Soft.TheVariants as soft
 use Rattle.cyc_level.specs.Level.{SoftLevel, empty_level}
 use Rattle.cyc_core.specs.Tables.{Tables, level_of}
 use Rattle.cyc_cpu.specs.Cpu.{CpuView}
-use Rattle.cyc_system.specs.Cpus.{begun_cpu as new_view}
+use Rattle.cyc_system.specs.Cpus.{new_cpu as new_view}
 use Rattle.cyc_system.specs.Agreement.{Agrees}
 use Rattle.cyc_system.proofs.Spots.{same_some, none_some}
 use Rattle.cyc_model.specs.Cpu.{begun_cpu, handler_level_of}

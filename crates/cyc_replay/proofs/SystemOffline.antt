@@ -14,9 +14,9 @@ use Rattle.cyc_text.specs.Lines.{accepted, refused, cyclics_left}
 use Rattle.cyc_cpu.specs.Cpu.{CpuView}
 use Rattle.cyc_cpu.specs.Soft.{raise_tables}
 use Rattle.cyc_cpu.specs.Calls.{AskPending, TakeNow}
-use Rattle.cyc_system.specs.Cpus.{CpusView, Works, on_number as on_cpu}
-use Rattle.cyc_system.specs.System.{SystemView, ids_of_cpu as ids_there}
-use Rattle.cyc_system.specs.Juggling.{single_ids_of as single_there, juggle_refusals}
+use Rattle.cyc_system.specs.Cpus.{CpusView, Works, on as on_cpu}
+use Rattle.cyc_system.specs.System.{SystemView, ids_on as ids_there}
+use Rattle.cyc_system.specs.Juggling.{single_ids as single_there, juggle_refusals}
 use Rattle.cyc_system.specs.GoingOffline.{quiet, Retires, offline_at}
 use Rattle.cyc_system.specs.Calls.{Changes, Offline as GoOffline}
 use Rattle.cyc_model.specs.Acts.{calls_of}

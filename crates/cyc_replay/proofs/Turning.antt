@@ -16,8 +16,8 @@ use Rattle.cyc_agreement.proofs.MayGo
 use Rattle.cyc_agreement.proofs.Replaced.{not_elsewhere}
 use Rattle.cyc_agreement.proofs.Who.{same_changed, same_asked, has_same}
 use Rattle.cyc_system.specs.Agreement.{Agrees}
-use Rattle.cyc_system.specs.Cpus.{CpusView, IsCpu, DoesAt, on_number as on_cpu}
-use Rattle.cyc_system.specs.Destination.{destination_of as destination_in}
+use Rattle.cyc_system.specs.Cpus.{CpusView, IsCpu, DoesAt, on as on_cpu}
+use Rattle.cyc_system.specs.Destination.{destination as destination_in}
 use Rattle.cyc_system.specs.System.{SystemView}
 use Rattle.cyc_system.specs.Binding.{HasPlacement, Records}
 use Rattle.cyc_system.specs.Turn.{Turn as TurnThere}

@@ -9,7 +9,7 @@ use Rattle.cyc_places.specs.declared.record.Record.{Record}
 use Rattle.cyc_system.specs.System.{SystemView, has}
 use Rattle.cyc_system.specs.Agreement.{Agrees}
 use Rattle.cyc_system.proofs.Spots.{same_some, none_some}
-use Rattle.cyc_system.specs.Removing.{cpus_having as cpus_with_in}
+use Rattle.cyc_system.specs.Removing.{cpus_with as cpus_with_in}
 use Rattle.cyc_system.proofs.Where.{nowhere}
 use Rattle.cyc_model.specs.Cpu.{CyclicState, cyclic_with_id}
 use Rattle.cyc_model.specs.Moving.{mark_here}

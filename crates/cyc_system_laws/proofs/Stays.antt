@@ -14,25 +14,14 @@ use Rattle.cyc_cpu.specs.Cpu.{CpuView, Running, running, HasNoCyclic}
 use Rattle.cyc_cpu.specs.Gone.{IsGone, PutsNot}
 use Rattle.cyc_cpu.specs.Soft.{raise_tables, Interrupts}
 use Rattle.cyc_cpu.specs.Calls.{Suspend, Resume}
-use Rattle.cyc_cpu.specs.Calls.{
-  CpuCall,
-  CpuChanges,
-  CpuDoes,
-  no_interrupts,
-  Fire,
-  SoftInterrupt,
-  Add,
-  Place,
-  Reprogram,
-  AskPending,
-}
+use Rattle.cyc_cpu.specs.Calls.{CpuCall, CpuChanges, CpuDoes, no_interrupts, Fire, SoftInterrupt, Add, Place, Reprogram, AskPending}
 use Rattle.cyc_cpu.specs.Calls.{AskTotals, AskRoom, Reserve, Widen, BeginRemove, PollRemove, TakeNow, AskSettled}
 use Rattle.cyc_cpu.proofs.Following.{stays_gone}
 use Rattle.cyc_cpu_laws.proofs.Shifts.{changes_shift, shift_away}
 use Rattle.cyc_cpu_laws.proofs.Fires.{no_share, no_cyclic, fired_away}
 use Rattle.cyc_system_laws.proofs.Nowhere.{unused_gone}
 use Rattle.cyc_system.specs.System.{SystemView, RunningSystem}
-use Rattle.cyc_system.specs.Calls.{SystemCall, CpuDoes as SystemDoes}
+use Rattle.cyc_system.specs.Calls.{SystemCall, Does as SystemDoes}
 use Rattle.cyc_system_laws.specs.Gone.{IsOver, StaysOver, IsOverWhole, StaysOverWhole, AreLevelsLawful}
 use Rattle.cyc_system_laws.proofs.Over.{run_away}
 

@@ -31,7 +31,7 @@ use Rattle.cyc_system_laws.specs.SystemRemoval.TheVariants.{Done, Kept}
 use Rattle.cyc_system_laws.specs.Laws.{cyclic_in}
 use Rattle.cyc_system_laws.specs.Counts.{all_expired}
 use Rattle.cyc_system_workers.specs.Refusals.{no_cyclic, omnipresent}
-use Rattle.cyc_agreement.specs.Omni.{entering_each, component_begins_at as cpu_first}
+use Rattle.cyc_agreement.specs.Omni.{entering_each, component_first as cpu_first}
 use Rattle.cyc_agreement.specs.Online.{staying}
 use Rattle.cyc_system_laws.specs.SystemCalls.{SystemCall, Changes, Add, AddOmni, Bind, BeginRemove, PollRemove, AskTotals}
 use Rattle.cyc_system_laws.specs.SystemCalls.{Suspend, Resume, Reprogram, ReprogramOn, Juggle, Offline, Online, FireOne}

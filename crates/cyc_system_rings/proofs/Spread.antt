@@ -34,7 +34,7 @@ use Rattle.cyc_agreement.proofs.Regained.{all_back}
 use Rattle.cyc_system_laws.specs.System.{SystemView, has, removal_on, is_online, is_leaving_here, is_omnipresent}
 use Rattle.cyc_system_workers.specs.Refusals.{omnipresent}
 use Rattle.cyc_system_laws.specs.Laws.{cyclic_in, cyclic_on}
-use Rattle.cyc_agreement.specs.Omni.{component_begins_at as cpu_first}
+use Rattle.cyc_agreement.specs.Omni.{component_first as cpu_first}
 use Rattle.cyc_agreement.specs.Online.{online_cpu}
 use Rattle.cyc_system_laws.specs.SystemCalls.{SystemCall, Changes, Add, AddOmni, Bind, BeginRemove, PollRemove, AskTotals}
 use Rattle.cyc_system_laws.specs.SystemCalls.{Suspend, Resume, Reprogram, ReprogramOn, Juggle, Offline, Online, FireOne}

@@ -31,7 +31,7 @@ use Rattle.cyc_system_rings.specs.Events.{AcceptedSteps}
 use Rattle.cyc_threads.specs.Levels.{Levels}
 use Rattle.cyc_threads.specs.Seated.{Seated}
 use Rattle.cyc_threads.specs.Laid.{two}
-use Rattle.cyc_threads.specs.Rings.{IsClosed, AreSettledAndClosed as AreLeft, firing_seats, seats_on}
+use Rattle.cyc_threads.specs.Rings.{IsClosed, AreClosed as AreLeft, firing_seats, seats_on}
 use Rattle.cyc_threads.proofs.Quiet.{lines_quiet}
 use Rattle.cyc_threads.specs.declared.running.Ended.{Ended}
 use Rattle.cyc_threads.specs.Running.{HasRun, HaveServed}

@@ -16,7 +16,7 @@ use Rattle.cyc_script.specs.declared.step.Step.TheVariants as steps
 use Rattle.cyc_thread_calls.proofs.FirstReason.{not_when, passes, not_le}
 use Rattle.cyc_thread_calls.proofs.Spots.{none_some}
 use Rattle.cyc_thread_calls.specs.System.{SystemView, is_unknown, is_omnipresent, removal_on, has as has_on}
-use Rattle.cyc_thread_calls.specs.System.{is_online as is_up, has_open_removal as is_leaving_id}
+use Rattle.cyc_thread_calls.specs.System.{is_online as is_up, is_leaving as is_leaving_id}
 use Rattle.cyc_thread_calls.specs.Refusals.{no_cyclic, no_cpu, offline_cpu, no_component}
 use Rattle.cyc_thread_calls.specs.Calls.{Changes, Reprogram, ReprogramOn, reprograms}
 use Rattle.cyc_thread_calls.specs.Named.{Named}

@@ -17,7 +17,7 @@ use Rattle.cyc_system_laws.specs.Cpus.{CpusView, ChangesAt}
 use Rattle.cyc_system_workers.specs.WorkersSettling.{AsksSettled}
 use Rattle.cyc_system_workers.specs.Settled.{AllAsked}
 use Rattle.cyc_system_workers.specs.System.{SystemView}
-use Rattle.cyc_system_workers.specs.Calls.{SystemCall, CpuChanges as SystemChanges}
+use Rattle.cyc_system_workers.specs.Calls.{SystemCall, Changes as SystemChanges}
 use Rattle.cyc_system_laws.specs.Parts.{CpusCall, OnCpu, SetOnline, DoesPart}
 use Rattle.cyc_system_laws.proofs.Pieces.{made_of}
 use Rattle.cyc_system_laws.proofs.Spots.{same_some}
