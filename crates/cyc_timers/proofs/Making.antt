@@ -14,7 +14,7 @@ use Rattle.cyc_types.specs.declared.firing.Raised.TheVariants.{First, More, Lost
 use Rattle.cyc_types.specs.declared.level.Level.{Level}
 use Rattle.cyc_types.specs.Expirations.{Expiration, after_expirations, all_after}
 use Rattle.cyc_types.specs.Timers.{Timer, HasDistinctIds}
-use Rattle.cyc_types.proofs.Firing, after_ids.{Firing, after_id}
+use Rattle.cyc_types.proofs.Firings.{Firing, after_id}
 use Rattle.cyc_types.specs.Counting.{no_counts}
 use Rattle.cyc_timers.specs.Rows.{Row, Cyclic, IsRow, IsRising, timers_of, cyclic_of, cyclics_of}
 use Rattle.cyc_timers.specs.Acts.{
