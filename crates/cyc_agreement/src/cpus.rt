@@ -25,6 +25,7 @@ pub struct Cpus<R: Raise> {
 
 impl<R: Raise> Model for Cpus<R> {
     ghost use Rattle.std.specs.Prelude.{◌≡◌, ◌≤◌, length};
+    ghost use Rattle.cyc_types.specs.Limits.{most_cpus};
     ghost use Rattle.cyc_agreement.specs.Cpus.{CpusView};
 
     ghost Value = { CpusView R };

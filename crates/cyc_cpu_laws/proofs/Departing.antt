@@ -29,7 +29,7 @@ use Rattle.cyc_cpu.specs.Calls.{AskTotals, AskRoom, Reserve, Widen, BeginRemove,
 use Rattle.cyc_cpu.proofs.Off.{none_there}
 use Rattle.cyc_cpu_laws.specs.Runs.{CpuSteps}
 use Rattle.cyc_cpu_laws.specs.Accounts.{made_by}
-use Rattle.cyc_cpu_laws.specs.Absence.{StaysOff}
+use Rattle.cyc_cpu_laws.specs.Absence.{StaysOff, run_from}
 use Rattle.cyc_cpu_laws.proofs.Shifts.{changes_shift, shift_away}
 use Rattle.cyc_cpu_laws.proofs.Fires.{no_share, no_cyclic, fired_away}
 use Rattle.cyc_cpu_laws.proofs.Accounting.{proceeds_one}
@@ -97,7 +97,7 @@ module _ {C R : Type 0} (handler : Calls C) (firing : Raise R) (id : ℕ) where
 
   pub stays_off : (s t : Running C R) (way : List CpuCall) → IsLawful firing.view s.cpu → IsOff firing.view id s.cpu
       → All (PutsNot id) way →
-      (run : FoldsTo D s way t) → StaysOff handler.count firing.view D id run
+      (run : FoldsTo D s way t) → StaysOff handler.count firing.view D id (run_from D s way t run)
   stays_off s t [] law gone not run = record {
     off = subst (λ (x : Running C R). IsOff firing.view id x.cpu) run gone;
     uncalled = ap (λ (x : Running C R). handler.count x.calls id) (sym run);

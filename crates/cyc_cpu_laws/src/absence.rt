@@ -7,7 +7,7 @@ ghost use Rattle.cyc_cpu.specs.Laws.{IsLawful};
 ghost use Rattle.cyc_cpu.specs.Calls.{CpuCall, no_interrupts};
 ghost use Rattle.cyc_cpu.specs.Gone.{IsOff, PutsNot};
 ghost use Rattle.cyc_cpu_laws.specs.Runs.{CpuSteps};
-ghost use Rattle.cyc_cpu_laws.specs.Absence.{StaysOff};
+ghost use Rattle.cyc_cpu_laws.specs.Absence.{StaysOff, run_from};
 
 use cyc_types::{Calls, Raise};
 
@@ -19,5 +19,6 @@ pub fn absence_law<C: Calls, R: Raise>()
     ensures { (id : ℕ) (s t : Running C R) (way : List CpuCall) → IsLawful R.view s.cpu
         → IsOff R.view id s.cpu → All (PutsNot id) way
         → (run : FoldsTo (CpuSteps C.Calls R.Raise no_interrupts) s way t)
-        → StaysOff C.count R.view (CpuSteps C.Calls R.Raise no_interrupts) id run }
+        → StaysOff C.count R.view (CpuSteps C.Calls R.Raise no_interrupts) id
+        (run_from (CpuSteps C.Calls R.Raise no_interrupts) s way t run) }
 {}
