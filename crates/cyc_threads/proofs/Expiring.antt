@@ -337,15 +337,15 @@ module _ {C R : Type 0} (handler : Calls C) (firing : Raise R) where
       position : ℕ
       position = h.position
 
-      taken : HasExpired firing (0 + length (take place all) * most_of_all) h.before.side
-      taken = steps_more handler firing (take place all) first h.before 0 h.taken none
+      taken : HasExpired firing (0 + length (take position all) * most_of_all) h.before.side
+      taken = steps_more handler firing (take position all) first h.before 0 h.taken none
 
       by : StepHalts handler firing h.last h.before (halt.Fired n why) → HandlerRefuses handler.may_refuse why
       by (inl told) = absurd told
       by (inr (now, is, (awake, after, f, refused))) =
-          let few : length all ≤ 65536 = form.few_steps in let short = length-take place all in
-          let before = fit_before all place h.last h.here.0 (sym h.here.1) (fit_drop all place (0, form.moments_in_order)) in
-          refused_by_handler (0 + length (take place all) * most_of_all) now h.before.side after taken
+          let few : length all ≤ 65536 = form.few_steps in let short = length-take position all in
+          let before = fit_before all position h.last h.here.0 (sym h.here.1) (fit_drop all position (0, form.moments_in_order)) in
+          refused_by_handler (0 + length (take position all) * most_of_all) now h.before.side after taken
           (omega (arith, few, short)) (subst (λ (x : Step). IsBefore x) is before) awake f n why refused.here
 
 -- ---- before the first step
