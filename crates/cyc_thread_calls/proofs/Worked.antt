@@ -154,7 +154,7 @@ an_advance_does_not calm = by (calm.apart 0 2 0 1 (omega arith) refl refl)
     at (suc (suc k)) x low high here parts = omega (arith, high)
 
     by : AreParted advanced 0 2 → ⊥
-    by r = at r.placement r.step r.after r.before r.here r.parts
+    by r = at r.position r.step r.after r.before r.here r.parts
 
 -- nor is a script with an offline calm, or one with more names than a CPU can have cyclics
 an_offline_is_not_calm : AreCalm (Offline 0 ∷ []) 0 → ⊥
