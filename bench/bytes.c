@@ -11,7 +11,7 @@ void *__wrap_malloc(size_t size);
 void *__wrap_realloc(void *block, size_t size);
 void __wrap_free(void *block);
 
-/* crates/bench_system: a system of so many cyclics, and so many operations on it */
+/* crates/bench_loops: a system of so many cyclics, and so many operations on it */
 uint64_t bench_system_reprogram(uint64_t cyclics, uint64_t operations);
 
 /* What is asked for and not given back: now, and after the last request. Its size stands before each block. */

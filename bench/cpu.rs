@@ -1,4 +1,4 @@
-//! Times the fires of a proved CPU (`crates/bench_cpu`) against heaps and a wheel of plain Rust that make the same expirations. The
+//! Times the fires of a proved CPU (`crates/bench_loops`) against heaps and a wheel of plain Rust that make the same expirations. The
 //! handler of each expiration counts the calls of its cyclic.
 
 mod counted;

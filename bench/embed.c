@@ -1,6 +1,6 @@
 /*
  * Times an expiration by cyclic_fire from C, and a raise, take and finish from C, beside the same calls inside the library
- * (crates/bench_cpu): a fire for each interval, over 16 and 256 cyclics of one interval. On both sides the handler counts its calls.
+ * (crates/bench_loops): a fire for each interval, over 16 and 256 cyclics of one interval. On both sides the handler counts its calls.
  */
 #define _GNU_SOURCE
 #include <stdio.h>

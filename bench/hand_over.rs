@@ -1,4 +1,4 @@
-//! Times hand-overs on a proved level (`crates/bench_level`) against the same work in plain Rust.
+//! Times hand-overs on a proved level (`crates/bench_loops`) against the same work in plain Rust.
 
 mod level;
 mod timing;

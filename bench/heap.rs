@@ -1,4 +1,4 @@
-//! Times a run of expirations over the proved heap (`crates/bench_heap`) against three heaps of plain Rust. Each makes the
+//! Times a run of expirations over the proved heap (`crates/bench_loops`) against three heaps of plain Rust. Each makes the
 //! same expirations in the same order.
 
 mod heaps;

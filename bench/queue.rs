@@ -1,4 +1,4 @@
-//! Times a run of expirations over the timer wheel of tokio-util, as the kit has ported it (`crates/bench_heap`), against heaps and a
+//! Times a run of expirations over the timer wheel of tokio-util, as the kit has ported it (`crates/bench_loops`), against heaps and a
 //! wheel of plain Rust.
 
 mod counted;

@@ -1,4 +1,4 @@
-//! Times hand-overs on a proved ring (`crates/bench_ring`) in one thread, against the same calls in plain Rust, and against
+//! Times hand-overs on a proved ring (`crates/bench_loops`) in one thread, against the same calls in plain Rust, and against
 //! their atomic steps alone, with no look-up of the id and no count of its expirations.
 
 mod timing;

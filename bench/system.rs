@@ -1,4 +1,4 @@
-//! Times calls of a proved system of 16 CPUs (`crates/bench_system`) at several numbers of cyclics.
+//! Times calls of a proved system of 16 CPUs (`crates/bench_loops`) at several numbers of cyclics.
 
 #[allow(dead_code)]
 mod timing;

@@ -59,7 +59,8 @@ pub(crate) fn fires(alloc: Global, size: u32, seed: u32) -> Result<u64, Refusal>
     counted(machine, 1024)
 }
 
-/// By how much the clock of a burst goes on: mostly to the next moment at which all is due, once in a while by more than a second.
+/// By how much the clock of a burst goes on: mostly to the next moment at which all is due, once in a while by more than a
+/// second.
 fn gap(machine: &mut Machine) -> u64 {
     let turns = u64::from(machine.random.below(4)) + 1;
     if machine.random.below(64) == 0 {

@@ -10,22 +10,22 @@ use Rattle.cyc_types.specs.declared.firing.Raised.{Raised}
 use Rattle.cyc_types.specs.declared.firing.Raised.TheVariants.{First, More, Lost}
 use Rattle.cyc_types.proofs.RunStays.{learns_stay}
 use Rattle.cyc_level.proofs.Maps.{none_some, some_same}
-use Rattle.bench_sides.specs.Ready.{IsNew, IsReady, IsFilled}
+use Rattle.bench_sides.specs.Ready.{IsNewLevel, IsReadyLevel, IsFilledLevel}
 
 -- a new level may be switched to its greatest bank
-pub may_expand : (v : FiringView) → IsNew v → MayExpand greatest_bank v
+pub may_expand : (v : FiringView) → IsNewLevel v → MayExpand greatest_bank v
 may_expand v n = (rw n.bank (omega arith), omega arith, n.followed, n.free)
 
 -- a new level in its greatest bank
-pub expand_fills : (v w : FiringView) → IsNew v → Learns v (Expands greatest_bank) w → IsFilled 0 w
-expand_fills v w n is = subst (λ (x : FiringView). IsFilled 0 x) (sym is) (record {
+pub expand_fills : (v w : FiringView) → IsNewLevel v → Learns v (Expands greatest_bank) w → IsFilledLevel 0 w
+expand_fills v w n is = subst (λ (x : FiringView). IsFilledLevel 0 x) (sym is) (record {
   bank = refl;
   ready = record { free = n.free; unmarked = n.unmarked; stays = λ id some few. absurd (omega (arith, some, few)) };
   only = λ id s here. let none : v.stays id ≡ None = n.none id in absurd (cc (here, none));
 })
 
 -- the next id may be admitted at the next index
-pub may_admit : (n : ℕ) (v : FiringView) → n < cyclics → IsFilled n v → MayAdmit (n + 1) n v
+pub may_admit : (n : ℕ) (v : FiringView) → n < cyclics → IsFilledLevel n v → MayAdmit (n + 1) n v
 may_admit n v low f = (
   absent (v.stays (n + 1)) refl,
   (λ j s here e. let lt = (f.only j s here).1 in
@@ -47,13 +47,13 @@ other_stay : (n id : ℕ) (v : FiringView) → id ≢ n + 1 → (after_admit (n 
 other_stay n id v ne = ap (λ b. cond b (Some record { index = n; sent = 0; lost = 0; seen = 0 }) (v.stays id))
     (ne_eqb id (n + 1) ne)
 
-admit_stays : (n : ℕ) (v : FiringView) → IsFilled n v → (id : ℕ) → 0 < id → id ≤ n + 1
+admit_stays : (n : ℕ) (v : FiringView) → IsFilledLevel n v → (id : ℕ) → 0 < id → id ≤ n + 1
     → IsAdmitted id (after_admit (n + 1) n v) (λ s. s.sent ≤ 0)
 admit_stays n v f id some few = dite (ℕ_discrete id (n + 1))
     (λ e. (record { index = n; sent = 0; lost = 0; seen = 0 }, next_stay n id v e, omega arith))
     (λ ne. let (s, here, low) = f.ready.stays id some (omega (arith, few, ne)) in (s, other_stay n id v ne ∙ here, low))
 
-admit_only : (n : ℕ) (v : FiringView) → IsFilled n v → (id : ℕ) (s : Stay) → (after_admit (n + 1) n v).stays id ≡ Some s
+admit_only : (n : ℕ) (v : FiringView) → IsFilledLevel n v → (id : ℕ) (s : Stay) → (after_admit (n + 1) n v).stays id ≡ Some s
     → (id ≤ n + 1) × (s.index < n + 1)
 admit_only n v f id s e = dite (ℕ_discrete id (n + 1))
     (λ is. let same : s.index ≡ n = ap (λ (x : Stay). x.index) (sym (some_same _ s (sym (next_stay n id v is) ∙ e))) in
@@ -61,15 +61,16 @@ admit_only n v f id s e = dite (ℕ_discrete id (n + 1))
     (λ ne. let only = f.only id s (sym (other_stay n id v ne) ∙ e) in
     (let x = only.0 in omega (arith, x), let y = only.1 in omega (arith, y)))
 
-admit_fills : (n : ℕ) (v w : FiringView) → IsFilled n v → Learns v (Admits (n + 1) n) w → IsFilled (n + 1) w
-admit_fills n v w f is = subst (λ (x : FiringView). IsFilled (n + 1) x) (sym is) (record {
+admit_fills : (n : ℕ) (v w : FiringView) → IsFilledLevel n v → Learns v (Admits (n + 1) n) w → IsFilledLevel (n + 1) w
+admit_fills n v w f is = subst (λ (x : FiringView). IsFilledLevel (n + 1) x) (sym is) (record {
   bank = f.bank;
   ready = record { free = f.ready.free; unmarked = f.ready.unmarked; stays = admit_stays n v f };
   only = admit_only n v f;
 })
 
-pub admit_fills_at : (n id index : ℕ) (v w : FiringView) → id ≡ n + 1 → index ≡ n → IsFilled n v → Learns v (Admits id index) w
-    → IsFilled (n + 1) w
+pub admit_fills_at : (n id index : ℕ) (v w : FiringView) → id ≡ n + 1 → index ≡ n → IsFilledLevel n v
+    → Learns v (Admits id index) w
+    → IsFilledLevel (n + 1) w
 admit_fills_at n id index v w here there f is =
     admit_fills n v w f (subst (λ (k : ℕ). Learns v (Admits k n) w) here (subst (λ (k : ℕ). Learns v (Admits id k) w) there is))
 
@@ -84,8 +85,8 @@ one_most : (b : Bool) → cond b 1 0 ≤ 1
 one_most true = omega arith
 one_most false = omega arith
 
-pub raise_ready : (n most : ℕ) (v w : FiringView) (id : ℕ) (a : Raised) → IsReady n most v → Learns v (Raises id a) w
-    → IsReady n (most + 1) w
+pub raise_ready : (n most : ℕ) (v w : FiringView) (id : ℕ) (a : Raised) → IsReadyLevel n most v → Learns v (Raises id a) w
+    → IsReadyLevel n (most + 1) w
 raise_ready n most v w id a r l =
     let keeps = raise_keeps v w id a l in
     record {
@@ -99,18 +100,19 @@ raise_ready n most v w id a r l =
           (went.0, went.1, omega (arith, low, grown, one));
     }
 
-pub may_raise : (n most id : ℕ) (v : FiringView) → IsReady n most v → 0 < id → id ≤ n → most < 2 ^ 64 - 1 → MayRaise id v
+pub may_raise : (n most id : ℕ) (v : FiringView) → IsReadyLevel n most v → 0 < id → id ≤ n → most < 2 ^ 64 - 1 → MayRaise id v
 may_raise n most id v r some few low =
     let (s, here, sent) = r.stays id some few in
     ((s, here, omega (arith, sent, low)), (λ e. none_some ⊥ id v.marked r.unmarked e), r.free)
 
-pub may_ask : (n most id : ℕ) (v : FiringView) → IsReady n most v → 0 < id → id ≤ n → MayAsk id v
+pub may_ask : (n most id : ℕ) (v : FiringView) → IsReadyLevel n most v → 0 < id → id ≤ n → MayAsk id v
 may_ask n most id v r some few =
     let (s, here, sent) = r.stays id some few in
     ((s, here, tt), r.free)
 
 -- a look at a pend keeps a level ready
-pub load_ready : (n most : ℕ) (v w : FiringView) (id pend : ℕ) → IsReady n most v → Learns v (Loads id pend) w → IsReady n most w
+pub load_ready : (n most : ℕ) (v w : FiringView) (id pend : ℕ) → IsReadyLevel n most v → Learns v (Loads id pend) w
+    → IsReadyLevel n most w
 load_ready n most v w id pend r l = record {
   free = ap (λ (x : FiringView). x.hand_free) l.1 ∙ r.free;
   unmarked = ap (λ (x : FiringView). x.marked) l.1 ∙ r.unmarked;

@@ -4,7 +4,7 @@ use Rattle.cyc_types.specs.Limits.{greatest_bank}
 use Rattle.cyc_types.specs.Firing.{FiringView, Stay, IsAdmitted}
 
 -- no id is admitted, and both sides are on the first bank
-pub record IsNew (v : FiringView) : Type 0 where
+pub record IsNewLevel (v : FiringView) : Type 0 where
   pub none : (id : ℕ) → v.stays id ≡ None
   pub unmarked : v.marked ≡ None
   pub bank : v.bank ≡ 0
@@ -12,13 +12,13 @@ pub record IsNew (v : FiringView) : Type 0 where
   pub free : v.hand_free ≡ true
 
 -- the ids up to n are admitted, each with at most this many expirations, and no removal is open
-pub record IsReady (n most : ℕ) (v : FiringView) : Type 0 where
+pub record IsReadyLevel (n most : ℕ) (v : FiringView) : Type 0 where
   pub free : v.hand_free ≡ true
   pub unmarked : v.marked ≡ None
   pub stays : (id : ℕ) → 0 < id → id ≤ n → IsAdmitted id v (λ s. s.sent ≤ most)
 
 -- the ids up to n are admitted at the indexes below them, in the greatest bank, and none has expired
-pub record IsFilled (n : ℕ) (v : FiringView) : Type 0 where
+pub record IsFilledLevel (n : ℕ) (v : FiringView) : Type 0 where
   pub bank : v.bank ≡ greatest_bank
-  pub ready : IsReady n 0 v
+  pub ready : IsReadyLevel n 0 v
   pub only : (id : ℕ) (s : Stay) → v.stays id ≡ Some s → (id ≤ n) × (s.index < n)

@@ -4,7 +4,7 @@
 ghost use Rattle.std.specs.Prelude.{◌≡◌, ◌+◌, ◌-◌, ◌<◌, ◌≤◌, ◌^◌, IsSome};
 ghost use Rattle.std.specs.Bool.{OnTrue};
 ghost use Rattle.cyc_types.specs.Limits.{cyclics};
-ghost use Rattle.bench_sides.specs.Ready.{IsNew, IsReady, IsFilled};
+ghost use Rattle.bench_sides.specs.Ready.{IsNewLevel, IsReadyLevel, IsFilledLevel};
 
 use cyc_types::{CyclicId, Drain, Finished, GREATEST_BANK, Index, Raise};
 use std::hint;
@@ -12,8 +12,8 @@ use std::hint;
 /// Admits the next id at its index.
 fn admit_next<R: Raise>(raise: &mut R, index: u16)
     requires index { index < cyclics }
-    requires filled { IsFilled index (R.view raise.old) }
-    ensures { IsFilled (index + 1) (R.view raise.new) }
+    requires filled { IsFilledLevel index (R.view raise.old) }
+    ensures { IsFilledLevel (index + 1) (R.view raise.new) }
 {
     if let (Some(id), Some(place)) = (CyclicId::new(u64::from(index) + 1), Index::new(index)) {
         raise.admit(id, place);
@@ -23,8 +23,8 @@ fn admit_next<R: Raise>(raise: &mut R, index: u16)
 /// Switches a new level to its greatest bank, and admits the ids from 1 to `ids` there.
 pub fn fill<R: Raise>(raise: &mut R, ids: u16)
     requires few { ids ≤ cyclics }
-    requires new { IsNew (R.view raise.old) }
-    ensures { IsFilled ids (R.view raise.new) }
+    requires new { IsNewLevel (R.view raise.old) }
+    ensures { IsFilledLevel ids (R.view raise.new) }
 {
     raise.expand(GREATEST_BANK);
     for index in 0..ids {
@@ -36,8 +36,8 @@ pub fn fill<R: Raise>(raise: &mut R, ids: u16)
 fn raise_one<R: Raise>(raise: &mut R, id: CyclicId, ids: u16, most: u64)
     requires id { id ≤ ids }
     requires most { most < 2 ^ 64 - 1 }
-    requires ready { IsReady ids most (R.view raise.old) }
-    ensures { IsReady ids (most + 1) (R.view raise.new) }
+    requires ready { IsReadyLevel ids most (R.view raise.old) }
+    ensures { IsReadyLevel ids (most + 1) (R.view raise.new) }
 {
     let _number = id.number();
     let _raised = raise.raise(id);
@@ -58,8 +58,8 @@ fn following(number: u64, ids: u16) -> u64
 /// Looks until no call of the id is outstanding.
 fn wait_done<R: Raise>(raise: &mut R, id: CyclicId, ids: u16, most: u64)
     requires id { id ≤ ids }
-    requires ready { IsReady ids most (R.view raise.old) }
-    ensures { IsReady ids most (R.view raise.new) }
+    requires ready { IsReadyLevel ids most (R.view raise.old) }
+    ensures { IsReadyLevel ids most (R.view raise.new) }
 {
     let _number = id.number();
     for _ in 0..u64::MAX {
@@ -73,7 +73,7 @@ fn wait_done<R: Raise>(raise: &mut R, id: CyclicId, ids: u16, most: u64)
 /// Raises so many times, the ids from 1 to `ids` round, each only where its calls are done: so each goes through the buffer.
 pub fn raise_done<R: Raise>(raise: &mut R, ids: u16, rounds: u64)
     requires some { 0 < ids }
-    requires ready { IsReady ids 0 (R.view raise.old) }
+    requires ready { IsReadyLevel ids 0 (R.view raise.old) }
 {
     let mut number = 1;
     for round in 0..rounds {
@@ -125,7 +125,7 @@ pub fn serve_until<D: Drain>(drain: &mut D, calls: u64) -> u64 {
 /// last of their cyclic.
 pub fn hand_overs<R: Raise, D: Drain>(raise: &mut R, drain: &mut D, ids: u16, rounds: u64) -> u64
     requires some { 0 < ids }
-    requires ready { IsReady ids 0 (R.view raise.old) }
+    requires ready { IsReadyLevel ids 0 (R.view raise.old) }
 {
     let mut number = 1;
     let mut last: u64 = 0;

@@ -4,7 +4,7 @@
 
 ghost use Rattle.std.specs.Prelude.{◌≡◌, ◌<◌, ◌≤◌};
 ghost use Rattle.cyc_ring.specs.Ends.{end_view};
-ghost use Rattle.bench_sides.specs.Ready.{IsReady};
+ghost use Rattle.bench_sides.specs.Ready.{IsReadyLevel};
 
 use anyhow::{Context, Result, bail};
 use bench_sides::{fill, raise_done, serve_until};
@@ -19,7 +19,7 @@ const IDS: u16 = 256;
 
 /// Raises so many times, the ids round, each where its calls are done.
 fn raise_all(mut raise: RaiseEnd<'_>, count: u64)
-    requires { IsReady 256 0 (end_view raise) }
+    requires { IsReadyLevel 256 0 (end_view raise) }
 {
     raise_done(&mut raise, IDS, count);
 }
@@ -31,7 +31,7 @@ fn serve_all(mut drain: DrainEnd<'_>, count: u64) -> u64 {
 
 /// Both at once. The answer is how many calls were made.
 fn both<R: Threads>(rt: &R, raise: RaiseEnd<'_>, drain: DrainEnd<'_>, count: u64) -> u64
-    requires { IsReady 256 0 (end_view raise) }
+    requires { IsReadyLevel 256 0 (end_view raise) }
 {
     let (_, made) = join(rt, || raise_all(raise, count), || serve_all(drain, count));
     made

@@ -52,21 +52,24 @@ module _ {R : Type 0} (v w : CpusView R) (rs rs' : List Record) (last id place :
   id_now = d.same_id ∙ named
 
   -- the cyclic is where its record says
-  stood : (n : ℕ) → has n id w ≡ true → Stands n d.after.place × (is_online n w ≡ true)
+  stood : (n : ℕ) → has n id w ≡ true → Stands n d.after.placement × (is_online n w ≡ true)
   stood n h = let (k, r, is, own, stands, on) = a.known n id (d.fewer n h) in
       let same : r ≡ d.before = same_some (sym is
       ∙ subst (λ i. IsRecord rs i d.before) (sym (one_record rs place k d.before r rising d.was is (own ∙ sym named))) d.was)
-      in
-      (subst (λ p. Stands n p) (ap (λ (q : Record). q.place) same ∙ sym d.same_place) stands, online_same v w n d.online ∙ on)
+      in (
+        subst (λ p. Stands n p) (ap (λ (q : Record). q.placement) same
+            ∙ sym d.same_placement) stands,
+        online_same v w n d.online ∙ on,
+      )
 
-  was_stood : (n : ℕ) → has n id v ≡ true → Stands n d.after.place
+  was_stood : (n : ℕ) → has n id v ≡ true → Stands n d.after.placement
   was_stood n h = let (k, r, is, own, stands, on) = a.known n id h in
       let same : r ≡ d.before = same_some (sym is
       ∙ subst (λ i. IsRecord rs i d.before) (sym (one_record rs place k d.before r rising d.was is (own ∙ sym named))) d.was)
       in
-      subst (λ p. Stands n p) (ap (λ (q : Record). q.place) same ∙ sym d.same_place) stands
+      subst (λ p. Stands n p) (ap (λ (q : Record). q.placement) same ∙ sym d.same_placement) stands
 
-  others_stay : (j n : ℕ) (q : Record) → IsRecord rs j q → q.id ≢ id → is_everywhere q.place ≡ true → is_online n w ≡ true
+  others_stay : (j n : ℕ) (q : Record) → IsRecord rs j q → q.id ≢ id → is_everywhere q.placement ≡ true → is_online n w ≡ true
       → (has n q.id w ≡ true) ⊎ ((m : ℕ) × (removal_on m w ≡ Some q.id))
   others_stay j n q at other p up = pass (a.everywhere j n q at p (sym (online_same v w n d.online) ∙ up))
     where
@@ -91,11 +94,11 @@ module _ {R : Type 0} (v w : CpusView R) (rs rs' : List Record) (last id place :
   -- ---- it has not left all of its CPUs
   module _ (m : ℕ) (still : has m id w ≡ true) (open_there : removal_on m w ≡ Some id) where
     -- one that is on a single CPU is there
-    same_home : (n : ℕ) → is_everywhere d.after.place ≡ false → has n id v ≡ true → has n id w ≡ true
-    same_home n single h = ap (λ i. has i id w) (one_home d.after.place n m single (was_stood n h) (stood m still).0) ∙ still
+    same_home : (n : ℕ) → is_everywhere d.after.placement ≡ false → has n id v ≡ true → has n id w ≡ true
+    same_home n single h = ap (λ i. has i id w) (one_home d.after.placement n m single (was_stood n h) (stood m still).0) ∙ still
 
     here_known : (n q : ℕ) → has n q w ≡ true → (j : ℕ) × (r : Record) × IsRecord (slice_set rs place d.after) j r × (r.id ≡ q)
-        × Stands n r.place × (is_online n w ≡ true)
+        × Stands n r.placement × (is_online n w ≡ true)
     here_known n q h = dite (ℕ_discrete q id)
         (λ e. let (stands, on) = stood n (ap (λ i. has n i w) (sym e) ∙ h) in (
           place,
@@ -118,14 +121,15 @@ module _ {R : Type 0} (v w : CpusView R) (rs rs' : List Record) (last id place :
     Old : ℕ → Record → Type 0
     Old j q = ((j ≡ place) × (q ≡ d.after)) ⊎ ((j ≢ place) × IsRecord rs j q × (q.id ≢ d.before.id))
 
-    by_home : (j n : ℕ) (bound : Bool) (q : Record) → Old j q → q.place ≡ On n bound → has n q.id w ≡ true
+    by_home : (j n : ℕ) (bound : Bool) (q : Record) → Old j q → q.placement ≡ On n bound → has n q.id w ≡ true
     unfolding Old
     by_home j n bound q (inl (e, f)) p = ap (λ (y : Record). has n y.id w) f ∙ ap (λ i. has n i w) id_now
-        ∙ ap (λ k. has k id w) (sym (stands_at d.after.place n m bound (sym (ap (λ (y : Record). y.place) f) ∙ p)
+        ∙ ap (λ k. has k id w) (sym (stands_at d.after.placement n m bound (sym (ap (λ (y : Record). y.placement) f) ∙ p)
         (stood m still).0)) ∙ still
     by_home j n bound q (inr (ne, at, other)) p = d.others n q.id (apart q other) ∙ a.home j n bound q at p
 
-    by_everywhere : (j n : ℕ) (q : Record) → Old j q → is_everywhere q.place ≡ true → is_online n w ≡ true → (has n q.id w ≡ true)
+    by_everywhere : (j n : ℕ) (q : Record) → Old j q → is_everywhere q.placement ≡ true → is_online n w ≡ true
+        → (has n q.id w ≡ true)
         ⊎ ((k : ℕ) × (removal_on k w ≡ Some q.id))
     unfolding Old
     by_everywhere j n q (inl (e, f)) p up = inr (m, open_there ∙ ap Some (sym (ap (λ (y : Record). y.id) f ∙ id_now)))
@@ -142,20 +146,20 @@ module _ {R : Type 0} (v w : CpusView R) (rs rs' : List Record) (last id place :
         kept = d.kept n here ∙ a.ended place n d.before d.was (ap (λ i. has n i v) named ∙ d.fewer n here)
     by_ended j n q (inr (ne, at, other)) h = a.ended j n q at (sym (d.others n q.id (apart q other)) ∙ h)
 
-    none_ended : (n : ℕ) → is_everywhere d.after.place ≡ false → ended_on n d.after ≡ no_counts
+    none_ended : (n : ℕ) → is_everywhere d.after.placement ≡ false → ended_on n d.after ≡ no_counts
     none_ended n single = by (has n id v) refl
       where
-        was_single : is_everywhere d.before.place ≡ false
-        was_single = ap (λ p. is_everywhere p) (sym d.same_place) ∙ single
+        was_single : is_everywhere d.before.placement ≡ false
+        was_single = ap (λ p. is_everywhere p) (sym d.same_placement) ∙ single
 
         by : (b : Bool) → has n id v ≡ b → ended_on n d.after ≡ no_counts
         by true h = d.kept n (same_home n single h) ∙ a.single place n d.before d.was was_single
         by false h = d.beside n h ∙ a.single place n d.before d.was was_single
 
-    by_single : (j n : ℕ) (q : Record) → Old j q → is_everywhere q.place ≡ false → ended_on n q ≡ no_counts
+    by_single : (j n : ℕ) (q : Record) → Old j q → is_everywhere q.placement ≡ false → ended_on n q ≡ no_counts
     unfolding Old
     by_single j n q (inl (e, f)) p = ap (λ (y : Record). ended_on n y) f
-        ∙ none_ended n (sym (ap (λ (y : Record). is_everywhere y.place) f) ∙ p)
+        ∙ none_ended n (sym (ap (λ (y : Record). is_everywhere y.placement) f) ∙ p)
     by_single j n q (inr (ne, at, other)) p = a.single j n q at p
 
     by_given : (j : ℕ) (q : Record) → Old j q → q.id ≤ last
@@ -183,7 +187,7 @@ module _ {R : Type 0} (v w : CpusView R) (rs rs' : List Record) (last id place :
   -- ---- it has left all of its CPUs, and its record went
   module _ (none : (n : ℕ) → has n id w ≡ false) where
     left_known : (n q : ℕ) → has n q w ≡ true → (j : ℕ) × (r : Record) × IsRecord (remove (slice_set rs place d.after) place) j r
-        × (r.id ≡ q) × Stands n r.place × (is_online n w ≡ true)
+        × (r.id ≡ q) × Stands n r.placement × (is_online n w ≡ true)
     left_known n q h = dite (ℕ_discrete q id)
         (λ e. absurd (false_true (sym (none n) ∙ ap (λ i. has n i w) (sym e) ∙ h)))
         (λ ne. let (j, r, at, own, stands, on) = a.known n q (sym (d.others n q ne) ∙ h) in

@@ -21,7 +21,7 @@ use Rattle.cyc_agreement.specs.Holding.{Holds}
 use Rattle.cyc_agreement.specs.declared.removing.SystemRemoval.TheVariants as system_removal
 use Rattle.cyc_agreement.specs.Removing.{Begun, BeginsOn, BeginsEach, BeginsRemoval, busy_on_each, cpus_with, kept_in}
 use Rattle.cyc_agreement.specs.Polling.{Polled, PollsOn, PollsEach, PollsRemoval, leaving_cpus}
-use Rattle.cyc_agreement.specs.Withdrawing.{system, Owns, WithdrawsAt}
+use Rattle.cyc_agreement.specs.Withdrawing.{system, Owns, Withdraws, LeavesAt}
 use Rattle.cyc_agreement.proofs.Spots.{get_some, same_some}
 use Rattle.cyc_agreement.proofs.Lists.{any_at, false_true}
 use Rattle.cyc_agreement.proofs.Presence.{has_low}
@@ -33,7 +33,7 @@ use Rattle.cyc_agreement.proofs.Telling.{removal_done, removal_kept, poll_answer
 
 -- the record at this place is of this cyclic, and says that it is on this CPU
 abbrev pub IsAlone : (id place n : ℕ) → List Record → Type 0
-IsAlone id place n rs = (r : Record) × (bound : Bool) × IsRecord rs place r × (r.id ≡ id) × (r.place ≡ On n bound)
+IsAlone id place n rs = (r : Record) × (bound : Bool) × IsRecord rs place r × (r.id ≡ id) × (r.placement ≡ On n bound)
 
 module _ {R : Type 0} (v : CpusView R) (rs : List Record) (last id place n : ℕ) (a : Agrees (system v rs last))
     (rising : HasRisingIds rs) (own : IsAlone id place n rs) where
@@ -46,7 +46,7 @@ module _ {R : Type 0} (v : CpusView R) (rs : List Record) (last id place n : ℕ
   home_only m there = let (r, bound, is, named, home) = own in let (j, x, at, same, stands, on) = a.known m id there in
       let e : x ≡ r = same_some (sym at
       ∙ subst (λ i. IsRecord rs i r) (sym (one_record rs place j r x rising is at (same ∙ sym named))) is) in
-      sym (subst (λ p. Stands m p) (ap (λ (y : Record). y.place) e ∙ home) stands)
+      sym (subst (λ p. Stands m p) (ap (λ (y : Record). y.placement) e ∙ home) stands)
 
   pub home_low : n < length v.cpus
   home_low = has_low v n id home_has
@@ -62,11 +62,11 @@ module _ {R : Type 0} (v : CpusView R) (rs : List Record) (last id place n : ℕ
   home_busy = ap (λ ns. first_refusal (map (λ m. busy (removal_on m v)) ns)) (alone id v n home_only home_has)
 
 module _ {R : Type 0} (v w : CpusView R) (rs ss : List Record) (id place n : ℕ) (only : (m : ℕ) → has m id v ≡ true → m ≡ n)
-    (d : WithdrawsAt n id place v w rs ss) where
+    (d : Withdraws id place v w rs ss × LeavesAt n id v w) where
   -- where it still is, its removal is open
   pub open_alone : (m : ℕ) → has m id w ≡ true → removal_on m w ≡ Some id
-  open_alone m h = let e = only m (d.withdraws.fewer m h) in ap (λ k. removal_on k w) e
-      ∙ d.leaving (ap (λ k. has k id w) (sym e) ∙ h)
+  open_alone m h = let e = only m (d.0.fewer m h) in ap (λ k. removal_on k w) e
+      ∙ d.1.leaving (ap (λ k. has k id w) (sym e) ∙ h)
 
   -- and where that is not open, it has left
   pub left_alone : (x : CpuView R) → IsCpu n x w → is_leaving_here id x ≡ false → (m : ℕ) → has m id w ≡ false
@@ -75,7 +75,7 @@ module _ {R : Type 0} (v w : CpusView R) (rs ss : List Record) (id place n : ℕ
       by : (b : Bool) → has m id w ≡ b → b ≡ false
       by false h = refl
       by true h = absurd (false_true (sym shut ∙ leaving_is id x (sym (removal_there w n x at)
-          ∙ ap (λ k. removal_on k w) (sym (only m (d.withdraws.fewer m h))) ∙ open_alone m h)))
+          ∙ ap (λ k. removal_on k w) (sym (only m (d.0.fewer m h))) ∙ open_alone m h)))
 
 -- no removal is open of an id that no record has
 pub unknown_shut : {R : Type 0} (view : R → FiringView) (v : CpusView R) (rs : List Record) (last id : ℕ)
@@ -108,7 +108,7 @@ module _ {R : Type 0} (view : R → FiringView) (v : CpusView R) (rs : List Reco
 
 module _ {R : Type 0} (firing : Raise R) (v w : CpusView R) (rs ss : List Record) (first id place n : ℕ)
     (h : Holds (system v rs first)) (rising : HasRisingIds rs) (own : IsAlone id place n rs)
-    (d : WithdrawsAt n id place v w rs ss) where
+    (d : Withdraws id place v w rs ss × LeavesAt n id v w) where
   only : (m : ℕ) → has m id v ≡ true → m ≡ n
   only = home_only v rs first id place n h.agrees rising own
 
@@ -116,7 +116,7 @@ module _ {R : Type 0} (firing : Raise R) (v w : CpusView R) (rs ss : List Record
   owns = home_owned v rs first id place n h.agrees rising own
 
   low_still : n < length w.cpus
-  low_still = subst (λ k. n < k) (sym d.withdraws.long) (home_low v rs first id place n h.agrees rising own)
+  low_still = subst (λ k. n < k) (sym d.0.long) (home_low v rs first id place n h.agrees rising own)
 
   module _ (law : (m : ℕ) (x : CpuView R) → IsCpu m x w → IsLawful firing.view x) (b : Bool)
       (tested : OfCpu n (λ cpu. b ≡ is_leaving_here id cpu) w) where
@@ -132,11 +132,11 @@ module _ {R : Type 0} (firing : Raise R) (v w : CpusView R) (rs ss : List Record
 
     pub holds_open : b ≡ true → Holds (system w ss first)
     holds_open is = let (here, own_removal) = still_here is in
-        holds_leaving v w rs ss first id place h rising owns d.withdraws (open_alone v w rs ss id place n only d) n here
+        holds_leaving v w rs ss first id place h rising owns d.0 (open_alone v w rs ss id place n only d) n here
         own_removal
 
     pub holds_gone : b ≡ false → Holds (system w (remove ss place) first)
-    holds_gone is = holds_left v w rs ss first id place h rising owns d.withdraws (open_alone v w rs ss id place n only d)
+    holds_gone is = holds_left v w rs ss first id place h rising owns d.0 (open_alone v w rs ss id place n only d)
         (left is)
 
     -- ---- what its beginning answers
@@ -158,13 +158,13 @@ module _ {R : Type 0} (firing : Raise R) (v w : CpusView R) (rs ss : List Record
       pub begun_kept : b ≡ true
           → BeginsRemoval firing id (Ok (system_removal.Kept kept)) (system v rs last) (system w ss last)
       begun_kept is = let (steps, cpus, works, sum) = way in
-          removal_kept firing id place v w rs ss last owns d.withdraws rising clear (steps, cpus, works) n kept
+          removal_kept firing id place v w rs ss last owns d.0 rising clear (steps, cpus, works) n kept
           (still_here is).0 sum
 
       pub begun_done : b ≡ false → (receipt : Receipt) → ((r : Record) → IsRecord ss place r → IsReceiptOf receipt r)
           → BeginsRemoval firing id (Ok (system_removal.Done receipt)) (system v rs last) (system w (remove ss place) last)
       begun_done is receipt counts = let (steps, cpus, works, sum) = way in
-          removal_done firing id place v w rs ss last owns d.withdraws rising clear (steps, cpus, works) receipt (left is) counts
+          removal_done firing id place v w rs ss last owns d.0 rising clear (steps, cpus, works) receipt (left is) counts
 
     -- ---- what a poll answers
     module _ (last : ℕ) (was : (list_any (is_leaving_here id) v.cpus ≡ true) × (leaving_cpus id v ≡ n ∷ []))
@@ -174,9 +174,9 @@ module _ {R : Type 0} (firing : Raise R) (v w : CpusView R) (rs ss : List Record
       polled_way = (record { cpu = n; answer = did.0 } ∷ [], sym was.1, (system w ss last, did.1, refl))
 
       pub polled_waits : b ≡ true → PollsRemoval firing id (Ok None) (system v rs last) (system w ss last)
-      polled_waits is = poll_waits firing id place v w rs ss last owns d.withdraws was.0 polled_way n (still_here is).0
+      polled_waits is = poll_waits firing id place v w rs ss last owns d.0 was.0 polled_way n (still_here is).0
 
       pub polled_done : b ≡ false → (receipt : Receipt) → ((r : Record) → IsRecord ss place r → IsReceiptOf receipt r)
           → PollsRemoval firing id (Ok (Some receipt)) (system v rs last) (system w (remove ss place) last)
-      polled_done is receipt counts = poll_answered firing id place v w rs ss last owns d.withdraws was.0 polled_way receipt
+      polled_done is receipt counts = poll_answered firing id place v w rs ss last owns d.0 was.0 polled_way receipt
           (left is) counts

@@ -10,7 +10,7 @@ use Rattle.cyc_types.specs.declared.firing.Sent.{Sent}
 use Rattle.cyc_cpu.specs.declared.hard.Totals.{Totals}
 use Rattle.cyc_cpu.specs.Cpu.{CpuView}
 use Rattle.cyc_cpu.specs.Laws.{IsLawful}
-use Rattle.cyc_cpu.specs.Calls.{Changes, AskTotals}
+use Rattle.cyc_cpu.specs.Calls.{CpuChanges, AskTotals}
 use Rattle.cyc_places.specs.declared.record.Record.{Record}
 use Rattle.cyc_places.specs.Places.{summed}
 use Rattle.cyc_agreement.specs.Cpus.{CpusView, IsCpu, numbers_from, Works}
@@ -34,11 +34,11 @@ module _ {R : Type 0} (firing : Raise R) (g : Sent → ℕ) (id : ℕ) (adds : (
   abbrev pub worth : Counted → ℕ
   worth a = g (record { sent = a.totals.expired; lost = a.totals.lost })
 
-  answer_is : (x y : CpuView R) (t : Totals) → IsLawful firing.view x → Changes firing x (AskTotals id (Some t)) y
+  answer_is : (x y : CpuView R) (t : Totals) → IsLawful firing.view x → CpuChanges firing x (AskTotals id (Some t)) y
       → g (record { sent = t.expired; lost = t.lost }) ≡ in_cpu firing g id adds x
   answer_is x y t law (a, seen, expired, lost, spared) = (λ i. g (record { sent = expired i; lost = lost i }))
       ∙ sym (ap (λ o. option_map_or (of_cyclic firing g id adds) o 0)
-      (cyclic_found x.cyclics id a.place a.cyclic law.rising a.here a.named))
+      (cyclic_found x.cyclics id a.position a.cyclic law.rising a.here a.named))
 
   -- one CPU, and those after it
   one_sum : (k : ℕ) (x : CpuView R) (xs : List (CpuView R)) (b : Bool) → list_any (λ own. own == id) (ids_of x) ≡ b

@@ -9,7 +9,7 @@ use Rattle.cyc_types.specs.declared.Raise.{Ghosts as Raise}
 use Rattle.cyc_types.proofs.Runs.{folds_more}
 use Rattle.cyc_cpu.specs.declared.hard.Totals.{Totals}
 use Rattle.cyc_cpu.specs.Cpu.{CpuView}
-use Rattle.cyc_cpu.specs.Calls.{Changes, AskTotals}
+use Rattle.cyc_cpu.specs.Calls.{CpuChanges, AskTotals}
 use Rattle.cyc_agreement.specs.Cpus.{CpusView, IsCpu, with_cpu, numbers_from, DoesAt, Works}
 use Rattle.cyc_agreement.proofs.CpuSpots.{get_set_other, changed}
 use Rattle.cyc_agreement.specs.System.{ids_of}
@@ -52,7 +52,7 @@ module _ {R : Type 0} (firing : Raise R) (id : ℕ) where
 
   module _ (n expired lost pending : ℕ) (v w : CpusView R) (k : Asked n expired lost pending v w) (x y : CpuView R)
       (at : IsCpu n x w) where
-    pub asked_one : (t : Totals) → Changes firing x (AskTotals id (Some t)) y
+    pub asked_one : (t : Totals) → CpuChanges firing x (AskTotals id (Some t)) y
         → Asked (n + 1) (expired + t.expired) (lost + t.lost) (pending + t.pending) v (with_cpu w n y)
     asked_one t d = record {
       way = k.way ++ one_more n t ∷ [];
@@ -73,9 +73,9 @@ module _ {R : Type 0} (firing : Raise R) (id : ℕ) where
       where
         test : list_any (λ own. own == id) (ids_of x) ≡ true
         test = sym (ap (λ ids. among id ids) (ids_there w n x x at))
-            ∙ has_here w n id x at (d.0.place, d.0.cyclic, d.0.here, d.0.named)
+            ∙ has_here w n id x at (d.0.position, d.0.cyclic, d.0.here, d.0.named)
 
-    pub asked_none : Changes firing x (AskTotals id None) y → Asked (n + 1) expired lost pending v (with_cpu w n y)
+    pub asked_none : CpuChanges firing x (AskTotals id None) y → Asked (n + 1) expired lost pending v (with_cpu w n y)
     asked_none d = subst (λ u. Asked (n + 1) expired lost pending v u) (sym unchanged) (record {
       way = k.way;
       split = k.split ∙ ap (λ ns. map (λ (a : Counted). a.cpu) k.way ++ ns)

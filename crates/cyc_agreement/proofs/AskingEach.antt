@@ -10,7 +10,7 @@ use Rattle.cyc_types.specs.declared.level.Level.TheVariants.{Low, Lock}
 use Rattle.cyc_types.proofs.Runs.{folds_more}
 use Rattle.cyc_cpu.specs.Rows.{Cyclic}
 use Rattle.cyc_cpu.specs.Cpu.{CpuView, IsCyclic, Asks, seen_at}
-use Rattle.cyc_cpu.specs.Calls.{Changes, AskPending}
+use Rattle.cyc_cpu.specs.Calls.{CpuChanges, AskPending}
 use Rattle.cyc_cpu.proofs.Inquiring.{asked_lowers}
 use Rattle.cyc_places.specs.Places.{RecordsView}
 use Rattle.cyc_agreement.specs.Cpus.{CpusView, IsCpu, OfCpu, with_cpu, CallOn, on, DoesAt, Works}
@@ -24,7 +24,7 @@ use Rattle.cyc_agreement.proofs.Holding.{within_same}
 use Rattle.cyc_agreement.proofs.Who
 use Rattle.cyc_agreement.specs.Juggling.{system_of}
 use Rattle.cyc_agreement.specs.GoingOffline.{quiet, FindsPending}
-use Rattle.cyc_agreement.specs.Walking.{AreQuiet}
+use Rattle.cyc_agreement.specs.Walking.{HaveNoCalls}
 use Rattle.cyc_agreement.proofs.ListsUpTo.{take_more, drop_more, take_whole, none_more}
 use Rattle.cyc_agreement.proofs.Places.{cyclic_at, length_is}
 
@@ -56,13 +56,13 @@ module _ {R : Type 0} (firing : Raise R) where
       spot_first : slice_get (ids_on source v) place ≡ Some id
       spot_first = ap (λ ids. slice_get ids place) (sym (i.same.ids source)) ∙ spot
 
-      way_more : (n : ℕ) → Changes firing x (AskPending id (Some n)) y
+      way_more : (n : ℕ) → CpuChanges firing x (AskPending id (Some n)) y
           → Works firing (quiet source (take place (ids_on source v)) ++ on source (AskPending id (Some n)) ∷ []) v
           (with_cpu w source y)
       way_more n did = folds_more (DoesAt firing) v (quiet source (take place (ids_on source v))) w
           (on source (AskPending id (Some n))) (with_cpu w source y) i.works (changed source _ x y w at did)
 
-      pub asked_more : Changes firing x (AskPending id (Some 0)) y → Asked (place + 1) (with_cpu w source y)
+      pub asked_more : CpuChanges firing x (AskPending id (Some 0)) y → Asked (place + 1) (with_cpu w source y)
       asked_more did = record {
         works = subst (λ way. Works firing way v (with_cpu w source y))
             (sym (ap (λ ids. quiet source ids) (take_more (ids_on source v) place id spot_first)
@@ -82,7 +82,7 @@ module _ {R : Type 0} (firing : Raise R) where
             omega (arith, z, l)))));
       }
 
-      pub finds : (n : ℕ) → 0 < n → Changes firing x (AskPending id (Some n)) y → (records : RecordsView) (last : ℕ)
+      pub finds : (n : ℕ) → 0 < n → CpuChanges firing x (AskPending id (Some n)) y → (records : RecordsView) (last : ℕ)
           → FindsPending firing source (system_of v records last) (system_of (with_cpu w source y) records last)
       finds n some did records last = (
         take place (ids_on source v),
@@ -103,7 +103,7 @@ module _ {R : Type 0} (firing : Raise R) where
         (take_whole (ids_on source v) place (none_more (ids_on source v) place all)) i.works
 
     pub all_quiet : (place : ℕ) (w : CpusView R) → length (ids_on source v) ≤ place → Asked place w
-        → OfCpu source (AreQuiet firing.view) w
+        → OfCpu source (HaveNoCalls firing.view) w
     all_quiet place w all i cpu at k c is =
         let l = length_is w source cpu at in let same = ap length (i.same.ids source) in let low = is.0 in
         i.quiet_below cpu at k c (omega (arith, l, same, low, all)) is

@@ -8,6 +8,7 @@ use Rattle.cyc_types.specs.declared.Raise.{Ghosts as Raise}
 use Rattle.cyc_types.specs.declared.firing.Sent.{Sent}
 use Rattle.cyc_types.proofs.Runs.{folds_on}
 use Rattle.cyc_types.specs.Counting.{no_counts}
+use Rattle.cyc_types.proofs.Facts.{and_first}
 use Rattle.cyc_cpu.specs.Rows.{Cyclic}
 use Rattle.cyc_cpu.specs.Cpu.{CpuView}
 use Rattle.cyc_cpu.specs.Calls.{MayPlace}
@@ -24,13 +25,9 @@ use Rattle.cyc_agreement.proofs.Prefixes.{changed_to, changed_none, changed_leng
 use Rattle.cyc_agreement.proofs.Prefixes.{changed_keep, passing_more, passing_count, passing_few, ids_in, not_before}
 use Rattle.cyc_agreement.proofs.Returned.{AllEverywhere, Back, back, back_has, back_removals, leaving_same, returns_more}
 
-and_first : (a b : Bool) → (a && b) ≡ true → a ≡ true
-and_first true b e = refl
-and_first false b e = absurd (false_true e)
-
 -- one that stays is omnipresent
-pub staying_everywhere : {R : Type 0} (v : CpusView R) (r : Record) → is_staying v r ≡ true → is_everywhere r.place ≡ true
-staying_everywhere v r e = and_first (is_everywhere r.place) (not (list_any (is_leaving_here r.id) v.cpus)) e
+pub staying_everywhere : {R : Type 0} (v : CpusView R) (r : Record) → is_staying v r ≡ true → is_everywhere r.placement ≡ true
+staying_everywhere v r e = and_first (is_everywhere r.placement) (not (list_any (is_leaving_here r.id) v.cpus)) e
 
 pub all_everywhere : {R : Type 0} (v : CpusView R) (rs : List Record) → AllEverywhere (filter (is_staying v) rs)
 all_everywhere v [] = tt
@@ -45,7 +42,7 @@ all_everywhere v (r ∷ rs) = by (is_staying v r) refl (all_everywhere v rs)
 pub staying_same : {R : Type 0} (v w : CpusView R)
     → ((id : ℕ) → list_any (is_leaving_here id) w.cpus ≡ list_any (is_leaving_here id) v.cpus)
     → (r : Record) → is_staying w r ≡ is_staying v r
-staying_same v w same r = ap (λ b. is_everywhere r.place && not b) (same r.id)
+staying_same v w same r = ap (λ b. is_everywhere r.placement && not b) (same r.id)
 
 counts_at : (xs : List Sent) (n : ℕ) → AreCounts xs → (get_or xs n no_counts).lost ≤ (get_or xs n no_counts).sent
 counts_at [] n h = omega arith
@@ -80,7 +77,8 @@ module _ {R : Type 0} (firing : Raise R) (n now : ℕ) (v : CpusView R)
 
   pub bringing_more : (k : ℕ) (w u : CpusView R) (qs ps : List Record) (r : Record) → Bringing k w qs → IsRecord rs k r
       → is_staying v r ≡ true
-      → Works firing (return_at n now r.id r.level (ended_on n r) r.place) w u → ps ≡ slice_set qs k (with_ended n no_counts r)
+      → Works firing (return_at n now r.id r.level (ended_on n r) r.placement) w u
+      → ps ≡ slice_set qs k (with_ended n no_counts r)
       → Bringing (k + 1) u ps
   bringing_more k w u qs ps r b is stays did list = record {
     list = list ∙ (λ i. slice_set (b.list i) k (sym (ap (λ c. cond c (with_ended n no_counts r) r) stays) i))
@@ -89,7 +87,7 @@ module _ {R : Type 0} (firing : Raise R) (n now : ℕ) (v : CpusView R)
         (sym (ap (λ l. returns n now l) (passing_more (is_staying v) k rs r true is stays)
         ∙ returns_more firing n now (filter (is_staying v) (take k rs)) r))
         (folds_on (DoesAt firing) v (returns n now (filter (is_staying v) (take k rs))) w
-        (return_at n now r.id r.level (ended_on n r) r.place) u b.works did);
+        (return_at n now r.id r.level (ended_on n r) r.placement) u b.works did);
   }
 
   pub bringing_same : (k : ℕ) (w : CpusView R) (qs : List Record) (r : Record) → Bringing k w qs → IsRecord rs k r

@@ -9,24 +9,24 @@ use mathlib.Core.Logic.{dite}
 use native.Mathlib.Decide.{ℕ_discrete}
 use Rattle.cyc_types.specs.declared.Raise.{Ghosts as Raise}
 use Rattle.cyc_cpu.specs.Rows.{Cyclic}
-use Rattle.cyc_cpu.specs.Cpu.{CpuView, HasRisingIds, Places}
+use Rattle.cyc_cpu.specs.Cpu.{CpuView, HasRisingCyclics, Places}
 use Rattle.cyc_agreement.specs.Cpus.{CpusView, ChangesAt}
 use Rattle.cyc_agreement.proofs.CpuSpots.{get_set_other, cpu_there}
 use Rattle.cyc_agreement.proofs.Lists.{among, true_eq, false_ne, false_true}
-use Rattle.cyc_agreement.specs.OmniLaws.{Here, HasOne}
+use Rattle.cyc_agreement.specs.OmniLaws.{IsOneOf, HasOne}
 
 -- ---- one list
 
 module _ (cs : List Cyclic) (q : ℕ) (c : Cyclic) (low : q ≤ length cs) where
-  here_new : Here c (insert cs q c)
+  here_new : IsOneOf c (insert cs q c)
   here_new = (q, ((let n = length-insert cs q c low in omega (arith, n, low)), get_or-insert_at cs q c c low))
 
-  here_old : (d : Cyclic) → Here d cs → Here d (insert cs q c)
+  here_old : (d : Cyclic) → IsOneOf d cs → IsOneOf d (insert cs q c)
   here_old d (k, is) = let n = length-insert cs q c low in let long = is.0 in dite (ℕ_discrete (q - k) 0)
       (λ z. (k + 1, ((omega (arith, long, n)), get_or-insert_above cs q c d k (omega (arith, z)) low ∙ is.1)))
       (λ p. (k, ((omega (arith, long, n)), get_or-insert_below cs q c d k (omega (arith, p)) low ∙ is.1)))
 
-  here_either : (d : Cyclic) → Here d (insert cs q c) → (d ≡ c) ⊎ Here d cs
+  here_either : (d : Cyclic) → IsOneOf d (insert cs q c) → (d ≡ c) ⊎ IsOneOf d cs
   here_either d (k, is) = let n = length-insert cs q c low in let long = is.0 in dite (ℕ_discrete (q - k) 0)
       (λ z. dite (ℕ_discrete k q)
       (λ e. inl (sym is.1 ∙ ap (λ m. get_or (insert cs q c) m d) e ∙ get_or-insert_at cs q c d low))
@@ -47,7 +47,7 @@ same_default (c ∷ cs) zero d e low = refl
 same_default (c ∷ cs) (suc k) d e low = same_default cs k d e (omega (arith, low))
 
 -- where the ids rise, a cyclic is the only one of its id
-pub one_of : (c : Cyclic) (cs : List Cyclic) → HasRisingIds cs → Here c cs → HasOne c cs
+pub one_of : (c : Cyclic) (cs : List Cyclic) → HasRisingCyclics cs → IsOneOf c cs → HasOne c cs
 one_of c cs rising (k, is) = (
   k,
   is,
@@ -63,9 +63,9 @@ one_of c cs rising (k, is) = (
 
 -- to those cyclics came some with these ids
 pub record Came (ids : List ℕ) (cs ds : List Cyclic) : Type 0 where
-  pub old : (d : Cyclic) → Here d cs → Here d ds
-  pub only : (d : Cyclic) → Here d ds → Here d cs ⊎ (among d.timer.id ids ≡ true)
-  pub rising : HasRisingIds cs → HasRisingIds ds
+  pub old : (d : Cyclic) → IsOneOf d cs → IsOneOf d ds
+  pub only : (d : Cyclic) → IsOneOf d ds → IsOneOf d cs ⊎ (among d.timer.id ids ≡ true)
+  pub rising : HasRisingCyclics cs → HasRisingCyclics ds
 
 pub came_none : (cs ds : List Cyclic) → ds ≡ cs → Came [] cs ds
 came_none cs ds e = subst (λ l. Came [] cs l) (sym e) (record { old = λ d h. h; only = λ d h. inl h; rising = λ h. h })
@@ -85,11 +85,12 @@ came_then i is cs ds es a b = record {
   rising = λ h. b.rising (a.rising h);
 }
   where
-    by_first : (d : Cyclic) → Here d cs ⊎ (among d.timer.id (i ∷ []) ≡ true) → Here d cs ⊎ (among d.timer.id (i ∷ is) ≡ true)
+    by_first : (d : Cyclic) → IsOneOf d cs ⊎ (among d.timer.id (i ∷ []) ≡ true)
+        → IsOneOf d cs ⊎ (among d.timer.id (i ∷ is) ≡ true)
     by_first d (inl h) = inl h
     by_first d (inr e) = inr (or_left (i == d.timer.id) (among d.timer.id is) e)
 
-    by : (d : Cyclic) → Here d ds ⊎ (among d.timer.id is ≡ true) → Here d cs ⊎ (among d.timer.id (i ∷ is) ≡ true)
+    by : (d : Cyclic) → IsOneOf d ds ⊎ (among d.timer.id is ≡ true) → IsOneOf d cs ⊎ (among d.timer.id (i ∷ is) ≡ true)
     by d (inl h) = by_first d (a.only d h)
     by d (inr e) = inr (or_right (i == d.timer.id) (among d.timer.id is) e)
 
@@ -101,7 +102,7 @@ came_more i is cs ds a = record {
   rising = a.rising;
 }
   where
-    by : (d : Cyclic) → Here d cs ⊎ (among d.timer.id is ≡ true) → Here d cs ⊎ (among d.timer.id (i ∷ is) ≡ true)
+    by : (d : Cyclic) → IsOneOf d cs ⊎ (among d.timer.id is ≡ true) → IsOneOf d cs ⊎ (among d.timer.id (i ∷ is) ≡ true)
     by d (inl h) = inl h
     by d (inr e) = inr (or_right (i == d.timer.id) (among d.timer.id is) e)
 
@@ -109,17 +110,17 @@ module _ {R : Type 0} (firing : Raise R) (c : Cyclic) (x y : CpuView R)
     (p : Places firing c x y) where
   pub came_placed : Came (c.timer.id ∷ []) x.cyclics y.cyclics
   came_placed = record {
-    old = λ d h. subst (λ l. Here d l) (sym p.cyclics) (here_old x.cyclics p.place c p.within d h);
-    only = λ d h. by d (here_either x.cyclics p.place c p.within d (subst (λ l. Here d l) p.cyclics h));
+    old = λ d h. subst (λ l. IsOneOf d l) (sym p.cyclics) (here_old x.cyclics p.position c p.within d h);
+    only = λ d h. by d (here_either x.cyclics p.position c p.within d (subst (λ l. IsOneOf d l) p.cyclics h));
     rising = λ h. p.rising;
   }
     where
-      by : (d : Cyclic) → (d ≡ c) ⊎ Here d x.cyclics → Here d x.cyclics ⊎ (among d.timer.id (c.timer.id ∷ []) ≡ true)
+      by : (d : Cyclic) → (d ≡ c) ⊎ IsOneOf d x.cyclics → IsOneOf d x.cyclics ⊎ (among d.timer.id (c.timer.id ∷ []) ≡ true)
       by d (inl e) = inr (ap (λ b. b || false) (true_eq c.timer.id d.timer.id (sym (ap (λ (z : Cyclic). z.timer.id) e))))
       by d (inr h) = inl h
 
-  pub here_placed : Here c y.cyclics
-  here_placed = subst (λ l. Here c l) (sym p.cyclics) (here_new x.cyclics p.place c p.within)
+  pub here_placed : IsOneOf c y.cyclics
+  here_placed = subst (λ l. IsOneOf c l) (sym p.cyclics) (here_new x.cyclics p.position c p.within)
 
 -- ---- the cyclics on a CPU
 
@@ -145,7 +146,7 @@ module _ {R : Type 0} (n : ℕ) (D : CpuView R → CpuView R → Type 0) (v w : 
 
 -- ---- finding a cyclic by its id
 
-pub find_one : (id : ℕ) (c : Cyclic) (cs : List Cyclic) → c.timer.id ≡ id → HasRisingIds cs → Here c cs
+pub find_one : (id : ℕ) (c : Cyclic) (cs : List Cyclic) → c.timer.id ≡ id → HasRisingCyclics cs → IsOneOf c cs
     → find (λ (e : Cyclic). e.timer.id == id) cs ≡ Some c
 find_one id c [] named rising (k, is) = absurd (let low = is.0 in omega (arith, low))
 find_one id c (d ∷ cs) named rising (zero, is) = ap (λ x. cond x (Some d) (find (λ (e : Cyclic). e.timer.id == id) cs))
@@ -159,7 +160,7 @@ find_one id c (d ∷ cs) named rising (suc k, is) =
     ∙ find_one id c cs named (λ i j e less low. rising (suc i) (suc j) e (omega (arith, less)) (omega (arith, low)))
     (k, (omega (arith, low), is.1))
 
-pub find_none : (id : ℕ) (cs : List Cyclic) → ((d : Cyclic) → Here d cs → d.timer.id ≡ id → ⊥)
+pub find_none : (id : ℕ) (cs : List Cyclic) → ((d : Cyclic) → IsOneOf d cs → d.timer.id ≡ id → ⊥)
     → find (λ (e : Cyclic). e.timer.id == id) cs ≡ None
 find_none id [] none = refl
 find_none id (d ∷ cs) none = ap (λ x. cond x (Some d) (find (λ (e : Cyclic). e.timer.id == id) cs))

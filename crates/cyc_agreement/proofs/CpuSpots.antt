@@ -3,20 +3,11 @@ use Rattle.std.proofs.Common.{◌≡◌, ◌≢◌, ℕ, ◌-◌, ◌<◌, List,
 use Rattle.std.specs.List.{slice_get}
 use Rattle.std.proofs.lemmas.Option.{slice_get_read, slice_get-get_or, slice_get_within, slice_get_past, same_Some}
 use Rattle.std.proofs.lemmas.List.{get_or-set_same, get_or-set_other, length-set}
+pub use Rattle.cyc_types.proofs.Facts.{get_set_same, get_set_other}
 use mathlib.Core.Logic.{dite}
 use native.Mathlib.Decide.{ℕ_discrete}
 use Rattle.cyc_cpu.specs.Cpu.{CpuView}
 use Rattle.cyc_agreement.specs.Cpus.{CpusView, IsCpu, OfCpu, with_cpu, ChangesAt}
-
-pub get_set_same : {A : Type 0} (xs : List A) (i : ℕ) (x : A) → i < length xs → slice_get (slice_set xs i x) i ≡ Some x
-get_set_same xs i x low = slice_get_read (slice_set xs i x) (length xs) i x (sym (length-set xs i x)) low
-    (sym (get_or-set_same xs i x x low))
-
-pub get_set_other : {A : Type 0} (xs : List A) (i j : ℕ) (x : A) → j ≢ i → slice_get (slice_set xs i x) j ≡ slice_get xs j
-get_set_other xs i j x ne = let n = length-set xs i x in dite (ℕ_discrete (length xs - j) 0)
-    (λ z. slice_get_past (slice_set xs i x) j (omega (arith, z, n)) ∙ sym (slice_get_past xs j (omega (arith, z))))
-    (λ p. slice_get-get_or (slice_set xs i x) j x (omega (arith, p, n)) ∙ ap Some (get_or-set_other xs i j x x ne)
-    ∙ sym (slice_get-get_or xs j x (omega (arith, p))))
 
 module _ {R : Type 0} where
   -- a number names one CPU

@@ -66,7 +66,7 @@ module _ {R : Type 0} (firing : Raise R) (source : ℕ) (v : CpusView R)
       (r, at, subst (SameBeside source r) (same_some (sym here ∙ is)) same)
 
   -- no record speaks of the source alone
-  not_home : (k : ℕ) (bound : Bool) (r : Record) → IsRecord rs.list k r → r.place ≡ On source bound → ⊥
+  not_home : (k : ℕ) (bound : Bool) (r : Record) → IsRecord rs.list k r → r.placement ≡ On source bound → ⊥
   not_home k bound r is place =
       let (p, spot) = placed_at v source r.id (a.home k source bound r is place) in
       false_true (ap is_everywhere (sym place) ∙ everywhere_here firing source v rs components rising p k r spot is)
@@ -89,16 +89,17 @@ module _ {R : Type 0} (firing : Raise R) (source : ℕ) (v : CpusView R)
   agrees_offline = record {
     known = λ n id h. (let ne = apart n id h in let (k, r, is, named, stands, on) = a.known n id (sym (has_same n id ne) ∙ h) in
         let (q, at, same) = i.forth k r is in
-        (k, q, at, same.id ∙ named, subst (λ p. Stands n p) (sym same.place) stands, up n ne ∙ on));
+        (k, q, at, same.id ∙ named, subst (λ p. Stands n p) (sym same.placement) stands, up n ne ∙ on));
     home = λ k n bound q is place. (let (r, at, same) = back k q is in dite (ℕ_discrete n source)
-        (λ e. absurd (not_home k bound r at (sym same.place ∙ place ∙ ap (λ m. On m bound) e)))
-        (λ ne. has_same n q.id ne ∙ ap (λ id. has n id v) same.id ∙ a.home k n bound r at (sym same.place ∙ place)));
+        (λ e. absurd (not_home k bound r at (sym same.placement ∙ place ∙ ap (λ m. On m bound) e)))
+        (λ ne. has_same n q.id ne ∙ ap (λ id. has n id v) same.id ∙ a.home k n bound r at (sym same.placement ∙ place)));
     everywhere = λ k n q is all on. (let (r, at, same) = back k q is in
         let ne : n ≢ source = (λ e. false_true (sym off ∙ ap (λ m. is_online m t.cpus) (sym e) ∙ on)) in
-        by_everywhere k n r q at same ne (a.everywhere k n r at (ap is_everywhere (sym same.place) ∙ all) (sym (up n ne) ∙ on)));
+        by_everywhere k n r q at same ne (a.everywhere k n r at (ap is_everywhere (sym same.placement) ∙ all) (sym (up n ne)
+        ∙ on)));
     ended = λ k n q is h. (let (r, at, same) = back k q is in let ne = apart n q.id h in
         same.ended n ne ∙ a.ended k n r at (ap (λ id. has n id v) (sym same.id) ∙ sym (has_same n q.id ne) ∙ h));
-    single = λ k n q is one. (let (r, at, same) = back k q is in let too = ap is_everywhere (sym same.place) ∙ one in
+    single = λ k n q is one. (let (r, at, same) = back k q is in let too = ap is_everywhere (sym same.placement) ∙ one in
         ap (λ (x : Record). ended_on n x) (same.single too) ∙ a.single k n r at too);
     given = λ k q is. (let (r, at, same) = back k q is in let l = a.given k r at in let e = same.id in omega (arith, l, e));
     few = subst (λ n. n ≤ 16) (sym i.there) a.few;

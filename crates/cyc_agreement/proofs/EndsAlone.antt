@@ -12,16 +12,16 @@ use Rattle.cyc_types.specs.declared.receipt.Receipt.{Receipt}
 use Rattle.cyc_cpu.specs.declared.removing.Removal.TheVariants.{Done, Kept}
 use Rattle.cyc_cpu.specs.Cpu.{CpuView}
 use Rattle.cyc_cpu.specs.Laws.{IsLawful}
-use Rattle.cyc_cpu.specs.Calls.{Changes, BeginRemove, PollRemove}
+use Rattle.cyc_cpu.specs.Calls.{CpuChanges, BeginRemove, PollRemove}
 use Rattle.cyc_places.specs.declared.record.Record.{Record}
 use Rattle.cyc_places.specs.Places.{IsRecord, IsReceiptOf, HasRisingIds, HaveAllCounts, ended_on, summed, with_ended}
 use Rattle.cyc_agreement.specs.Cpus.{CpusView, IsCpu, OfCpu, with_cpu}
 use Rattle.cyc_agreement.specs.System.{is_leaving_here, is_everywhere}
 use Rattle.cyc_agreement.specs.Holding.{Holds}
 use Rattle.cyc_agreement.specs.declared.removing.SystemRemoval.TheVariants as system_removal
-use Rattle.cyc_agreement.specs.Removing.{BeginsRemoval, counts_of}
+use Rattle.cyc_agreement.specs.Removing.{BeginsRemoval, counts_of_receipt}
 use Rattle.cyc_agreement.specs.Polling.{PollsRemoval}
-use Rattle.cyc_agreement.specs.Withdrawing.{system, WithdrawsAt}
+use Rattle.cyc_agreement.specs.Withdrawing.{system, Withdraws, LeavesAt}
 use Rattle.cyc_agreement.proofs.CpuSpots.{get_set_same, changed, cpu_there}
 use Rattle.cyc_agreement.proofs.Spots.{get_some, same_some, none_some}
 use Rattle.cyc_agreement.proofs.One.{begun, polled, less_done, less_ended, done_fits, ended_fits, leaving_is, removal_there}
@@ -40,18 +40,18 @@ module _ {R : Type 0} (firing : Raise R) (v : CpusView R) (rs : List Record) (fi
     (h : Holds (system v rs first)) (rising : HasRisingIds rs) (all : HaveAllCounts rs) (own : IsAlone id place n rs) where
   -- its record, where the stay has ended with this receipt
   abbrev pub ended_with : Receipt → Record
-  ended_with receipt = with_ended n (summed (ended_on n own.0) (counts_of receipt)) own.0
+  ended_with receipt = with_ended n (summed (ended_on n own.0) (counts_of_receipt receipt)) own.0
 
   fresh : (k : ℕ) → ended_on k own.0 ≡ no_counts
   fresh k = h.agrees.single place k own.0 own.2 (ap is_everywhere own.4)
 
   -- its record has no counts but the receipt's
   sum_is : (f : Sent → ℕ) → f no_counts ≡ 0 → (receipt : Receipt)
-      → sum_by f (ended_with receipt).ended ≡ f (summed (ended_on n own.0) (counts_of receipt))
+      → sum_by f (ended_with receipt).ended ≡ f (summed (ended_on n own.0) (counts_of_receipt receipt))
   sum_is f none receipt =
       let few = home_few v rs first id place n h.agrees rising own in let long = all place own.0 own.2 in
       let (z, at) = get_some own.0.ended n (omega (arith, few, long)) in
-      let total = sum_set f own.0.ended n z (summed (ended_on n own.0) (counts_of receipt)) at in
+      let total = sum_set f own.0.ended n z (summed (ended_on n own.0) (counts_of_receipt receipt)) at in
       let rest = sum_none f own.0.ended (λ k c is. ap f (sym (get_or_from_slice_get own.0.ended k c no_counts is) ∙ fresh k)
       ∙ none) in
       let here = ap f (sym (get_or_from_slice_get own.0.ended n z no_counts at) ∙ fresh n) ∙ none in
@@ -83,10 +83,11 @@ module _ {R : Type 0} (firing : Raise R) (v : CpusView R) (rs : List Record) (fi
     few receipt low = subst (λ (e : Sent). e.sent + receipt.sent ≤ x.most) (sym (fresh n)) (omega (arith, low))
 
     -- the removal is done as it begins
-    module _ (receipt : Receipt) (e : Changes firing x (BeginRemove id (Ok (Done receipt))) y) where
-      done_at : WithdrawsAt n id place v (with_cpu v n y) rs (slice_set rs place (ended_with receipt))
+    module _ (receipt : Receipt) (e : CpuChanges firing x (BeginRemove id (Ok (Done receipt))) y) where
+      done_at : Withdraws id place v (with_cpu v n y) rs (slice_set rs place (ended_with receipt))
+          × LeavesAt n id v (with_cpu v n y)
       done_at = at_end v n id place x y at (begun firing id x y law (Done receipt) e) rs own.0 own.2
-          (slice_set rs place (ended_with receipt)) (summed (ended_on n own.0) (counts_of receipt))
+          (slice_set rs place (ended_with receipt)) (summed (ended_on n own.0) (counts_of_receipt receipt))
           (home_has v rs first id place n h.agrees rising own) (less_done firing id x y law receipt e).gone
           (few receipt (done_fits firing id x y receipt law e)) refl
 
@@ -111,8 +112,8 @@ module _ {R : Type 0} (firing : Raise R) (v : CpusView R) (rs : List Record) (fi
           done_at laws false closed refl)
 
     -- it stays open
-    module _ (kept : ℕ) (e : Changes firing x (BeginRemove id (Ok (Kept kept))) y) where
-      opens_at : WithdrawsAt n id place v (with_cpu v n y) rs rs
+    module _ (kept : ℕ) (e : CpuChanges firing x (BeginRemove id (Ok (Kept kept))) y) where
+      opens_at : Withdraws id place v (with_cpu v n y) rs rs × LeavesAt n id v (with_cpu v n y)
       opens_at = at_open v n id place x y at (begun firing id x y law (Kept kept) e) rs own.0 own.2 rs refl
 
       pub stays_open : (last total : ℕ) → total ≡ kept → BeginsRemoval firing id (Ok (system_removal.Kept total))
@@ -128,10 +129,11 @@ module _ {R : Type 0} (firing : Raise R) (v : CpusView R) (rs : List Record) (fi
     -- it is polled where it is open
     module _ (was : x.removal ≡ Some id) (was_laws : (m : ℕ) (z : CpuView R) → IsCpu m z v → IsLawful firing.view z)
         (was_open : OfCpu n (λ cpu. true ≡ is_leaving_here id cpu) v) where
-      module _ (receipt : Receipt) (e : Changes firing x (PollRemove (Some receipt)) y) where
-        ended_at : WithdrawsAt n id place v (with_cpu v n y) rs (slice_set rs place (ended_with receipt))
+      module _ (receipt : Receipt) (e : CpuChanges firing x (PollRemove (Some receipt)) y) where
+        ended_at : Withdraws id place v (with_cpu v n y) rs (slice_set rs place (ended_with receipt))
+            × LeavesAt n id v (with_cpu v n y)
         ended_at = at_end v n id place x y at (polled firing id x y law (Some receipt) was e) rs own.0 own.2
-            (slice_set rs place (ended_with receipt)) (summed (ended_on n own.0) (counts_of receipt))
+            (slice_set rs place (ended_with receipt)) (summed (ended_on n own.0) (counts_of_receipt receipt))
             (home_has v rs first id place n h.agrees rising own) (less_ended firing id x y law receipt was e).gone
             (few receipt (ended_fits firing id x y receipt law e)) refl
 
@@ -153,14 +155,14 @@ module _ {R : Type 0} (firing : Raise R) (v : CpusView R) (rs : List Record) (fi
             (holds_gone firing v (with_cpu v n y) rs (slice_set rs place (ended_with receipt)) first id place n h rising own
             ended_at laws false over refl)
 
-      module _ (e : Changes firing x (PollRemove None) y) where
-        waits_at : WithdrawsAt n id place v (with_cpu v n y) rs rs
+      module _ (e : CpuChanges firing x (PollRemove None) y) where
+        waits_at : Withdraws id place v (with_cpu v n y) rs rs × LeavesAt n id v (with_cpu v n y)
         waits_at = at_open v n id place x y at (polled firing id x y law None was e) rs own.0 own.2 rs refl
 
         waiting : y.removal ≡ Some id
         waiting = by e
           where
-            by : Changes firing x (PollRemove None) y → y.removal ≡ Some id
+            by : CpuChanges firing x (PollRemove None) y → y.removal ≡ Some id
             by (inl (none, same)) = absurd (none_some (sym none ∙ was))
             by (inr (other, is, waits)) = waits.kept.removal ∙ was
 

@@ -16,7 +16,7 @@ use Rattle.cyc_agreement.proofs.CpuSpots.{get_set_same, get_set_other}
 use Rattle.cyc_agreement.specs.System.{SystemView, has}
 use Rattle.cyc_agreement.proofs.Spots.{same_some}
 use Rattle.cyc_agreement.proofs.Recording.{found, one_record, record_none}
-use Rattle.cyc_agreement.specs.Removing.{Begun, BeginsOn, BeginsRemoval, Answers, counts_of}
+use Rattle.cyc_agreement.specs.Removing.{Begun, BeginsOn, BeginsRemoval, AnswersRemoval, counts_of_receipt}
 use Rattle.cyc_agreement.specs.Polling.{Polled, PollsOn, PollsRemoval}
 use Rattle.cyc_agreement.specs.RemovalLaws.{IsForgotten}
 use Rattle.cyc_agreement.specs.declared.removing.SystemRemoval.TheVariants as system
@@ -42,10 +42,12 @@ rising_set rs k r x rising is same i j a b less p q =
 
 module _ {R : Type 0} (firing : Raise R) (id : ℕ) where
   kept_rising : (n : ℕ) (receipt : Receipt) (s t : SystemView R) (k : ℕ) (r : Record) → IsRecord s.records k r
-      → t.records ≡ slice_set s.records k (with_ended n (summed (ended_on n r) (counts_of receipt)) r) → HasRisingIds s.records
+      → t.records ≡ slice_set s.records k (with_ended n (summed (ended_on n r) (counts_of_receipt receipt)) r)
+      → HasRisingIds s.records
       → HasRisingIds t.records
   kept_rising n receipt s t k r is e rising =
-      subst HasRisingIds (sym e) (rising_set s.records k r (with_ended n (summed (ended_on n r) (counts_of receipt)) r) rising is
+      subst HasRisingIds (sym e) (rising_set s.records k r (with_ended n (summed (ended_on n r) (counts_of_receipt receipt)) r)
+      rising is
       refl)
 
   begins_rising : (n : ℕ) (found : Removal) (s t : SystemView R) → BeginsOn firing id n found s t → HasRisingIds s.records
@@ -66,12 +68,12 @@ module _ {R : Type 0} (firing : Raise R) (id : ℕ) where
       let (i, ne, at) = left_was s k j (get_or (remove s k) j d) (slice_get-get_or (remove s k) j d low) in
       ne (one_record s k i r (get_or (remove s k) j d) rising is at (same ∙ sym named))
 
-  answered_forgotten : (receipt : Receipt) (s t : SystemView R) → HasRisingIds s.records → Answers id receipt s t
+  answered_forgotten : (receipt : Receipt) (s t : SystemView R) → HasRisingIds s.records → AnswersRemoval id receipt s t
       → IsForgotten id t
   answered_forgotten receipt s t rising a = record {
     nowhere = λ n. ap (λ v. has n id v) a.cpus ∙ by n (has n id s.cpus) refl;
     unknown = ap (λ rs. found id rs) a.records
-        ∙ record_none id (remove s.records a.place) (none_left s.records a.place a.own rising a.here a.named);
+        ∙ record_none id (remove s.records a.position) (none_left s.records a.position a.own rising a.here a.named);
   }
     where
       by : (n : ℕ) (b : Bool) → has n id s.cpus ≡ b → b ≡ false

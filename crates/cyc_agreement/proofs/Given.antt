@@ -70,7 +70,7 @@ module _ {R : Type 0} (s : SystemView R) (id : ℕ) (level : Level) (place : Pla
   new_ended n = none_ended 16 n
 
   by_known : (n q : ℕ) → has n q w ≡ true → (k : ℕ) × (r : Record) × IsRecord (s.records ++ x ∷ []) k r × (r.id ≡ q)
-      × Stands n r.place × (is_online n w ≡ true)
+      × Stands n r.placement × (is_online n w ≡ true)
   unfolding x
   by_known n q h = dite (ℕ_discrete q id)
       (λ e. let (stands, on) = c.stands n (ap (λ p. has n p w) (sym e) ∙ h) in
@@ -78,13 +78,14 @@ module _ {R : Type 0} (s : SystemView R) (id : ℕ) (level : Level) (place : Pla
       (λ ne. let (k, r, is, named, stands, on) = a.known n q (sym (b.others n q ne) ∙ h) in
       (k, r, get_front s.records x k r is, named, stands, online_same s.cpus w n b.online ∙ on))
 
-  by_home : (k n : ℕ) (bound : Bool) (r : Record) → (IsRecord s.records k r) ⊎ (r ≡ x) → r.place ≡ On n bound
+  by_home : (k n : ℕ) (bound : Bool) (r : Record) → (IsRecord s.records k r) ⊎ (r ≡ x) → r.placement ≡ On n bound
       → has n r.id w ≡ true
   unfolding x
   by_home k n bound r (inl is) p = b.others n r.id (old k r is) ∙ a.home k n bound r is p
-  by_home k n bound r (inr e) p = ap (λ (q : Record). has n q.id w) e ∙ c.home n bound (sym (ap (λ (q : Record). q.place) e) ∙ p)
+  by_home k n bound r (inr e) p = ap (λ (q : Record). has n q.id w) e
+      ∙ c.home n bound (sym (ap (λ (q : Record). q.placement) e) ∙ p)
 
-  by_everywhere : (k n : ℕ) (r : Record) → (IsRecord s.records k r) ⊎ (r ≡ x) → is_everywhere r.place ≡ true
+  by_everywhere : (k n : ℕ) (r : Record) → (IsRecord s.records k r) ⊎ (r ≡ x) → is_everywhere r.placement ≡ true
       → is_online n w ≡ true
       → (has n r.id w ≡ true) ⊎ ((m : ℕ) × (removal_on m w ≡ Some r.id))
   unfolding x
@@ -95,13 +96,13 @@ module _ {R : Type 0} (s : SystemView R) (id : ℕ) (level : Level) (place : Pla
       by (inl h) = inl (b.others n r.id (old k r is) ∙ h)
       by (inr (m, e)) = inr (m, b.removals m r.id (old k r is) e)
   by_everywhere k n r (inr e) p on = inl (ap (λ (q : Record). has n q.id w) e
-      ∙ c.everywhere n (sym (ap (λ (q : Record). is_everywhere q.place) e) ∙ p) on)
+      ∙ c.everywhere n (sym (ap (λ (q : Record). is_everywhere q.placement) e) ∙ p) on)
 
   by_ended : (k n : ℕ) (r : Record) → (IsRecord s.records k r) ⊎ (r ≡ x) → has n r.id w ≡ true → ended_on n r ≡ no_counts
   by_ended k n r (inl is) h = a.ended k n r is (sym (b.others n r.id (old k r is)) ∙ h)
   by_ended k n r (inr e) h = ap (λ (q : Record). ended_on n q) e ∙ new_ended n
 
-  by_single : (k n : ℕ) (r : Record) → (IsRecord s.records k r) ⊎ (r ≡ x) → is_everywhere r.place ≡ false
+  by_single : (k n : ℕ) (r : Record) → (IsRecord s.records k r) ⊎ (r ≡ x) → is_everywhere r.placement ≡ false
       → ended_on n r ≡ no_counts
   by_single k n r (inl is) p = a.single k n r is p
   by_single k n r (inr e) p = ap (λ (q : Record). ended_on n q) e ∙ new_ended n

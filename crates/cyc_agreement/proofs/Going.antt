@@ -12,7 +12,7 @@ use Rattle.cyc_types.specs.Reasons.{first_refusal, bad_now}
 use Rattle.cyc_types.specs.Counting.{no_counts}
 use Rattle.cyc_cpu.specs.Cpu.{CpuView, Looked, WhyNotReserved}
 use Rattle.cyc_cpu.specs.Laws.{IsLawful}
-use Rattle.cyc_cpu.specs.Calls.{Changes, Reserve, Widen}
+use Rattle.cyc_cpu.specs.Calls.{CpuChanges, Reserve, Widen}
 use Rattle.cyc_places.specs.declared.record.Record.{Record}
 use Rattle.cyc_places.specs.Places.{HasRisingIds, with_ended}
 use Rattle.cyc_agreement.specs.Cpus.{CpusView, IsCpu, with_cpu, on, DoesAt, Works}
@@ -67,22 +67,22 @@ module _ {R : Type 0} (firing : Raise R) (v : CpusView R) (rs : List Record) (n 
         (passes (bad_now now) [] None now_is refl))
 
     pub reserve_refused : (k : ℕ) (y : CpuView R) (e : Refusal) → k ≡ length (filter (is_staying v) rs)
-        → Changes firing x (Reserve k (Err e)) y
+        → CpuChanges firing x (Reserve k (Err e)) y
         → (e ≡ why.Expanding) ⊎ (e ≡ why.Memory)
     reserve_refused k y e is d = why_not firing k x y e (lawful n x at) empty
         (let few = few_stay firing.view (seen v rs last) a rising lawful in omega (arith, few, is)) d.0 d.1
 
-  same_refused : (k : ℕ) (y : CpuView R) (e : Refusal) → Changes firing x (Reserve k (Err e)) y → SameWho v (with_cpu v n y)
+  same_refused : (k : ℕ) (y : CpuView R) (e : Refusal) → CpuChanges firing x (Reserve k (Err e)) y → SameWho v (with_cpu v n y)
   same_refused k y e d = same_at v n x y at (same_reserve firing x y k (Err e) d)
 
-  pub holds_refused : (k : ℕ) (y : CpuView R) (e : Refusal) (last : ℕ) → Changes firing x (Reserve k (Err e)) y
+  pub holds_refused : (k : ℕ) (y : CpuView R) (e : Refusal) (last : ℕ) → CpuChanges firing x (Reserve k (Err e)) y
       → Holds (seen v rs last) → Holds (seen (with_cpu v n y) rs last)
   holds_refused k y e last d h = holds_same (seen v rs last) (with_cpu v n y) h (same_refused k y e d)
 
   -- from one agreement the refusal is known for any last id
   pub online_refused : (k : ℕ) (y : CpuView R) (e : Refusal) (answer : Result (Unit {0}) Refusal) (some last : ℕ)
       → Agrees (seen v rs some) → bad_now now ≡ None → answer ≡ Err e
-      → k ≡ length (filter (is_staying v) rs) → Changes firing x (Reserve k (Err e)) y
+      → k ≡ length (filter (is_staying v) rs) → CpuChanges firing x (Reserve k (Err e)) y
       → Unless {S = SystemView R} (no_cpu n (seen v rs last) ∷ online_cpu n (seen v rs last) ∷ bad_now now ∷ [])
       (λ e. Err e) answer (seen v rs last) (seen (with_cpu v n y) rs last)
       (GoesOnline firing n now answer (seen v rs last) (seen (with_cpu v n y) rs last))
@@ -98,7 +98,7 @@ module _ {R : Type 0} (firing : Raise R) (v : CpusView R) (rs : List Record) (n 
             (
               with_cpu v n y,
               subst (λ j. DoesAt firing v (on n (Reserve j (Err e))) (with_cpu v n y)) many
-                  (changed n (λ p q. Changes firing p (Reserve k (Err e)) q) x y v at d),
+                  (changed n (λ p q. CpuChanges firing p (Reserve k (Err e)) q) x y v at d),
               refl,
             ),
             refl,
@@ -109,8 +109,8 @@ module _ {R : Type 0} (firing : Raise R) (v : CpusView R) (rs : List Record) (n 
 
   -- the CPU has memory and its new size
   module _ (k : ℕ) (many : k ≡ length (filter (is_staying v) rs)) (y p z : CpuView R)
-      (reserved : Changes firing x (Reserve k (Ok tt)) y)
-      (there : IsCpu n p (with_cpu v n y)) (widened : Changes firing p (Widen k) z) where
+      (reserved : CpuChanges firing x (Reserve k (Ok tt)) y)
+      (there : IsCpu n p (with_cpu v n y)) (widened : CpuChanges firing p (Widen k) z) where
     first : DoesAt firing v (on n (Reserve k (Ok tt))) (with_cpu v n y)
     first = changed n _ x y v at reserved
 

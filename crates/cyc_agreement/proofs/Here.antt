@@ -11,16 +11,16 @@ use Rattle.cyc_agreement.proofs.Recording.{record_here, one_record}
 
 pub omni_is : {R : Type 0} (s : SystemView R) (id k : ℕ) (q : Record) → HasRisingIds s.records → IsRecord s.records k q
     → q.id ≡ id
-    → is_omnipresent id s ≡ is_everywhere q.place
-omni_is s id k q rising is named = ap (λ o. option_map_or (λ (r : Record). is_everywhere r.place) o false)
+    → is_omnipresent id s ≡ is_everywhere q.placement
+omni_is s id k q rising is named = ap (λ o. option_map_or (λ (r : Record). is_everywhere r.placement) o false)
     (record_here id k q s.records rising is named)
 
 -- the record of a cyclic that is on the source speaks of the source
 pub home_of : {R : Type 0} (s : SystemView R) (source id k n : ℕ) (bound : Bool) (q : Record) → Agrees s → HasRisingIds s.records
     → IsRecord s.records k q → q.id ≡ id
-    → has source id s.cpus ≡ true → q.place ≡ On n bound → q.place ≡ On source bound
+    → has source id s.cpus ≡ true → q.placement ≡ On n bound → q.placement ≡ On source bound
 home_of s source id k n bound q a rising is named here place =
     let (j, x, at, same, stands, on) = a.known source id here in
     let e : x ≡ q = same_some (sym at ∙ subst (λ i. IsRecord s.records i q)
     (sym (one_record s.records k j q x rising is at (same ∙ sym named))) is) in
-    place ∙ ap (λ m. On m bound) (subst (λ p. Stands source p) (ap (λ (y : Record). y.place) e ∙ place) stands)
+    place ∙ ap (λ m. On m bound) (subst (λ p. Stands source p) (ap (λ (y : Record). y.placement) e ∙ place) stands)

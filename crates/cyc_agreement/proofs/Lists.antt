@@ -6,6 +6,7 @@ use Rattle.std.specs.List.{list_any}
 use Rattle.std.proofs.lemmas.List.{take-append-drop, take-map, drop-map, map-append}
 use Rattle.std.proofs.lemmas.List.Folds.{list_any-append}
 use Rattle.std.proofs.lemmas.Bool.{or_right}
+pub use Rattle.cyc_types.proofs.Facts.{false_true}
 
 -- whether an id is among these
 abbrev pub among : ℕ → List ℕ → Bool
@@ -72,6 +73,3 @@ true_eq a b e = eq-eqb a b e
 
 pub false_ne : (a b : ℕ) → a ≢ b → (a == b) ≡ false
 false_ne a b ne = ne_eqb a b ne
-
-pub false_true : false ≡ true → ⊥
-false_true e = cc

@@ -10,7 +10,7 @@ use native.Mathlib.Decide.{ℕ_discrete}
 use Rattle.cyc_types.specs.declared.Raise.{Ghosts as Raise}
 use Rattle.cyc_types.proofs.Runs.{folds_more}
 use Rattle.cyc_cpu.specs.Cpu.{CpuView}
-use Rattle.cyc_cpu.specs.Calls.{CpuCall, Changes}
+use Rattle.cyc_cpu.specs.Calls.{CpuCall, CpuChanges}
 use Rattle.cyc_agreement.specs.Cpus.{CpusView, IsCpu, with_cpu, on, DoesAt, Works}
 use Rattle.cyc_agreement.specs.System.{SystemView, ids_of}
 use Rattle.cyc_agreement.specs.Agreement.{Agrees, suspended_on}
@@ -32,7 +32,8 @@ module _ {R : Type 0} (firing : Raise R) (call : CpuCall) (v : CpusView R) where
   pub marked_none : Marked firing call v 0 v
   marked_none = record { works = refl; long = refl }
 
-  pub marked_more : (n : ℕ) (w : CpusView R) (x y : CpuView R) → Marked firing call v n w → IsCpu n x w → Changes firing x call y
+  pub marked_more : (n : ℕ) (w : CpusView R) (x y : CpuView R) → Marked firing call v n w → IsCpu n x w
+      → CpuChanges firing x call y
       → Marked firing call v (n + 1) (with_cpu w n y)
   marked_more n w x y m at did = record {
     works = (let next : suc n ≡ n + 1 = omega arith in subst (λ k. Works firing (on_each call k) v (with_cpu w n y)) next
@@ -59,7 +60,7 @@ there None a e = absurd (none_some e)
 there (Some x) a e = (x, refl, same_some e)
 
 module _ {R : Type 0} (firing : Raise R) (call : CpuCall) (mark : Bool)
-    (marks : (x y : CpuView R) → Changes firing x call y → y ≡ record x { suspended = mark }) where
+    (marks : (x y : CpuView R) → CpuChanges firing x call y → y ≡ record x { suspended = mark }) where
   beside_one : (n : ℕ) (v w : CpusView R) → DoesAt firing v (on n call) w → SameBeside v w
   beside_one n v w d =
       let e = marks d.before d.after d.change in

@@ -11,7 +11,7 @@ use Rattle.cyc_cpu.specs.Laws.{IsLawful}
 use Rattle.cyc_cpu.specs.Removal.{HasCyclic}
 use Rattle.cyc_places.specs.declared.record.Placement.TheVariants.{On}
 use Rattle.cyc_places.specs.declared.record.Record.{Record}
-use Rattle.cyc_places.specs.Places.{IsRecord, HasRisingIds, with_place}
+use Rattle.cyc_places.specs.Places.{IsRecord, HasRisingIds, with_placement}
 use Rattle.cyc_agreement.specs.Cpus.{CpusView, IsCpu, on, Works}
 use Rattle.cyc_agreement.specs.Destination.{destination}
 use Rattle.cyc_agreement.specs.Shifting.{move_of, Shifts}
@@ -30,7 +30,7 @@ use Rattle.cyc_agreement.proofs.Shifted.{most_same, rise_on, went, stayed}
 -- the cyclic is on the source alone, is not bound, and has this destination
 module _ {R : Type 0} (s : SystemView R) (a : Agrees s) (rising : HasRisingIds s.records) (source d k : ℕ) (r : Record)
     (is : IsRecord s.records k r)
-    (place : r.place ≡ On source false) (chosen : destination (Some source) s.cpus ≡ Some d) where
+    (place : r.placement ≡ On source false) (chosen : destination (Some source) s.cpus ≡ Some d) where
   pub home : has source r.id s.cpus ≡ true
   home = a.home k source false r is place
 
@@ -62,7 +62,7 @@ module _ {R : Type 0} (s : SystemView R) (a : Agrees s) (rising : HasRisingIds s
       → IsLawful firing.view cpu)
       (w : CpusView R) where
     pub agrees_moved : Shifts firing (move_of r.id source d) (Ok tt) s.cpus w
-        → Agrees (record { cpus = w; records = slice_set s.records k (with_place (On d false) r); last = s.last })
+        → Agrees (record { cpus = w; records = slice_set s.records k (with_placement (On d false) r); last = s.last })
     agrees_moved shifts =
         let (cpu, at) = get_some s.cpus.cpus source low_source in
         let goes : GoesTo firing (move_of r.id source d) (Ok tt) s.cpus w = inr ((λ e. apart (sym e)), shifts) in

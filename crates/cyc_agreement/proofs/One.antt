@@ -14,7 +14,7 @@ use Rattle.cyc_cpu.specs.declared.removing.Removal.TheVariants.{Done, Kept}
 use Rattle.cyc_cpu.specs.Cpu.{CpuView, IsCyclic}
 use Rattle.cyc_cpu.specs.Removal.{HasCyclic}
 use Rattle.cyc_cpu.specs.Laws.{IsLawful}
-use Rattle.cyc_cpu.specs.Calls.{Changes, BeginRemove, PollRemove}
+use Rattle.cyc_cpu.specs.Calls.{CpuChanges, BeginRemove, PollRemove}
 use Rattle.cyc_agreement.specs.Cpus.{CpusView, IsCpu}
 use Rattle.cyc_agreement.proofs.Shifts.{not_both}
 use Rattle.cyc_agreement.specs.System.{ids_of, has, removal_on, is_leaving_here}
@@ -48,11 +48,11 @@ from_less id x y l still = record {
 module _ {R : Type 0} (firing : Raise R) (id : ℕ) (x y : CpuView R)
     (law : IsLawful firing.view x) where
   -- a removal that was done at once
-  pub less_done : (receipt : Receipt) → Changes firing x (BeginRemove id (Ok (Done receipt))) y → OneLess id x y
+  pub less_done : (receipt : Receipt) → CpuChanges firing x (BeginRemove id (Ok (Done receipt))) y → OneLess id x y
   less_done receipt (still, (c, counts, is, polled, leaves)) =
       less_left firing x y id _ c (ids_rise x.cyclics law.rising) leaves
 
-  pub begun : (found : Removal) → Changes firing x (BeginRemove id (Ok found)) y → LeavesCpu id x y
+  pub begun : (found : Removal) → CpuChanges firing x (BeginRemove id (Ok found)) y → LeavesCpu id x y
   begun (Done receipt) d = from_less id x y (less_done receipt d) (λ q ne e. none_some (sym d.0 ∙ e))
   begun (Kept kept) (still, o) = record {
     others = λ q ne. ap (λ ids. among q ids) same;
@@ -65,14 +65,14 @@ module _ {R : Type 0} (firing : Raise R) (id : ℕ) (x y : CpuView R)
   }
     where
       same : ids_of y ≡ ids_of x
-      same = ap (λ cs. map id_in cs) o.cyclics ∙ ids_set x.cyclics o.place never o.cyclic o.here
+      same = ap (λ cs. map id_in cs) o.cyclics ∙ ids_set x.cyclics o.position never o.cyclic o.here
 
   -- an open removal that has ended
-  pub less_ended : (receipt : Receipt) → x.removal ≡ Some id → Changes firing x (PollRemove (Some receipt)) y → OneLess id x y
+  pub less_ended : (receipt : Receipt) → x.removal ≡ Some id → CpuChanges firing x (PollRemove (Some receipt)) y → OneLess id x y
   less_ended receipt was e = subst (λ i. OneLess i x y) (same_some (sym e.was_open ∙ was))
       (less_left firing x y receipt.id _ e.cyclic (ids_rise x.cyclics law.rising) e.leaves)
 
-  pub polled : (answer : Option Receipt) → x.removal ≡ Some id → Changes firing x (PollRemove answer) y → LeavesCpu id x y
+  pub polled : (answer : Option Receipt) → x.removal ≡ Some id → CpuChanges firing x (PollRemove answer) y → LeavesCpu id x y
   polled (Some receipt) was e = from_less id x y (less_ended receipt was e) (λ q ne f. ne (same_some (sym f ∙ was)))
   polled None was (inl (none, same)) = absurd (none_some (sym none ∙ was))
   polled None was (inr (own, is, w)) = record {
@@ -92,18 +92,18 @@ counts_fit view x law k c (low, is) = subst (λ (d : Cyclic). d.timer.expired �
 
 module _ {R : Type 0} (firing : Raise R) (id : ℕ) (x y : CpuView R) where
   -- the counts of a receipt are bounded
-  pub done_fits : (receipt : Receipt) → IsLawful firing.view x → Changes firing x (BeginRemove id (Ok (Done receipt))) y
+  pub done_fits : (receipt : Receipt) → IsLawful firing.view x → CpuChanges firing x (BeginRemove id (Ok (Done receipt))) y
       → receipt.sent ≤ x.most
   done_fits receipt law (still, (c, counts, is, polled, leaves)) =
-      subst (λ n. n ≤ x.most) (sym is.1) (counts_fit firing.view x law leaves.place c leaves.here)
+      subst (λ n. n ≤ x.most) (sym is.1) (counts_fit firing.view x law leaves.position c leaves.here)
 
-  pub ended_fits : (receipt : Receipt) → IsLawful firing.view x → Changes firing x (PollRemove (Some receipt)) y
+  pub ended_fits : (receipt : Receipt) → IsLawful firing.view x → CpuChanges firing x (PollRemove (Some receipt)) y
       → receipt.sent ≤ x.most
   ended_fits receipt law e = subst (λ n. n ≤ x.most) (sym e.counted.1)
-      (counts_fit firing.view x law e.leaves.place e.cyclic e.leaves.here)
+      (counts_fit firing.view x law e.leaves.position e.cyclic e.leaves.here)
 
   -- where a cyclic is, and no removal is open, one begins
-  pub is_begun : (e : Refusal) → x.removal ≡ None → HasCyclic id x.cyclics → Changes firing x (BeginRemove id (Err e)) y → ⊥
+  pub is_begun : (e : Refusal) → x.removal ≡ None → HasCyclic id x.cyclics → CpuChanges firing x (BeginRemove id (Err e)) y → ⊥
   is_begun why.NoCyclic still here d = not_both id x.cyclics here d.0
   is_begun (why.Busy removed) still here d = none_some (sym still ∙ d.0.1)
   is_begun e still here d = absurd d.0

@@ -15,7 +15,7 @@ use Rattle.cyc_cpu.specs.declared.removing.Removal.{Removal}
 use Rattle.cyc_cpu.specs.declared.removing.Removal.TheVariants.{Done, Kept}
 use Rattle.cyc_cpu.specs.Cpu.{CpuView, IsCyclic, with_moment}
 use Rattle.cyc_cpu.specs.Removal.{Leaves}
-use Rattle.cyc_cpu.specs.Calls.{Changes, BeginRemove, PollRemove, AskTotals}
+use Rattle.cyc_cpu.specs.Calls.{CpuChanges, BeginRemove, PollRemove, AskTotals}
 use Rattle.cyc_places.specs.declared.record.Record.{Record}
 use Rattle.cyc_places.specs.Places.{IsRecord, with_ended, ended_on, summed}
 use Rattle.cyc_agreement.specs.Cpus.{CpusView, IsCpu, ChangesAt, Works}
@@ -24,7 +24,7 @@ use Rattle.cyc_agreement.specs.System.{SystemView, removal_on, record_of, is_lea
 use Rattle.cyc_agreement.proofs.Spots.{same_some, none_some}
 use Rattle.cyc_agreement.proofs.Lists.{false_ne}
 use Rattle.cyc_agreement.proofs.Recording.{found}
-use Rattle.cyc_agreement.specs.Removing.{Begun, BeginsOn, BeginsEach, BeginsRemoval, Answers, counts_of}
+use Rattle.cyc_agreement.specs.Removing.{Begun, BeginsOn, BeginsEach, BeginsRemoval, AnswersRemoval, counts_of_receipt}
 use Rattle.cyc_agreement.specs.Polling.{Polled, PollsOn, PollsEach, PollsRemoval, leaving_cpus}
 use Rattle.cyc_agreement.specs.Counting.{Counted, asked, AsksTotals}
 use Rattle.cyc_agreement.specs.declared.removing.SystemRemoval.{SystemRemoval}
@@ -51,10 +51,10 @@ module _ {R : Type 0} (firing : Raise R) (id q : ℕ) (x y : CpuView R)
     (other : q ≢ id) where
   leaves_beside : (way : List FiringCall) (c : Cyclic) → Leaves firing id way c x y → cyclic_in q y ≡ cyclic_in q x
   leaves_beside way c l = ap (λ cs. find (λ (e : Cyclic). e.timer.id == q) cs) l.cyclics
-      ∙ find_remove (λ (e : Cyclic). e.timer.id == q) x.cyclics l.place c (at_place x.cyclics l.place c l.here)
+      ∙ find_remove (λ (e : Cyclic). e.timer.id == q) x.cyclics l.position c (at_place x.cyclics l.position c l.here)
       (false_ne c.timer.id q (λ e. other (sym e ∙ l.named)))
 
-  begun_beside : (found : Removal) → Changes firing x (BeginRemove id (Ok found)) y → Beside q x y
+  begun_beside : (found : Removal) → CpuChanges firing x (BeginRemove id (Ok found)) y → Beside q x y
   begun_beside (Done receipt) (still, (c, counts, is, polled, l)) = record {
     cyclics = leaves_beside _ c l;
     stay = λ e. absurd (none_some (sym still ∙ e));
@@ -62,8 +62,8 @@ module _ {R : Type 0} (firing : Raise R) (id q : ℕ) (x y : CpuView R)
   }
   begun_beside (Kept kept) (still, o) = record {
     cyclics = ap (λ cs. find (λ (e : Cyclic). e.timer.id == q) cs) o.cyclics
-        ∙ find_set (λ (e : Cyclic). e.timer.id == q) x.cyclics o.place o.cyclic (with_moment never o.cyclic)
-        (at_place x.cyclics o.place o.cyclic o.here)
+        ∙ find_set (λ (e : Cyclic). e.timer.id == q) x.cyclics o.position o.cyclic (with_moment never o.cyclic)
+        (at_place x.cyclics o.position o.cyclic o.here)
         (false_ne o.cyclic.timer.id q (λ e. other (sym e ∙ o.named)))
         (false_ne o.cyclic.timer.id q (λ e. other (sym e ∙ o.named)));
     stay = λ e. absurd (none_some (sym still ∙ e));
@@ -72,7 +72,7 @@ module _ {R : Type 0} (firing : Raise R) (id q : ℕ) (x y : CpuView R)
 
 polled_beside : {R : Type 0} (firing : Raise R) (id q : ℕ) (x y : CpuView R) → q ≢ id
     → (answer : Option Receipt) → x.removal ≡ Some id
-    → Changes firing x (PollRemove answer) y → Beside q x y
+    → CpuChanges firing x (PollRemove answer) y → Beside q x y
 polled_beside firing id q x y other (Some receipt) open_here e = record {
   cyclics = leaves_beside firing receipt.id q x y (λ p. other (p ∙ same_some (sym e.was_open ∙ open_here))) _ e.cyclic
       e.leaves;
@@ -87,7 +87,7 @@ polled_beside firing id q x y other None open_here (inr (own, is, w)) = record {
 }
 
 asked_beside : {R : Type 0} (firing : Raise R) (id q : ℕ) (x y : CpuView R) (t : Totals)
-    → Changes firing x (AskTotals id (Some t)) y → Beside q x y
+    → CpuChanges firing x (AskTotals id (Some t)) y → Beside q x y
 asked_beside firing id q x y t d = record {
   cyclics = ap (λ cs. find (λ (e : Cyclic). e.timer.id == q) cs) d.0.cyclics;
   stay = λ e. d.0.kept.removal ∙ e;
@@ -134,10 +134,10 @@ untouched_same q s t e = subst (λ u. IsUntouched q s u) (sym e) (untouched_none
 -- counts were kept in another record
 own_kept : {R : Type 0} (id q n : ℕ) (receipt : Receipt) (s t : SystemView R) (k : ℕ) (r : Record) → q ≢ id
     → IsRecord s.records k r → r.id ≡ id
-    → t.records ≡ slice_set s.records k (with_ended n (summed (ended_on n r) (counts_of receipt)) r)
+    → t.records ≡ slice_set s.records k (with_ended n (summed (ended_on n r) (counts_of_receipt receipt)) r)
     → record_of q t ≡ record_of q s
 own_kept id q n receipt s t k r other is named e = ap (λ rs. found q rs) e
-    ∙ find_set (λ (x : Record). x.id == q) s.records k r (with_ended n (summed (ended_on n r) (counts_of receipt)) r) is
+    ∙ find_set (λ (x : Record). x.id == q) s.records k r (with_ended n (summed (ended_on n r) (counts_of_receipt receipt)) r) is
     (false_ne r.id q (λ f. other (sym f ∙ named))) (false_ne r.id q (λ f. other (sym f ∙ named)))
 
 module _ {R : Type 0} (firing : Raise R) (id q : ℕ) (other : q ≢ id) where
@@ -166,10 +166,10 @@ module _ {R : Type 0} (firing : Raise R) (id q : ℕ) (other : q ≢ id) where
       (polled_beside firing id q does.before does.after other None (open_here does.before does.here) does.change))
       (ap (λ rs. found q rs) records)
 
-  pub answers_untouched : (receipt : Receipt) (s t : SystemView R) → Answers id receipt s t → IsUntouched q s t
+  pub answers_untouched : (receipt : Receipt) (s t : SystemView R) → AnswersRemoval id receipt s t → IsUntouched q s t
   answers_untouched receipt s t a = untouched q s t
       (subst (λ v. AllBeside q s.cpus v) (sym a.cpus) (record { cyclics = λ n. refl; stay = λ n e. e; was = λ n e. e }))
-      (ap (λ rs. found q rs) a.records ∙ find_remove (λ (x : Record). x.id == q) s.records a.place a.own a.here
+      (ap (λ rs. found q rs) a.records ∙ find_remove (λ (x : Record). x.id == q) s.records a.position a.own a.here
       (false_ne a.own.id q (λ f. other (sym f ∙ a.named))))
 
 -- only the CPU that is polled changes

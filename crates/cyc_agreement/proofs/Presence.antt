@@ -18,7 +18,7 @@ use Rattle.cyc_types.specs.declared.moment.When.{When}
 use Rattle.cyc_places.specs.declared.record.Placement.TheVariants.{On, Everywhere}
 use Rattle.cyc_places.specs.Places.{IsRecord}
 use Rattle.cyc_agreement.specs.Agreement.{Agrees}
-use Rattle.cyc_agreement.specs.Binding.{HasPlace}
+use Rattle.cyc_agreement.specs.Binding.{HasPlacement}
 use Rattle.cyc_agreement.proofs.Spots.{same_some}
 use Rattle.cyc_agreement.specs.System.{SystemView, is_everywhere, is_omnipresent, ids_of, has, is_leaving_here, is_leaving}
 use Rattle.cyc_agreement.specs.System.{is_unknown, record_of, is_online}
@@ -108,21 +108,21 @@ module _ {R : Type 0} (s : SystemView R) (a : Agrees s) (id k : ℕ) (r q : Reco
   pub present_clear : no_cyclic id s ≡ None
   present_clear = is_present s id r p.known p.still
 
-  pub single_clear : (n : ℕ) (bound : Bool) → q.place ≡ On n bound → omnipresent id s ≡ None
+  pub single_clear : (n : ℕ) (bound : Bool) → q.placement ≡ On n bound → omnipresent id s ≡ None
   single_clear n bound e = not_when (is_omnipresent id s) Omnipresent
-      (ap (λ o. option_map_or (λ (x : Record). is_everywhere x.place) o false) p.known
-      ∙ ap (λ (x : Record). is_everywhere x.place) (sym read_is) ∙ ap is_everywhere e)
+      (ap (λ o. option_map_or (λ (x : Record). is_everywhere x.placement) o false) p.known
+      ∙ ap (λ (x : Record). is_everywhere x.placement) (sym read_is) ∙ ap is_everywhere e)
 
-  pub omni_refused : (first : When) (skew : ℕ) → q.place ≡ Everywhere first skew → omnipresent id s ≡ Some Omnipresent
+  pub omni_refused : (first : When) (skew : ℕ) → q.placement ≡ Everywhere first skew → omnipresent id s ≡ Some Omnipresent
   omni_refused first skew e = is_when (is_omnipresent id s) Omnipresent
-      (ap (λ o. option_map_or (λ (x : Record). is_everywhere x.place) o false) p.known
-      ∙ ap (λ (x : Record). is_everywhere x.place) (sym read_is) ∙ ap is_everywhere e)
+      (ap (λ o. option_map_or (λ (x : Record). is_everywhere x.placement) o false) p.known
+      ∙ ap (λ (x : Record). is_everywhere x.placement) (sym read_is) ∙ ap is_everywhere e)
 
-  pub at_home : (n : ℕ) (bound : Bool) → q.place ≡ On n bound → has n id s.cpus ≡ true
+  pub at_home : (n : ℕ) (bound : Bool) → q.placement ≡ On n bound → has n id s.cpus ≡ true
   at_home n bound e = ap (λ i. has n i s.cpus) (sym p.named)
-      ∙ a.home k n bound r p.here (ap (λ (x : Record). x.place) (sym read_is) ∙ e)
+      ∙ a.home k n bound r p.here (ap (λ (x : Record). x.placement) (sym read_is) ∙ e)
 
-  pub home_is : (n : ℕ) (bound : Bool) → q.place ≡ On n bound → HasPlace id n bound s
+  pub home_is : (n : ℕ) (bound : Bool) → q.placement ≡ On n bound → HasPlacement id n bound s
   home_is n bound e = (k, q, at, ap (λ (x : Record). x.id) read_is ∙ p.named, e)
 
 -- what the CPU says of the id
@@ -140,14 +140,14 @@ both_false : (a b : Bool) → a ≡ false → (a && b) ≡ false
 both_false a b e = ap (λ x. x && b) e
 
 module _ {R : Type 0} (s : SystemView R) (id k n : ℕ) (r q : Record) (p : IsPresent id k r s) (at : IsRecord s.records k q) where
-  omni_is : is_omnipresent id s ≡ is_everywhere q.place
-  omni_is = ap (λ o. option_map_or (λ (x : Record). is_everywhere x.place) o false) p.known
-      ∙ ap (λ (x : Record). is_everywhere x.place) (same_some (sym p.here ∙ at))
+  omni_is : is_omnipresent id s ≡ is_everywhere q.placement
+  omni_is = ap (λ o. option_map_or (λ (x : Record). is_everywhere x.placement) o false) p.known
+      ∙ ap (λ (x : Record). is_everywhere x.placement) (same_some (sym p.here ∙ at))
 
-  pub component_not : is_everywhere q.place ≡ false → false ≡ (is_omnipresent id s && has n id s.cpus)
+  pub component_not : is_everywhere q.placement ≡ false → false ≡ (is_omnipresent id s && has n id s.cpus)
   component_not e = sym (both_false (is_omnipresent id s) (has n id s.cpus) (omni_is ∙ e))
 
-  pub component_is : (b : Bool) → is_everywhere q.place ≡ true → b ≡ has n id s.cpus
+  pub component_is : (b : Bool) → is_everywhere q.placement ≡ true → b ≡ has n id s.cpus
       → b ≡ (is_omnipresent id s && has n id s.cpus)
   component_is b e f = f ∙ sym (both_true (is_omnipresent id s) (has n id s.cpus) (omni_is ∙ e))
 

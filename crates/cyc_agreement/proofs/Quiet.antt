@@ -3,7 +3,7 @@ use Rattle.std.proofs.Common.{◌≡◌, sym, ap, ◌∙◌, ℕ, Ok, Err, inl, 
 use Rattle.cyc_types.specs.declared.Raise.{Ghosts as Raise}
 use Rattle.cyc_types.specs.declared.refusal.Refusal.{Refusal}
 use Rattle.cyc_cpu.specs.Cpu.{CpuView}
-use Rattle.cyc_cpu.specs.Calls.{CpuCall, Changes, AskRoom, Reserve, Widen}
+use Rattle.cyc_cpu.specs.Calls.{CpuCall, CpuChanges, AskRoom, Reserve, Widen}
 use Rattle.cyc_agreement.specs.Cpus.{CpusView, CallOn, on, Works}
 use Rattle.cyc_agreement.specs.Reserving.{rooms, reserves, ReservesEach}
 use Rattle.cyc_agreement.proofs.Components.{cyclics_on, are_same}
@@ -21,7 +21,7 @@ AllQuiet [] = Unit {0}
 AllQuiet (c ∷ cs) = Quiet c.call × AllQuiet cs
 
 module _ {R : Type 0} (firing : Raise R) where
-  quiet_call : (x y : CpuView R) (call : CpuCall) → Quiet call → Changes firing x call y → SameIds x y
+  quiet_call : (x y : CpuView R) (call : CpuCall) → Quiet call → CpuChanges firing x call y → SameIds x y
   quiet_call x y _ (asks more (Ok done)) d = same_looked firing x y d.0
   quiet_call x y _ (asks more (Err e)) d = same_looked firing x y d.0
   quiet_call x y _ (takes more answer) d = same_reserve firing x y more answer d
@@ -72,7 +72,7 @@ quiet_reserves firing more (Err e) v w (inr (asked, a, (is, before, n, after, wo
 -- ---- the cyclics themselves
 
 module _ {R : Type 0} (firing : Raise R) where
-  quiet_list : (x y : CpuView R) (call : CpuCall) → Quiet call → Changes firing x call y → y.cyclics ≡ x.cyclics
+  quiet_list : (x y : CpuView R) (call : CpuCall) → Quiet call → CpuChanges firing x call y → y.cyclics ≡ x.cyclics
   quiet_list x y _ (asks more (Ok done)) d = d.0.cyclics
   quiet_list x y _ (asks more (Err e)) d = d.0.cyclics
   quiet_list x y _ (takes more (Ok done)) d = d.0.cyclics

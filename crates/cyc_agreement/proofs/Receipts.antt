@@ -21,7 +21,7 @@ use Rattle.cyc_agreement.proofs.Spots.{same_some}
 use Rattle.cyc_agreement.proofs.Lists.{among}
 use Rattle.cyc_agreement.proofs.Who.{ids_there}
 use Rattle.cyc_agreement.proofs.Recording.{record_here}
-use Rattle.cyc_agreement.specs.Removing.{Begun, BeginsOn, BeginsEach, BeginsRemoval, Answers, cpus_with}
+use Rattle.cyc_agreement.specs.Removing.{Begun, BeginsOn, BeginsEach, BeginsRemoval, AnswersRemoval, cpus_with}
 use Rattle.cyc_agreement.specs.Polling.{Polled, PollsOn, PollsEach, PollsRemoval, leaving_cpus}
 use Rattle.cyc_agreement.specs.Counts.{IsFit, AreLawful}
 use Rattle.cyc_agreement.specs.declared.removing.SystemRemoval.TheVariants as system
@@ -78,12 +78,12 @@ module _ {R : Type 0} (firing : Raise R) (g : Sent → ℕ) (id : ℕ) (adds : (
       beginning j x at = subst (λ n. IsCpu n x s.cpus) (let z : 0 + j ≡ j = omega arith in z) at
 
   -- where no CPU has the cyclic, all of its counts are in its record
-  answered_all : (receipt : Receipt) (u t : SystemView R) → IsFit u → (a : Answers id receipt u t)
+  answered_all : (receipt : Receipt) (u t : SystemView R) → IsFit u → (a : AnswersRemoval id receipt u t)
       → all_of firing g id adds u ≡ sum_by g a.own.ended
   answered_all receipt u t fit a =
       let none = sum_none (in_cpu firing g id adds) u.cpus.cpus absent in
       let own = ap (λ o. option_map_or (λ (r : Record). sum_by g r.ended) o 0)
-      (record_here id a.place a.own u.records fit.rising a.here a.named) in
+      (record_here id a.position a.own u.records fit.rising a.here a.named) in
       omega (arith, none, own)
     where
       lacks : (n : ℕ) (b : Bool) → has n id u.cpus ≡ b → has n id u.cpus ≡ false

@@ -11,7 +11,7 @@ use Rattle.cyc_types.specs.declared.firing.Sent.{Sent}
 use Rattle.cyc_types.specs.declared.moment.When.{When}
 use Rattle.cyc_types.specs.Counting.{no_counts}
 use Rattle.cyc_cpu.specs.Rows.{Cyclic}
-use Rattle.cyc_cpu.specs.Cpu.{CpuView, HasRisingIds}
+use Rattle.cyc_cpu.specs.Cpu.{CpuView, HasRisingCyclics}
 use Rattle.cyc_places.specs.declared.record.Placement.{Placement}
 use Rattle.cyc_places.specs.declared.record.Placement.TheVariants.{On, Everywhere}
 use Rattle.cyc_places.specs.declared.record.Record.{Record}
@@ -24,7 +24,7 @@ use Rattle.cyc_agreement.proofs.Lists.{among, false_true}
 use Rattle.cyc_agreement.proofs.Spots.{same_some, none_some}
 use Rattle.cyc_agreement.proofs.Recording.{one_record}
 use Rattle.cyc_agreement.specs.Online.{is_staying, staying, return_at, returns, after_return, GoesOnline}
-use Rattle.cyc_agreement.specs.OmniLaws.{Here, HasOne, old_component, expired_on, lost_on}
+use Rattle.cyc_agreement.specs.OmniLaws.{IsOneOf, HasOne, old_component, expired_on, lost_on}
 use Rattle.cyc_agreement.proofs.Prefixes.{ids_in, found_in}
 use Rattle.cyc_agreement.proofs.Arriving.{between}
 use Rattle.cyc_agreement.proofs.Returned.{Back, back}
@@ -52,18 +52,18 @@ module _ {R : Type 0} (firing : Raise R) (n now : ℕ) where
   -- what the CPU has of these after they came back
   pub record Regained (rs : List Record) (v w : CpusView R) : Type 0 where
     pub came : Came (ids_in rs) (cyclics_on n v) (cyclics_on n w)
-    pub here : (k : ℕ) (r : Record) (when : When) (skew : ℕ) → IsRecord rs k r → r.place ≡ Everywhere when skew
-        → Here (old_component n r when skew now) (cyclics_on n w) × HasRisingIds (cyclics_on n w)
+    pub here : (k : ℕ) (r : Record) (when : When) (skew : ℕ) → IsRecord rs k r → r.placement ≡ Everywhere when skew
+        → IsOneOf (old_component n r when skew now) (cyclics_on n w) × HasRisingCyclics (cyclics_on n w)
 
   same_series : {a b : When} {i j : ℕ} → Everywhere a i ≡ Everywhere b j → (a ≡ b) × (i ≡ j)
   same_series {a} {b} {i} {j} e = (cc, cc)
 
-  regain_at : (r : Record) (place : Placement) (v w : CpusView R) → r.place ≡ place
+  regain_at : (r : Record) (place : Placement) (v w : CpusView R) → r.placement ≡ place
       → Works firing (return_at n now r.id r.level (ended_on n r) place) v w → Regained (r ∷ []) v w
   regain_at r (On m bound) v w is e = record {
     came = came_more r.id [] (cyclics_on n v) (cyclics_on n w)
         (came_none (cyclics_on n v) (cyclics_on n w) (ap (λ x. cyclics_on n x) (sym e)));
-    here = λ k q when skew at p. absurd (not_both m bound when skew (sym is ∙ ap (λ (x : Record). x.place) (one k q at) ∙ p));
+    here = λ k q when skew at p. absurd (not_both m bound when skew (sym is ∙ ap (λ (x : Record). x.placement) (one k q at) ∙ p));
   }
     where
       one : (k : ℕ) (q : Record) → IsRecord (r ∷ []) k q → r ≡ q
@@ -76,11 +76,11 @@ module _ {R : Type 0} (firing : Raise R) (n now : ℕ) where
     came = subst (λ l. Came (r.id ∷ []) l (cyclics_on n w)) (sym (were_there n _ v u places))
         (subst (λ l. Came (r.id ∷ []) places.before.cyclics l) after
         (came_placed firing _ places.before places.after places.change.1));
-    here = λ k q when other at p. (let (a, b) = same_series (sym is ∙ ap (λ (x : Record). x.place) (one k q at) ∙ p) in (
-      subst (λ c. Here c (cyclics_on n w)) (λ i. old_component n (one k q at i) (a i) (b i) now)
-          (subst (λ l. Here (old_component n r series skew now) l) after
+    here = λ k q when other at p. (let (a, b) = same_series (sym is ∙ ap (λ (x : Record). x.placement) (one k q at) ∙ p) in (
+      subst (λ c. IsOneOf c (cyclics_on n w)) (λ i. old_component n (one k q at i) (a i) (b i) now)
+          (subst (λ l. IsOneOf (old_component n r series skew now) l) after
           (here_placed firing _ places.before places.after places.change.1)),
-      subst (λ l. HasRisingIds l) after places.change.1.rising,
+      subst (λ l. HasRisingCyclics l) after places.change.1.rising,
     ));
   }
     where
@@ -98,16 +98,16 @@ module _ {R : Type 0} (firing : Raise R) (n now : ℕ) where
         λ k r when skew at p. absurd (none_some at);
   }
   regained (r ∷ rs) v w works =
-      let (u, first, rest) = between (DoesAt firing) v (return_at n now r.id r.level (ended_on n r) r.place)
+      let (u, first, rest) = between (DoesAt firing) v (return_at n now r.id r.level (ended_on n r) r.placement)
       (returns n now rs) w works in
-      let a = regain_at r r.place v u refl first in let b = regained rs u w rest in record {
+      let a = regain_at r r.placement v u refl first in let b = regained rs u w rest in record {
         came = came_then r.id (ids_in rs) (cyclics_on n v) (cyclics_on n u) (cyclics_on n w) a.came b.came;
         here = λ k q when skew at p. by u a b k q when skew at p;
       }
     where
       by : (u : CpusView R) → Regained (r ∷ []) v u → Regained rs u w → (k : ℕ) (q : Record) (when : When) (skew : ℕ)
-          → IsRecord (r ∷ rs) k q → q.place ≡ Everywhere when skew
-          → Here (old_component n q when skew now) (cyclics_on n w) × HasRisingIds (cyclics_on n w)
+          → IsRecord (r ∷ rs) k q → q.placement ≡ Everywhere when skew
+          → IsOneOf (old_component n q when skew now) (cyclics_on n w) × HasRisingCyclics (cyclics_on n w)
       by u a b zero q when skew at p = let (here, rising) = a.here 0 q when skew at p in
           (b.came.old (old_component n q when skew now) here, b.came.rising rising)
       by u a b (suc k) q when skew at p = b.here k q when skew at p
@@ -131,7 +131,7 @@ module _ {R : Type 0} (firing : Raise R) (s t : SystemView R) (n now : ℕ)
   rest : Back n (staying s) did.0.1.2.0 did.0.0
   rest = back firing n now (staying s) did.0.1.2.0 did.0.0 (all_everywhere s.cpus s.records) works
 
-  pub all_back : (k : ℕ) (r : Record) (when : When) (skew : ℕ) → IsRecord s.records k r → r.place ≡ Everywhere when skew
+  pub all_back : (k : ℕ) (r : Record) (when : When) (skew : ℕ) → IsRecord s.records k r → r.placement ≡ Everywhere when skew
       → is_staying s.cpus r ≡ true → OfCpu n (λ cpu. HasOne (old_component n r when skew now) cpu.cyclics) t.cpus
   all_back k r when skew is place stays cpu at =
       let (j, there) = passing_at (is_staying s.cpus) k r s.records is stays in
@@ -159,11 +159,11 @@ module _ {R : Type 0} (firing : Raise R) (s t : SystemView R) (n now : ℕ)
 
     -- the CPU has a cyclic of this id only where its record stays
     not_other : (k : ℕ) (r : Record) → IsRecord s.records k r → is_staying s.cpus r ≡ false → (d : Cyclic)
-        → Here d (cyclics_on n did.0.0) → d.timer.id ≡ r.id → ⊥
+        → IsOneOf d (cyclics_on n did.0.0) → d.timer.id ≡ r.id → ⊥
     not_other k r is leaves d h same = by (gained.came.only d h)
       where
-        by : Here d (cyclics_on n did.0.1.2.0) ⊎ (among d.timer.id (ids_in (staying s)) ≡ true) → ⊥
-        by (inl there) = let (j, at) = subst (λ l. Here d l) (before n ∙ none_before) there in let low = at.0 in
+        by : IsOneOf d (cyclics_on n did.0.1.2.0) ⊎ (among d.timer.id (ids_in (staying s)) ≡ true) → ⊥
+        by (inl there) = let (j, at) = subst (λ l. IsOneOf d l) (before n ∙ none_before) there in let low = at.0 in
             absurd (omega (arith, low))
         by (inr e) = let (j, p, at, named, stays) = found_in (is_staying s.cpus) d.timer.id s.records e in
             let one : p ≡ r = same_some (sym at ∙ subst (λ i. IsRecord s.records i r)
@@ -179,7 +179,7 @@ module _ {R : Type 0} (firing : Raise R) (s t : SystemView R) (n now : ℕ)
           ∙ (let e : 0 + g (ended_on n r) ≡ g (ended_on n r) = omega arith in e)
 
       at_last : (k : ℕ) (r : Record) → IsRecord s.records k r → (b : Bool) → is_staying s.cpus r ≡ b → (p : Placement)
-          → r.place ≡ p
+          → r.placement ≡ p
           → option_map_or f (find (λ (c : Cyclic). c.timer.id == (after_return n s.cpus r).id) (cyclics_on n t.cpus)) 0 + g
           (ended_on n (after_return n s.cpus r)) ≡ g (ended_on n r)
       at_last k r is false leaves p place = let x = turned n (is_staying s.cpus r) r in
@@ -208,20 +208,20 @@ module _ {R : Type 0} (firing : Raise R) (s t : SystemView R) (n now : ℕ)
           (λ e. subst (λ j. option_map_or f (find (λ (c : Cyclic). c.timer.id == (after_return n s.cpus r).id)
           (cyclics_on j t.cpus)) 0 + g (ended_on j (after_return n s.cpus r))
           ≡ option_map_or f (find (λ (c : Cyclic). c.timer.id == r.id) (cyclics_on j s.cpus)) 0 + g (ended_on j r)) (sym e)
-          (at_last k r is (is_staying s.cpus r) refl r.place refl ∙ sym (at_first r)))
+          (at_last k r is (is_staying s.cpus r) refl r.placement refl ∙ sym (at_first r)))
           (λ ne. let x = turned n (is_staying s.cpus r) r in let same = (others_stay m ne).0 in
           (λ i. option_map_or f (find (λ (c : Cyclic). c.timer.id == x.id i)
           (option_map_or (λ (c : CpuView R). c.cyclics) (same i) [])) 0 + g (x.other m ne i)))
 
     pub nothing_lost : (k : ℕ) (r : Record) → IsRecord s.records k r
-        → (q : Record) × IsRecord t.records k q × (q.id ≡ r.id) × (q.level ≡ r.level) × (q.place ≡ r.place)
+        → (q : Record) × IsRecord t.records k q × (q.id ≡ r.id) × (q.level ≡ r.level) × (q.placement ≡ r.placement)
         × ((m : ℕ) → (expired_on m q t ≡ expired_on m r s) × (lost_on m q t ≡ lost_on m r s))
     nothing_lost k r is = let x = turned n (is_staying s.cpus r) r in (
       after_return n s.cpus r,
       ap (λ l. slice_get l k) did.1 ∙ at_mapped (after_return n s.cpus) k r s.records is,
       x.id,
       x.level,
-      x.place,
+      x.placement,
       λ m. (
         count_kept (λ c. c.timer.expired) (λ e. e.sent) refl (λ q when skew. refl) k r is m,
         count_kept (λ c. c.lost) (λ e. e.lost) refl (λ q when skew. refl) k r is m,

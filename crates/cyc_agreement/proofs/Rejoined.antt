@@ -51,7 +51,7 @@ removal_at id (Some cpu) e = (cpu, refl, e)
 -- one that stays is not leaving
 pub not_open : {R : Type 0} (v : CpusView R) (r : Record) (m : ℕ) → is_staying v r ≡ true → removal_on m v ≡ Some r.id → ⊥
 not_open v r m stays e = let (cpu, at, is) = removal_at r.id (slice_get v.cpus m) e in
-    not_leaving v r.id (and_second (is_everywhere r.place) (list_any (is_leaving_here r.id) v.cpus) stays) m cpu at is
+    not_leaving v r.id (and_second (is_everywhere r.placement) (list_any (is_leaving_here r.id) v.cpus) stays) m cpu at is
 
 -- an id that is leaving is leaving on some CPU
 pub open_on : {R : Type 0} (v : CpusView R) (id : ℕ) → list_any (is_leaving_here id) v.cpus ≡ true → (m : ℕ)
@@ -130,7 +130,7 @@ set_there (x ∷ xs) (suc n) = set_there xs n
 pub record Turned (n : ℕ) (stays : Bool) (r q : Record) : Type 0 where
   pub id : q.id ≡ r.id
   pub level : q.level ≡ r.level
-  pub place : q.place ≡ r.place
+  pub placement : q.placement ≡ r.placement
   pub here : stays ≡ true → ended_on n q ≡ no_counts
   pub other : (m : ℕ) → m ≢ n → ended_on m q ≡ ended_on m r
   pub left : stays ≡ false → q ≡ r
@@ -140,7 +140,7 @@ pub turned : (n : ℕ) (b : Bool) (r : Record) → Turned n b r (cond b (with_en
 turned n true r = record {
   id = refl;
   level = refl;
-  place = refl;
+  placement = refl;
   here = λ e. set_there r.ended n;
   other = λ m ne. get_or-set_other r.ended n m no_counts no_counts ne;
   left = λ e. absurd (false_true (sym e));
@@ -152,7 +152,7 @@ turned n true r = record {
 turned n false r = record {
   id = refl;
   level = refl;
-  place = refl;
+  placement = refl;
   here = λ e. absurd (false_true e);
   other = λ m ne. refl;
   left = λ e. refl;
@@ -216,7 +216,7 @@ module _ {R : Type 0} (n : ℕ) (s : SystemView R) (u w : CpusView R) (a : Agree
   after : List Record
   after = map (after_return n s.cpus) s.records
 
-  by_known : (m q : ℕ) → has m q w ≡ true → (k : ℕ) × (r : Record) × IsRecord after k r × (r.id ≡ q) × Stands m r.place
+  by_known : (m q : ℕ) → has m q w ≡ true → (k : ℕ) × (r : Record) × IsRecord after k r × (r.id ≡ q) × Stands m r.placement
       × (is_online m (switched_on n w) ≡ true)
   unfolding after
   by_known m q h = dite (ℕ_discrete m n)
@@ -227,7 +227,7 @@ module _ {R : Type 0} (n : ℕ) (s : SystemView R) (u w : CpusView R) (a : Agree
         after_return n s.cpus r,
         at_mapped (after_return n s.cpus) k r s.records is,
         t.id ∙ named,
-        subst (λ p. Stands m p) (sym t.place) (all_stand r.place (staying_everywhere s.cpus r stays)),
+        subst (λ p. Stands m p) (sym t.placement) (all_stand r.placement (staying_everywhere s.cpus r stays)),
         ap (λ j. is_online j (switched_on n w)) e ∙ online_here,
       ))
       (λ ne. let (k, r, is, named, stands, on) = a.known m q (sym (has_there m q ne) ∙ h) in
@@ -236,7 +236,7 @@ module _ {R : Type 0} (n : ℕ) (s : SystemView R) (u w : CpusView R) (a : Agree
         after_return n s.cpus r,
         at_mapped (after_return n s.cpus) k r s.records is,
         t.id ∙ named,
-        subst (λ p. Stands m p) (sym t.place) stands,
+        subst (λ p. Stands m p) (sym t.placement) stands,
         online_there m ne ∙ on,
       ))
     where
@@ -244,26 +244,26 @@ module _ {R : Type 0} (n : ℕ) (s : SystemView R) (u w : CpusView R) (a : Agree
       all_stand (On j bound) e = absurd (false_true e)
       all_stand (Everywhere series skew) e = tt
 
-  by_home : (k m : ℕ) (bound : Bool) (q : Record) → IsRecord after k q → q.place ≡ On m bound → has m q.id w ≡ true
+  by_home : (k m : ℕ) (bound : Bool) (q : Record) → IsRecord after k q → q.placement ≡ On m bound → has m q.id w ≡ true
   unfolding after
   by_home k m bound q is p =
       let (r, before, t) = turned_at n s.cpus s.records k q is in
-      let here = a.home k m bound r before (sym t.place ∙ p) in
+      let here = a.home k m bound r before (sym t.placement ∙ p) in
       let (j, y, at2, named, stands, on) = a.known m r.id here in
       ap (λ i. has m i w) t.id ∙ has_there m r.id (not_this m on) ∙ here
 
-  by_everywhere : (k m : ℕ) (q : Record) → IsRecord after k q → is_everywhere q.place ≡ true
+  by_everywhere : (k m : ℕ) (q : Record) → IsRecord after k q → is_everywhere q.placement ≡ true
       → is_online m (switched_on n w) ≡ true
       → (has m q.id w ≡ true) ⊎ ((j : ℕ) × (removal_on j w ≡ Some q.id))
   unfolding after
   by_everywhere k m q is p on =
       let (r, before, t) = turned_at n s.cpus s.records k q is in
-      let every : is_everywhere r.place ≡ true = ap is_everywhere (sym t.place) ∙ p in
+      let every : is_everywhere r.placement ≡ true = ap is_everywhere (sym t.placement) ∙ p in
       dite (ℕ_discrete m n)
       (λ e. back_here r e t.id before every (list_any (is_leaving_here r.id) s.cpus.cpus) refl)
       (λ ne. there r t.id ne (a.everywhere k m r before every (sym (online_there m ne) ∙ on)))
     where
-      back_here : (r : Record) → m ≡ n → q.id ≡ r.id → IsRecord s.records k r → is_everywhere r.place ≡ true → (c : Bool)
+      back_here : (r : Record) → m ≡ n → q.id ≡ r.id → IsRecord s.records k r → is_everywhere r.placement ≡ true → (c : Bool)
           → list_any (is_leaving_here r.id) s.cpus.cpus ≡ c
           → (has m q.id w ≡ true) ⊎ ((j : ℕ) × (removal_on j w ≡ Some q.id))
       back_here r e id before every true leaving = let (j, is) = open_on s.cpus r.id leaving in
@@ -288,11 +288,11 @@ module _ {R : Type 0} (n : ℕ) (s : SystemView R) (u w : CpusView R) (a : Agree
       ap (is_staying s.cpus) (sym one) ∙ stays))
       (λ ne. t.other m ne ∙ a.ended k m r before (sym (has_there m r.id ne) ∙ (ap (λ i. has m i w) (sym t.id) ∙ h)))
 
-  by_single : (k m : ℕ) (q : Record) → IsRecord after k q → is_everywhere q.place ≡ false → ended_on m q ≡ no_counts
+  by_single : (k m : ℕ) (q : Record) → IsRecord after k q → is_everywhere q.placement ≡ false → ended_on m q ≡ no_counts
   unfolding after
   by_single k m q is p =
       let (r, before, t) = turned_at n s.cpus s.records k q is in
-      let one : is_everywhere r.place ≡ false = ap is_everywhere (sym t.place) ∙ p in
+      let one : is_everywhere r.placement ≡ false = ap is_everywhere (sym t.placement) ∙ p in
       ap (λ y. ended_on m y) (t.left (ap (λ c. c && not (list_any (is_leaving_here r.id) s.cpus.cpus)) one))
       ∙ a.single k m r before one
 

@@ -6,7 +6,7 @@ use Rattle.cyc_types.specs.Firing.{FiringView}
 use Rattle.cyc_cpu.specs.Cpu.{CpuView}
 use Rattle.cyc_cpu.specs.Laws.{IsLawful}
 use Rattle.cyc_cpu.specs.Calls.{Suspend, Resume}
-use Rattle.cyc_cpu.specs.Calls.{CpuCall, Changes, Fire, SoftInterrupt, Add, Place, Reprogram, AskPending, AskTotals, AskRoom}
+use Rattle.cyc_cpu.specs.Calls.{CpuCall, CpuChanges, Fire, SoftInterrupt, Add, Place, Reprogram, AskPending, AskTotals, AskRoom}
 use Rattle.cyc_cpu.specs.Calls.{Reserve, Widen, BeginRemove, PollRemove, TakeNow, AskSettled}
 use Rattle.cyc_agreement.specs.Cpus.{CpusView, CallOn, IsCpu, DoesAt, Works}
 use Rattle.std.specs.List.{slice_get, list_any}
@@ -46,7 +46,7 @@ steady_on [] ys h k = k
 steady_on (x ∷ xs) ys h k = (h.0, steady_on xs ys h.1 k)
 
 module _ {R : Type 0} (firing : Raise R) where
-  pub removal_kept : (x y : CpuView R) (call : CpuCall) → IsSteady call → Changes firing x call y → y.removal ≡ x.removal
+  pub removal_kept : (x y : CpuView R) (call : CpuCall) → IsSteady call → CpuChanges firing x call y → y.removal ≡ x.removal
   removal_kept x y (Place id level interval moment carried) h d = d.1.kept.removal
   removal_kept x y (Reprogram id moment (Ok done)) h (k, c, is, named, still, e) = ap (λ (v : CpuView R). v.removal) e
   removal_kept x y (Reprogram id moment (Err e)) h d = ap (λ (v : CpuView R). v.removal) d.2

@@ -8,7 +8,7 @@ use Rattle.cyc_types.specs.Counting.{no_counts}
 use native.Mathlib.Decide.{ℕ_discrete}
 use Rattle.cyc_places.specs.declared.record.Placement.TheVariants.{On}
 use Rattle.cyc_places.specs.declared.record.Record.{Record}
-use Rattle.cyc_places.specs.Places.{IsRecord, HasRisingIds, with_place, ended_on}
+use Rattle.cyc_places.specs.Places.{IsRecord, HasRisingIds, with_placement, ended_on}
 use Rattle.cyc_agreement.specs.Cpus.{CpusView}
 use Rattle.cyc_agreement.proofs.CpuSpots.{get_set_same, get_set_other}
 use Rattle.cyc_agreement.specs.System.{SystemView, has, removal_on, is_online, is_everywhere}
@@ -25,7 +25,7 @@ same_number {n} {m} {b} {c} e = cc
 
 -- a cyclic that is on one CPU is on no other
 pub not_elsewhere : {R : Type 0} (s : SystemView R) (k d m : ℕ) (bound : Bool) (r : Record) → Agrees s → HasRisingIds s.records
-    → IsRecord s.records k r → r.place ≡ On d bound
+    → IsRecord s.records k r → r.placement ≡ On d bound
     → m ≢ d → has m r.id s.cpus ≡ false
 not_elsewhere s k d m bound r a rising is place ne = by (has m r.id s.cpus) refl
   where
@@ -34,47 +34,47 @@ not_elsewhere s k d m bound r a rising is place ne = by (has m r.id s.cpus) refl
     by true e = let (j, q, at, named, stands, on) = a.known m r.id e in
         let same : q ≡ r = same_some (sym at ∙ subst (λ i. IsRecord s.records i r)
         (sym (one_record s.records k j r q rising is at named)) is) in
-        absurd (ne (sym (subst (λ p. Stands m p) (ap (λ (x : Record). x.place) same ∙ place) stands)))
+        absurd (ne (sym (subst (λ p. Stands m p) (ap (λ (x : Record). x.placement) same ∙ place) stands)))
 
 -- the record's cyclic is on this one CPU now
 module _ {R : Type 0} (s : SystemView R) (k d : ℕ) (bound was : Bool) (home : ℕ) (r : Record) (w : CpusView R) (a : Agrees s)
     (rising : HasRisingIds s.records)
-    (is : IsRecord s.records k r) (place : r.place ≡ On home was) (b : SameBut r.id s.cpus w) (on : is_online d s.cpus ≡ true)
+    (is : IsRecord s.records k r) (place : r.placement ≡ On home was) (b : SameBut r.id s.cpus w) (on : is_online d s.cpus ≡ true)
     (there : has d r.id w ≡ true) (only : (m : ℕ) → m ≢ d → has m r.id w ≡ false) where
   x : Record
-  x = with_place (On d bound) r
+  x = with_placement (On d bound) r
 
   now : List Record
-  now = slice_set s.records k (with_place (On d bound) r)
+  now = slice_set s.records k (with_placement (On d bound) r)
 
   low : k < length s.records
   low = slice_get_within s.records k r is
 
   -- a record afterwards is the changed one, or an old one with another id
-  old : (j : ℕ) (q : Record) → IsRecord now j q → ((j ≡ k) × (q ≡ with_place (On d bound) r))
+  old : (j : ℕ) (q : Record) → IsRecord now j q → ((j ≡ k) × (q ≡ with_placement (On d bound) r))
       ⊎ ((j ≢ k) × IsRecord s.records j q × (q.id ≢ r.id))
   unfolding now
   old j q at = dite (ℕ_discrete j k)
       (λ e. inl (
         e,
-        same_some (sym at ∙ ap (λ i. slice_get (slice_set s.records k (with_place (On d bound) r)) i) e
-            ∙ get_set_same s.records k (with_place (On d bound) r) low),
+        same_some (sym at ∙ ap (λ i. slice_get (slice_set s.records k (with_placement (On d bound) r)) i) e
+            ∙ get_set_same s.records k (with_placement (On d bound) r) low),
       ))
-      (λ ne. let before : IsRecord s.records j q = sym (get_set_other s.records k j (with_place (On d bound) r) ne) ∙ at in
+      (λ ne. let before : IsRecord s.records j q = sym (get_set_other s.records k j (with_placement (On d bound) r) ne) ∙ at in
       inr (ne, before, λ e. ne (one_record s.records k j r q rising is before e)))
 
-  everywhere_not : is_everywhere r.place ≡ false
+  everywhere_not : is_everywhere r.placement ≡ false
   everywhere_not = ap is_everywhere place
 
-  by_known : (n id : ℕ) → has n id w ≡ true → (j : ℕ) × (q : Record) × IsRecord now j q × (q.id ≡ id) × Stands n q.place
+  by_known : (n id : ℕ) → has n id w ≡ true → (j : ℕ) × (q : Record) × IsRecord now j q × (q.id ≡ id) × Stands n q.placement
       × (is_online n w ≡ true)
   unfolding now
   by_known n id h = dite (ℕ_discrete id r.id)
       (λ e. let here : has n r.id w ≡ true = ap (λ i. has n i w) (sym e)
       ∙ h in let at : n ≡ d = dite (ℕ_discrete n d) (λ f. f) (λ f. absurd (false_true (sym (only n f) ∙ here))) in (
         k,
-        with_place (On d bound) r,
-        get_set_same s.records k (with_place (On d bound) r) low,
+        with_placement (On d bound) r,
+        get_set_same s.records k (with_placement (On d bound) r) low,
         sym e,
         sym at,
         ap (λ m. is_online m w) at ∙ online_same s.cpus w d b.online ∙ on,
@@ -82,7 +82,7 @@ module _ {R : Type 0} (s : SystemView R) (k d : ℕ) (bound was : Bool) (home : 
       (λ ne. let (j, q, at, named, stands, up) = a.known n id (sym (b.others n id ne) ∙ h) in (
         j,
         q,
-        get_set_other s.records k j (with_place (On d bound) r)
+        get_set_other s.records k j (with_placement (On d bound) r)
             (λ f. ne (sym named ∙ ap (λ (y : Record). y.id)
             (same_some (sym at ∙ subst (λ i. IsRecord s.records i r) (sym f) is)))) ∙ at,
         named,
@@ -90,7 +90,12 @@ module _ {R : Type 0} (s : SystemView R) (k d : ℕ) (bound was : Bool) (home : 
         online_same s.cpus w n b.online ∙ up,
       ))
 
-  pub agrees_replaced : Agrees (record { cpus = w; records = slice_set s.records k (with_place (On d bound) r); last = s.last })
+  pub agrees_replaced : Agrees (record {
+    cpus = w;
+    records = slice_set s.records k (with_placement (On d bound) r);
+    last =
+        s.last;
+  })
   unfolding now
   agrees_replaced = record {
     known = by_known;
@@ -107,18 +112,18 @@ module _ {R : Type 0} (s : SystemView R) (k d : ℕ) (bound was : Bool) (home : 
   }
     where
       Old : ℕ → Record → Type 0
-      Old j q = ((j ≡ k) × (q ≡ with_place (On d bound) r)) ⊎ ((j ≢ k) × IsRecord s.records j q × (q.id ≢ r.id))
+      Old j q = ((j ≡ k) × (q ≡ with_placement (On d bound) r)) ⊎ ((j ≢ k) × IsRecord s.records j q × (q.id ≢ r.id))
 
-      by_home : (j n : ℕ) (own : Bool) (q : Record) → ((j ≡ k) × (q ≡ with_place (On d bound) r))
-          ⊎ ((j ≢ k) × IsRecord s.records j q × (q.id ≢ r.id)) → q.place ≡ On n own → has n q.id w ≡ true
+      by_home : (j n : ℕ) (own : Bool) (q : Record) → ((j ≡ k) × (q ≡ with_placement (On d bound) r))
+          ⊎ ((j ≢ k) × IsRecord s.records j q × (q.id ≢ r.id)) → q.placement ≡ On n own → has n q.id w ≡ true
       by_home j n own q (inl (e, f)) p = ap (λ (y : Record). has n y.id w) f
-          ∙ ap (λ m. has m r.id w) (sym (same_number (sym (ap (λ (y : Record). y.place) f) ∙ p))) ∙ there
+          ∙ ap (λ m. has m r.id w) (sym (same_number (sym (ap (λ (y : Record). y.placement) f) ∙ p))) ∙ there
       by_home j n own q (inr (ne, at, other)) p = b.others n q.id other ∙ a.home j n own q at p
 
-      by_everywhere : (j n : ℕ) (q : Record) → ((j ≡ k) × (q ≡ with_place (On d bound) r))
-          ⊎ ((j ≢ k) × IsRecord s.records j q × (q.id ≢ r.id)) → is_everywhere q.place ≡ true → is_online n w ≡ true
+      by_everywhere : (j n : ℕ) (q : Record) → ((j ≡ k) × (q ≡ with_placement (On d bound) r))
+          ⊎ ((j ≢ k) × IsRecord s.records j q × (q.id ≢ r.id)) → is_everywhere q.placement ≡ true → is_online n w ≡ true
           → (has n q.id w ≡ true) ⊎ ((m : ℕ) × (removal_on m w ≡ Some q.id))
-      by_everywhere j n q (inl (e, f)) p up = absurd (false_true (sym (ap (λ (y : Record). is_everywhere y.place) f) ∙ p))
+      by_everywhere j n q (inl (e, f)) p up = absurd (false_true (sym (ap (λ (y : Record). is_everywhere y.placement) f) ∙ p))
       by_everywhere j n q (inr (ne, at, other)) p up = pass (a.everywhere j n q at p (sym (online_same s.cpus w n b.online) ∙ up))
         where
           pass : (has n q.id s.cpus ≡ true) ⊎ ((m : ℕ) × (removal_on m s.cpus ≡ Some q.id)) → (has n q.id w ≡ true)
@@ -126,17 +131,17 @@ module _ {R : Type 0} (s : SystemView R) (k d : ℕ) (bound was : Bool) (home : 
           pass (inl h) = inl (b.others n q.id other ∙ h)
           pass (inr (m, e)) = inr (m, b.removals m q.id other e)
 
-      by_ended : (j n : ℕ) (q : Record) → ((j ≡ k) × (q ≡ with_place (On d bound) r))
+      by_ended : (j n : ℕ) (q : Record) → ((j ≡ k) × (q ≡ with_placement (On d bound) r))
           ⊎ ((j ≢ k) × IsRecord s.records j q × (q.id ≢ r.id)) → has n q.id w ≡ true → ended_on n q ≡ no_counts
       by_ended j n q (inl (e, f)) h = ap (λ (y : Record). ended_on n y) f ∙ a.single k n r is everywhere_not
       by_ended j n q (inr (ne, at, other)) h = a.ended j n q at (sym (b.others n q.id other) ∙ h)
 
-      by_single : (j n : ℕ) (q : Record) → ((j ≡ k) × (q ≡ with_place (On d bound) r))
-          ⊎ ((j ≢ k) × IsRecord s.records j q × (q.id ≢ r.id)) → is_everywhere q.place ≡ false → ended_on n q ≡ no_counts
+      by_single : (j n : ℕ) (q : Record) → ((j ≡ k) × (q ≡ with_placement (On d bound) r))
+          ⊎ ((j ≢ k) × IsRecord s.records j q × (q.id ≢ r.id)) → is_everywhere q.placement ≡ false → ended_on n q ≡ no_counts
       by_single j n q (inl (e, f)) p = ap (λ (y : Record). ended_on n y) f ∙ a.single k n r is everywhere_not
       by_single j n q (inr (ne, at, other)) p = a.single j n q at p
 
-      by_given : (j : ℕ) (q : Record) → ((j ≡ k) × (q ≡ with_place (On d bound) r))
+      by_given : (j : ℕ) (q : Record) → ((j ≡ k) × (q ≡ with_placement (On d bound) r))
           ⊎ ((j ≢ k) × IsRecord s.records j q × (q.id ≢ r.id)) → q.id ≤ s.last
       by_given j q (inl (e, f)) = let g = ap (λ (y : Record). y.id) f in let l = a.given k r is in omega (arith, g, l)
       by_given j q (inr (ne, at, other)) = a.given j q at
@@ -152,7 +157,7 @@ pub record Standing {R : Type 0} (id k home : ℕ) (bound : Bool) (q : Record) (
 
 pub standing : {R : Type 0} (s : SystemView R) (id k home : ℕ) (bound : Bool) (r q : Record) → Agrees s → HasRisingIds s.records
     → IsPresent id k r s → IsRecord s.records k q
-    → q.place ≡ On home bound → Standing id k home bound q s
+    → q.placement ≡ On home bound → Standing id k home bound q s
 standing s id k home bound r q a rising p at place =
     let same : q.id ≡ id = ap (λ (x : Record). x.id) (same_some (sym at ∙ p.here)) ∙ p.named in
     let own = a.home k home bound q at place in record {

@@ -15,6 +15,7 @@ use Rattle.cyc_types.specs.declared.firing.Sent.{Sent}
 use Rattle.cyc_types.specs.declared.level.Level.TheVariants.{Low, Lock}
 use Rattle.cyc_types.proofs.Runs.{folds_more}
 use Rattle.cyc_types.specs.Counting.{no_counts}
+use Rattle.cyc_types.proofs.Facts.{not_false}
 use Rattle.cyc_cpu.specs.Rows.{Cyclic}
 use Rattle.cyc_cpu.specs.Acts.{same_level}
 use Rattle.cyc_cpu.specs.Cpu.{CpuView, IsCyclic, seen_at}
@@ -35,7 +36,7 @@ use Rattle.cyc_agreement.proofs.Who
 use Rattle.cyc_agreement.proofs.Shifted.{Rise, map_remove}
 use Rattle.cyc_agreement.specs.Juggling.{system_of, single_ids}
 use Rattle.cyc_agreement.specs.GoingOffline.{Retires}
-use Rattle.cyc_agreement.specs.Walking.{AreQuiet}
+use Rattle.cyc_agreement.specs.Walking.{HaveNoCalls}
 use Rattle.cyc_agreement.proofs.Here.{omni_is}
 use Rattle.cyc_agreement.proofs.ListsUpTo.{one_place, take_more, first_at, rest_after}
 use Rattle.cyc_agreement.proofs.Places.{has_at, cyclic_of}
@@ -86,12 +87,13 @@ pub taken_off : {R : Type 0} (firing : Raise R) (source place id : ℕ) (taken :
 taken_off firing source place id taken v w rise spot takes =
     let (c, counts, is, polled, l) = takes.change.1 in
     let before : ids_on source v ≡ ids_of takes.before = Who.ids_there v source takes.before takes.after takes.here in
-    let spot2 : slice_get (ids_on source v) l.place ≡ Some id = ap (λ ids. slice_get ids l.place) before
-    ∙ slice_get-map Who.id_in takes.before.cyclics l.place
-    ∙ ap (option_map Who.id_in) (slice_get-get_or takes.before.cyclics l.place c l.here.0 ∙ ap Some l.here.1) ∙ ap Some l.named in
-    let own : l.place ≡ place = one_place (ids_on source v) l.place place id rise spot2 spot in record {
+    let spot2 : slice_get (ids_on source v) l.position ≡ Some id = ap (λ ids. slice_get ids l.position) before
+    ∙ slice_get-map Who.id_in takes.before.cyclics l.position
+    ∙ ap (option_map Who.id_in) (slice_get-get_or takes.before.cyclics l.position c l.here.0 ∙ ap Some l.here.1)
+    ∙ ap Some l.named in
+    let own : l.position ≡ place = one_place (ids_on source v) l.position place id rise spot2 spot in record {
       ids = ap (λ u. ids_on source u) takes.rest ∙ Who.ids_now v source takes.before takes.after takes.here
-          ∙ ap (λ cs. map Who.id_in cs) l.cyclics ∙ map_remove Who.id_in takes.before.cyclics l.place
+          ∙ ap (λ cs. map Who.id_in cs) l.cyclics ∙ map_remove Who.id_in takes.before.cyclics l.position
           ∙ (λ i. remove (sym before i) (own i));
       still = ap (λ u. removal_on source u) takes.rest ∙ Who.removal_now v source takes.before takes.after takes.here ∙ l.removal;
       online = ap (λ (u : CpusView _). u.online) takes.rest;
@@ -111,16 +113,12 @@ filtered_none {A} p (y ∷ ys) k x e at = by (p y) refl e k (filtered_none p ys)
     by false is rest zero others at = ap p (sym (same_some at)) ∙ is
     by false is rest (suc k) others at = others k x rest at
 
-not_false : (b : Bool) → not b ≡ false → b ≡ true
-not_false true e = refl
-not_false false e = absurd (false_true (sym e))
-
 -- a record of which at most the counts of the source have changed, where it is omnipresent
 pub record SameBeside (source : ℕ) (r q : Record) : Type 0 where
   pub id : q.id ≡ r.id
-  pub place : q.place ≡ r.place
+  pub placement : q.placement ≡ r.placement
   pub ended : (m : ℕ) → m ≢ source → ended_on m q ≡ ended_on m r
-  pub single : is_everywhere r.place ≡ false → q ≡ r
+  pub single : is_everywhere r.placement ≡ false → q ≡ r
 
 module _ {R : Type 0} (firing : Raise R) (source : ℕ) (v : CpusView R)
     (rs : RecordsView) where
@@ -135,14 +133,14 @@ module _ {R : Type 0} (firing : Raise R) (source : ℕ) (v : CpusView R)
     pub still : removal_on source w ≡ None
     pub most : (n : ℕ) → most_on n w ≡ most_on n v
     pub suspended : (n : ℕ) → suspended_on n w ≡ suspended_on n v
-    pub quiet_here : OfCpu source (AreQuiet firing.view) w
+    pub quiet_here : OfCpu source (HaveNoCalls firing.view) w
     pub long : length qs.list ≡ length rs.list
     pub forth : (j : ℕ) (r : Record) → IsRecord rs.list j r → (q : Record) × IsRecord qs.list j q × SameBeside source r q
     pub fresh : (j p : ℕ) (q : Record) → IsRecord qs.list j q → slice_get (ids_on source w) p ≡ Some q.id
         → ended_on source q ≡ no_counts
 
   pub retired_none : (last : ℕ) → Agrees (system_of v rs last) → removal_on source v ≡ None
-      → OfCpu source (AreQuiet firing.view) v
+      → OfCpu source (HaveNoCalls firing.view) v
       → Retired 0 v rs
   retired_none last a still quiet = record {
     run = λ l. refl;
@@ -155,7 +153,7 @@ module _ {R : Type 0} (firing : Raise R) (source : ℕ) (v : CpusView R)
     suspended = λ n. refl;
     quiet_here = quiet;
     long = refl;
-    forth = λ j r is. (r, is, record { id = refl; place = refl; ended = λ m ne. refl; single = λ e. refl });
+    forth = λ j r is. (r, is, record { id = refl; placement = refl; ended = λ m ne. refl; single = λ e. refl });
     fresh = λ j p q is spot. a.ended j source q is (has_at v source p q.id spot);
   }
 
@@ -184,7 +182,7 @@ module _ {R : Type 0} (firing : Raise R) (source : ℕ) (v : CpusView R)
         (filtered_none (λ j. not (is_omnipresent j (system_of v rs 0))) (ids_on source v) p id components spot)
 
     pub everywhere_here : (p k : ℕ) (r : Record) → slice_get (ids_on source v) p ≡ Some r.id → IsRecord rs.list k r
-        → is_everywhere r.place ≡ true
+        → is_everywhere r.placement ≡ true
     everywhere_here p k r spot is = sym (omni_is (system_of v rs 0) r.id k r rising is refl) ∙ omni_here p r.id spot
 
     module _ (done id : ℕ) (w x : CpusView R) (qs ps : RecordsView) (i : Retired done w qs) (rise : Rise (ids_on source w))
@@ -217,10 +215,10 @@ module _ {R : Type 0} (firing : Raise R) (source : ℕ) (v : CpusView R)
             still = off.still;
             most = λ n. kept n ∙ i.most n;
             suspended = λ n. kept_mark n ∙ i.suspended n;
-            quiet_here = subst (λ u. OfCpu source (AreQuiet firing.view) u) (sym takes.rest)
-                (of_cpu source (AreQuiet firing.view) takes.after (with_cpu w source takes.after)
+            quiet_here = subst (λ u. OfCpu source (HaveNoCalls firing.view) u) (sym takes.rest)
+                (of_cpu source (HaveNoCalls firing.view) takes.after (with_cpu w source takes.after)
                 (cpu_there source takes.before takes.after w takes.here)
-                (λ j d at. (let (b, was) = removed_was takes.before.cyclics l.place j d
+                (λ j d at. (let (b, was) = removed_was takes.before.cyclics l.position j d
                 (subst (λ cs. IsCyclic cs j d) l.cyclics at) in
                 let z = i.quiet_here takes.before takes.here b d was in let low =
                 taken_lowers firing id d.timer.id taken takes.before takes.after takes.change.1 in
@@ -258,13 +256,13 @@ module _ {R : Type 0} (firing : Raise R) (source : ℕ) (v : CpusView R)
               → (b : Record) × IsRecord ps.list j b × SameBeside source q b
           forth_at k r counts is named list j q at (b, here, same) = dite (ℕ_discrete j k)
               (λ e. (let own : b ≡ r = same_some (sym here ∙ ap (λ n. slice_get qs.list n) e ∙ is) in
-              let all : is_everywhere q.place ≡ true =
+              let all : is_everywhere q.placement ≡ true =
               everywhere_here done j q (first ∙ ap Some (sym named ∙ ap (λ (y : Record). y.id) (sym own) ∙ same.id)) at in (
                 with_ended source counts r,
                 ap (λ n. slice_get ps.list n) e ∙ changed_is k r counts is list,
                 record {
                   id = ap (λ (y : Record). y.id) (sym own) ∙ same.id;
-                  place = ap (λ (y : Record). y.place) (sym own) ∙ same.place;
+                  placement = ap (λ (y : Record). y.placement) (sym own) ∙ same.placement;
                   ended = λ m ne. get_or-set_other r.ended source m counts no_counts ne
                       ∙ ap (λ (y : Record). ended_on m y) (sym own) ∙ same.ended m ne;
                   single = λ f. absurd (false_true (sym f ∙ all));

@@ -13,7 +13,7 @@ use Rattle.cyc_types.specs.declared.firing.Sent.{Sent}
 use Rattle.cyc_types.specs.declared.moment.When.{When}
 use Rattle.cyc_cpu.specs.Rows.{Cyclic}
 use Rattle.cyc_cpu.specs.Cpu.{CpuView, Places, cyclic_with}
-use Rattle.cyc_cpu.specs.Calls.{Changes, Place as PlaceCall}
+use Rattle.cyc_cpu.specs.Calls.{CpuChanges, Place as PlaceCall}
 use Rattle.cyc_places.specs.declared.record.Placement.{Placement}
 use Rattle.cyc_places.specs.declared.record.Placement.TheVariants.{On, Everywhere}
 use Rattle.cyc_places.specs.declared.record.Record.{Record}
@@ -32,7 +32,7 @@ use Rattle.cyc_agreement.proofs.Arriving.{between}
 -- each of these is omnipresent
 abbrev pub AllEverywhere : List Record → Type 0
 AllEverywhere [] = Unit {0}
-AllEverywhere (r ∷ rs) = (is_everywhere r.place ≡ true) × AllEverywhere rs
+AllEverywhere (r ∷ rs) = (is_everywhere r.placement ≡ true) × AllEverywhere rs
 
 -- the CPU has these cyclics more
 pub record Gains {R : Type 0} (rs : List Record) (x y : CpuView R) : Type 0 where
@@ -80,7 +80,7 @@ module _ {R : Type 0} (firing : Raise R) where
         ∙ sym (ap (λ b. (b || false) || among q (ids_of x)) (true_eq r.id q (sym (e ∙ named)))))
         (λ ne. o.others q ne ∙ sym (ap (λ b. (b || false) || among q (ids_of x))
         (false_ne r.id q (λ e. ne (sym e ∙ sym named)))));
-    many = (let e = ap (λ (cs : List Cyclic). length cs) p.cyclics ∙ length-insert x.cyclics p.place c p.within in e);
+    many = (let e = ap (λ (cs : List Cyclic). length cs) p.cyclics ∙ length-insert x.cyclics p.position c p.within in e);
     size = p.kept.size;
     most = p.kept.most;
     suspended = p.kept.suspended;
@@ -144,16 +144,16 @@ module _ {R : Type 0} (firing : Raise R) (n now : ℕ) where
   pub back : (rs : List Record) (v w : CpusView R) → AllEverywhere rs → Works firing (returns n now rs) v w → Back n rs v w
   back [] v w all e = subst (λ u. Back n [] v u) e (back_none n v)
   back (r ∷ rs) v w all works =
-      let (u, first, rest) = between (DoesAt firing) v (return_at n now r.id r.level (ended_on n r) r.place)
+      let (u, first, rest) = between (DoesAt firing) v (return_at n now r.id r.level (ended_on n r) r.placement)
       (returns n now rs) w works in
-      back_then n r rs v u w (back_at firing n now r r.place v u all.0 first) (back rs u w all.1 rest)
+      back_then n r rs v u w (back_at firing n now r r.placement v u all.0 first) (back rs u w all.1 rest)
 
   pub returns_more : (rs : List Record) (r : Record)
-      → returns n now (rs ++ r ∷ []) ≡ returns n now rs ++ return_at n now r.id r.level (ended_on n r) r.place
+      → returns n now (rs ++ r ∷ []) ≡ returns n now rs ++ return_at n now r.id r.level (ended_on n r) r.placement
   returns_more [] r = append-nil _
-  returns_more (q ∷ rs) r = ap (λ cs. return_at n now q.id q.level (ended_on n q) q.place ++ cs) (returns_more rs r)
-      ∙ sym (append_assoc (return_at n now q.id q.level (ended_on n q) q.place) (returns n now rs)
-      (return_at n now r.id r.level (ended_on n r) r.place))
+  returns_more (q ∷ rs) r = ap (λ cs. return_at n now q.id q.level (ended_on n q) q.placement ++ cs) (returns_more rs r)
+      ∙ sym (append_assoc (return_at n now q.id q.level (ended_on n q) q.placement) (returns n now rs)
+      (return_at n now r.id r.level (ended_on n r) r.placement))
 
 -- what all CPUs keep
 module _ {R : Type 0} (n : ℕ) (rs : List Record) (v w : CpusView R) (x : CpuView R) (at : IsCpu n x v) (b : Back n rs v w) where
@@ -210,19 +210,19 @@ leaving_same id (x ∷ xs) (y ∷ ys) long same =
 module _ {R : Type 0} (firing : Raise R) (n now : ℕ) where
   by_place : (q : Record) (place : Placement) (series : When) (skew : ℕ) (counts : Sent) (v : CpusView R) (x y : CpuView R)
       → place ≡ Everywhere series skew → IsCpu n x v
-      → Changes firing x (PlaceCall q.id q.level series.interval (component_first n series skew now) counts) y
+      → CpuChanges firing x (PlaceCall q.id q.level series.interval (component_first n series skew now) counts) y
       → Works firing (return_at n now q.id q.level counts place) v (with_cpu v n y)
   by_place q place series skew counts v x y is at did =
       subst (λ p. Works firing (return_at n now q.id q.level counts p) v (with_cpu v n y)) (sym is)
       (with_cpu v n y, changed n _ x y v at did, refl)
 
   pub one_back : (r q : Record) (series : When) (skew moment : ℕ) (counts : Sent) (v : CpusView R) (x y : CpuView R) → r ≡ q
-      → q.place ≡ Everywhere series skew → IsCpu n x v
+      → q.placement ≡ Everywhere series skew → IsCpu n x v
       → moment ≡ component_first n series skew now → counts ≡ ended_on n q
-      → Changes firing x (PlaceCall q.id q.level series.interval moment counts) y
-      → Works firing (return_at n now r.id r.level (ended_on n r) r.place) v (with_cpu v n y)
+      → CpuChanges firing x (PlaceCall q.id q.level series.interval moment counts) y
+      → Works firing (return_at n now r.id r.level (ended_on n r) r.placement) v (with_cpu v n y)
   one_back r q series skew moment counts v x y same place at first ended did =
-      subst (λ (z : Record). Works firing (return_at n now z.id z.level (ended_on n z) z.place) v (with_cpu v n y)) (sym same)
-      (subst (λ c. Works firing (return_at n now q.id q.level c q.place) v (with_cpu v n y)) ended
-      (by_place q q.place series skew counts v x y place at
-      (subst (λ m. Changes firing x (PlaceCall q.id q.level series.interval m counts) y) first did)))
+      subst (λ (z : Record). Works firing (return_at n now z.id z.level (ended_on n z) z.placement) v (with_cpu v n y)) (sym same)
+      (subst (λ c. Works firing (return_at n now q.id q.level c q.placement) v (with_cpu v n y)) ended
+      (by_place q q.placement series skew counts v x y place at
+      (subst (λ m. CpuChanges firing x (PlaceCall q.id q.level series.interval m counts) y) first did)))

@@ -9,7 +9,7 @@ use native.Mathlib.Decide.{ℕ_discrete}
 use Rattle.cyc_types.specs.declared.Raise.{Ghosts as Raise}
 use Rattle.cyc_types.proofs.Runs.{folds_more}
 use Rattle.cyc_cpu.specs.Cpu.{CpuView}
-use Rattle.cyc_cpu.specs.Calls.{CpuCall, Changes}
+use Rattle.cyc_cpu.specs.Calls.{CpuCall, CpuChanges}
 use Rattle.cyc_agreement.specs.Cpus.{CpusView, IsCpu, OfCpu, IsOnline, online_cpus, numbers_from, with_cpu, on, DoesAt, Works}
 use Rattle.cyc_agreement.specs.Reserving.{StandsAfter}
 use Rattle.cyc_agreement.proofs.Choices.{numbers_at}
@@ -45,7 +45,7 @@ module _ {R : Type 0} (firing : Raise R) (call : CpuCall)
       (ap (λ xs. slice_get xs n) (sym r.online) ∙ here))
 
   pub round_stopped : (v w : CpusView R) (n : ℕ) (x y : CpuView R) (other : CpuCall) (r : Round v n w) → IsOnline n w →
-      IsCpu n x w → Changes firing x other y →
+      IsCpu n x w → CpuChanges firing x other y →
       StandsAfter r.before n (online_cpus v) × Works firing (map (λ m. on m call) r.before ++ on n other ∷ []) v
       (with_cpu w n y)
   round_stopped v w n x y other r here at did = (
@@ -55,7 +55,7 @@ module _ {R : Type 0} (firing : Raise R) (call : CpuCall)
   )
 
   pub round_one : (v w : CpusView R) (n : ℕ) (x y : CpuView R) → Round v n w → IsOnline n w → IsCpu n x w →
-      Changes firing x call y → Done y → Round v (n + 1) (with_cpu w n y)
+      CpuChanges firing x call y → Done y → Round v (n + 1) (with_cpu w n y)
   round_one v w n x y r here at did done = record {
     online = r.online;
     many = length-set w.cpus n y ∙ r.many;

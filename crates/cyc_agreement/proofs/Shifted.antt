@@ -11,7 +11,7 @@ use Rattle.cyc_types.specs.Firing.{FiringView, FiringCall}
 use Rattle.cyc_types.specs.declared.refusal.Refusal.{Refusal}
 use Rattle.cyc_cpu.specs.Rows.{Cyclic}
 use Rattle.cyc_cpu.specs.declared.moving.Taken.{Taken}
-use Rattle.cyc_cpu.specs.Cpu.{CpuView, HasRisingIds, cyclic_with}
+use Rattle.cyc_cpu.specs.Cpu.{CpuView, HasRisingCyclics, cyclic_with}
 use Rattle.cyc_cpu.specs.Removal.{Leaves}
 use Rattle.cyc_agreement.specs.Cpus.{CpusView, IsCpu, Works}
 use Rattle.cyc_agreement.specs.Shifting.{move_of, WhyNotShifted, moving}
@@ -27,10 +27,10 @@ use Rattle.cyc_agreement.proofs.Who
 abbrev pub Rise : List ℕ → Type 0
 Rise ids = (i j : ℕ) → i < j → j < length ids → get_or ids i 0 < get_or ids j 0
 
-pub ids_rise : (cs : List Cyclic) → HasRisingIds cs → Rise (map Who.id_in cs)
+pub ids_rise : (cs : List Cyclic) → HasRisingCyclics cs → Rise (map Who.id_in cs)
 ids_rise cs h i j less low = by cs h low
   where
-    by : (cs : List Cyclic) → HasRisingIds cs → j < length (map Who.id_in cs)
+    by : (cs : List Cyclic) → HasRisingCyclics cs → j < length (map Who.id_in cs)
         → get_or (map Who.id_in cs) i 0 < get_or (map Who.id_in cs) j 0
     by [] h low = absurd (omega (arith, low))
     by (c ∷ cs) h low =
@@ -50,34 +50,34 @@ pub less_left : {R : Type 0} (firing : Raise R) (x y : CpuView R) (id : ℕ)
     (way : List FiringCall) (c : Cyclic)
     → Rise (ids_of x) → Leaves firing id way c x y → Who.OneLess id x y
 less_left firing x y id way c rise l = record {
-  was = any_at (λ own. own == id) (ids_of x) l.place 0 low (true_eq _ id at);
-  gone = ap (λ ids. among id ids) ids ∙ any_none (λ own. own == id) (remove (ids_of x) l.place)
+  was = any_at (λ own. own == id) (ids_of x) l.position 0 low (true_eq _ id at);
+  gone = ap (λ ids. among id ids) ids ∙ any_none (λ own. own == id) (remove (ids_of x) l.position)
       (λ j d less. false_ne _ id (other j d less));
   others = λ q ne. ap (λ ids. among q ids) ids
-      ∙ any_remove (λ own. own == q) (ids_of x) l.place 0 low (false_ne _ q (λ e. ne (sym e ∙ at)));
+      ∙ any_remove (λ own. own == q) (ids_of x) l.position 0 low (false_ne _ q (λ e. ne (sym e ∙ at)));
   removal = l.removal;
   most = l.most;
   suspended = l.suspended;
 }
   where
-    low : l.place < length (ids_of x)
+    low : l.position < length (ids_of x)
     low = (let n = length-map x.cyclics Who.id_in in let h = l.here in let a = h.0 in omega (arith, n, a))
 
-    at : get_or (ids_of x) l.place 0 ≡ id
-    at = get_or-map Who.id_in x.cyclics l.place c 0 (l.here.0) ∙ ap Who.id_in (l.here.1) ∙ l.named
+    at : get_or (ids_of x) l.position 0 ≡ id
+    at = get_or-map Who.id_in x.cyclics l.position c 0 (l.here.0) ∙ ap Who.id_in (l.here.1) ∙ l.named
 
-    ids : ids_of y ≡ remove (ids_of x) l.place
-    ids = ap (λ cs. map Who.id_in cs) l.cyclics ∙ map_remove Who.id_in x.cyclics l.place
+    ids : ids_of y ≡ remove (ids_of x) l.position
+    ids = ap (λ cs. map Who.id_in cs) l.cyclics ∙ map_remove Who.id_in x.cyclics l.position
 
-    other : (j d : ℕ) → j < length (remove (ids_of x) l.place) → get_or (remove (ids_of x) l.place) j d ≢ id
-    other j d less e = dite (ℕ_discrete (l.place - j) 0)
-        (λ z. let n = length-remove (ids_of x) l.place low in
-        let up = get_or-remove_above (ids_of x) l.place d j (omega (arith, z)) low in
-        let r = rise l.place (j + 1) (omega (arith, z)) (omega (arith, n, less)) in
+    other : (j d : ℕ) → j < length (remove (ids_of x) l.position) → get_or (remove (ids_of x) l.position) j d ≢ id
+    other j d less e = dite (ℕ_discrete (l.position - j) 0)
+        (λ z. let n = length-remove (ids_of x) l.position low in
+        let up = get_or-remove_above (ids_of x) l.position d j (omega (arith, z)) low in
+        let r = rise l.position (j + 1) (omega (arith, z)) (omega (arith, n, less)) in
         let same = no_default (ids_of x) (j + 1) d (omega (arith, n, less)) in let h = at in
         omega (arith, up, r, e, same, h))
-        (λ p. let down = get_or-remove_below (ids_of x) l.place d j (omega (arith, p)) low in
-        let r = rise j l.place (omega (arith, p)) low in
+        (λ p. let down = get_or-remove_below (ids_of x) l.position d j (omega (arith, p)) low in
+        let r = rise j l.position (omega (arith, p)) low in
         let same = no_default (ids_of x) j d (omega (arith, p, low)) in let h = at in
         omega (arith, down, r, e, same, h))
       where

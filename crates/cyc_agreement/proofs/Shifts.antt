@@ -3,7 +3,7 @@ use Rattle.std.proofs.Common.{◌≡◌, ℕ, zero, suc, ◌<◌, true, false, n
 use Rattle.std.specs.Option.{option_eq}
 use lib.Dec.{eqb}
 use Rattle.std.proofs.Math.Dec.{eqb-suc-zero}
-use Rattle.cyc_cpu.specs.Calls.{Changes, AskPending}
+use Rattle.cyc_cpu.specs.Calls.{CpuChanges, AskPending}
 use Rattle.cyc_types.specs.declared.Raise.{Ghosts as Raise}
 use Rattle.cyc_types.specs.declared.refusal.Refusal.{Refusal}
 use Rattle.cyc_types.specs.declared.refusal.Refusal.TheVariants as why
@@ -29,8 +29,8 @@ is_taken firing id v w e may h = absurd h
 -- an answer that is not 0 is a number of calls above 0, where the cyclic is here
 pub found_some : {R : Type 0} (firing : Raise R) (id : ℕ) (v w : CpuView R)
     (answer : Option ℕ) →
-    HasCyclic id v.cyclics → not (option_eq eqb answer (Some 0)) ≡ true → Changes firing v (AskPending id answer) w →
-    (n : ℕ) × (0 < n) × Changes firing v (AskPending id (Some n)) w
+    HasCyclic id v.cyclics → not (option_eq eqb answer (Some 0)) ≡ true → CpuChanges firing v (AskPending id answer) w →
+    (n : ℕ) × (0 < n) × CpuChanges firing v (AskPending id (Some n)) w
 found_some firing id v w None here test did = absurd (not_both id v.cyclics here did.0)
 found_some firing id v w (Some zero) here test did = (let no : false ≡ true = test in cc)
 found_some firing id v w (Some (suc n)) here test did = (suc n, omega arith, did)
@@ -38,15 +38,15 @@ found_some firing id v w (Some (suc n)) here test did = (suc n, omega arith, did
 -- else it is 0
 pub found_none : {R : Type 0} (firing : Raise R) (id : ℕ) (v w : CpuView R)
     (answer : Option ℕ) →
-    not (option_eq eqb answer (Some 0)) ≡ false → Changes firing v (AskPending id answer) w →
-    Changes firing v (AskPending id (Some 0)) w
+    not (option_eq eqb answer (Some 0)) ≡ false → CpuChanges firing v (AskPending id answer) w →
+    CpuChanges firing v (AskPending id (Some 0)) w
 found_none firing id v w None test did = (let no : true ≡ false = test in cc)
 found_none firing id v w (Some zero) test did = did
 found_none firing id v w (Some (suc n)) test did = (let no : true ≡ false = sym (ap not (eqb-suc-zero n)) ∙ test in cc)
 
 -- after that it can leave
 pub may_leave : {R : Type 0} (firing : Raise R) (id : ℕ) (v w : CpuView R) →
-    HasCyclic id v.cyclics → v.removal ≡ None → Changes firing v (AskPending id (Some 0)) w → MayLeave firing.view id w
+    HasCyclic id v.cyclics → v.removal ≡ None → CpuChanges firing v (AskPending id (Some 0)) w → MayLeave firing.view id w
 may_leave firing id v w here still did = record {
   here = subst (HasCyclic id) (sym did.0.cyclics) here;
   still = did.0.kept.removal ∙ still;

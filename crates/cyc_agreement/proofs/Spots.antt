@@ -2,12 +2,10 @@
 use Rattle.std.proofs.Common.{◌≡◌, ℕ, zero, suc, ◌<◌, ◌⊎◌, inl, inr, Option, Some, None, List, [], ◌∷◌, ◌++◌, length, refl, sym}
 use Rattle.std.proofs.Common.{ap, arith}
 use Rattle.std.specs.List.{slice_get}
+pub use Rattle.cyc_types.proofs.Facts.{same_some}
 use Rattle.cyc_places.specs.declared.record.Record.{Record}
 use Rattle.cyc_agreement.specs.Cpus.{CpusView}
 use Rattle.cyc_agreement.specs.System.{SystemView}
-
-pub same_some : {A : Type 0} {x y : A} → Some x ≡ Some y → x ≡ y
-same_some {A = A} {x = x} {y = y} e = ap (λ (o : Option A). elim o [ None ↦ x | Some z ↦ z ]) e
 
 pub none_some : {A : Type 0} {x : A} → None ≡ Some x → ⊥
 none_some {A = A} {x = x} e = cc

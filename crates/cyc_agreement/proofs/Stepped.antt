@@ -14,7 +14,7 @@ use Rattle.cyc_cpu.specs.Cpu.{CpuView}
 use Rattle.cyc_cpu.specs.declared.moving.Taken.{Taken}
 use Rattle.cyc_places.specs.declared.record.Placement.TheVariants.{On}
 use Rattle.cyc_places.specs.declared.record.Record.{Record}
-use Rattle.cyc_places.specs.Places.{IsRecord, HasRisingIds, with_place, ended_on}
+use Rattle.cyc_places.specs.Places.{IsRecord, HasRisingIds, with_placement, ended_on}
 use Rattle.cyc_agreement.specs.Cpus.{CpusView, ChangesAt, Works}
 use Rattle.cyc_agreement.specs.Shifting.{moving, HasRemoval}
 use Rattle.cyc_agreement.proofs.CpuSpots.{get_set_same, get_set_other}
@@ -52,29 +52,29 @@ pub record Stepped {R : Type 0} (source place : ℕ) (turn : Option Turn) (s t :
 
 -- who is omnipresent where a record gets another place
 abbrev everywhere_of : ℕ → List Record → Bool
-everywhere_of id rs = option_map_or (λ (r : Record). is_everywhere r.place) (find (λ (r : Record). r.id == id) rs) false
+everywhere_of id rs = option_map_or (λ (r : Record). is_everywhere r.placement) (find (λ (r : Record). r.id == id) rs) false
 
 replaced : (id k : ℕ) (rs : List Record) (r x : Record) → IsRecord rs k r → x.id ≡ r.id
-    → is_everywhere x.place ≡ is_everywhere r.place
+    → is_everywhere x.placement ≡ is_everywhere r.placement
     → everywhere_of id (slice_set rs k x) ≡ everywhere_of id rs
 replaced id k [] r x is named same = absurd (none_some is)
 replaced id zero (y ∷ ys) r x is named same =
-    (λ i. option_map_or (λ (q : Record). is_everywhere q.place)
+    (λ i. option_map_or (λ (q : Record). is_everywhere q.placement)
     (cond ((named ∙ ap (λ (q : Record). q.id) (sym (same_some is))) i == id) (Some x) (find (λ (q : Record). q.id == id) ys))
     false)
     ∙ by (y.id == id)
   where
-    by : (b : Bool) → option_map_or (λ (q : Record). is_everywhere q.place)
+    by : (b : Bool) → option_map_or (λ (q : Record). is_everywhere q.placement)
         (cond b (Some x) (find (λ (q : Record). q.id == id) ys)) false
-        ≡ option_map_or (λ (q : Record). is_everywhere q.place) (cond b (Some y) (find (λ (q : Record). q.id == id) ys)) false
-    by true = same ∙ ap (λ (q : Record). is_everywhere q.place) (sym (same_some is))
+        ≡ option_map_or (λ (q : Record). is_everywhere q.placement) (cond b (Some y) (find (λ (q : Record). q.id == id) ys)) false
+    by true = same ∙ ap (λ (q : Record). is_everywhere q.placement) (sym (same_some is))
     by false = refl
 replaced id (suc k) (y ∷ ys) r x is named same = by (y.id == id) (replaced id k ys r x is named same)
   where
     by : (b : Bool) → everywhere_of id (slice_set ys k x) ≡ everywhere_of id ys
-        → option_map_or (λ (q : Record). is_everywhere q.place)
+        → option_map_or (λ (q : Record). is_everywhere q.placement)
         (cond b (Some y) (find (λ (q : Record). q.id == id) (slice_set ys k x))) false
-        ≡ option_map_or (λ (q : Record). is_everywhere q.place) (cond b (Some y) (find (λ (q : Record). q.id == id) ys)) false
+        ≡ option_map_or (λ (q : Record). is_everywhere q.placement) (cond b (Some y) (find (λ (q : Record). q.id == id) ys)) false
     by true e = refl
     by false e = e
 
@@ -109,14 +109,15 @@ left firing id source target place v w taken apart rise spot
     let kept = beside target source _ e f ne places ∙ beside target source _ d e ne widens in
     let before : ids_on source v ≡ ids_of takes.before = sym (same.ids source)
     ∙ Who.ids_there b source takes.before takes.after takes.here in
-    let spot2 : slice_get (ids_on source v) l.place ≡ Some id = ap (λ ids. slice_get ids l.place) before
-    ∙ slice_get-map Who.id_in takes.before.cyclics l.place
-    ∙ ap (option_map Who.id_in) (slice_get-get_or takes.before.cyclics l.place c l.here.0 ∙ ap Some l.here.1) ∙ ap Some l.named in
-    let own : l.place ≡ place = one_place (ids_on source v) l.place place id rise spot2 spot in
+    let spot2 : slice_get (ids_on source v) l.position ≡ Some id = ap (λ ids. slice_get ids l.position) before
+    ∙ slice_get-map Who.id_in takes.before.cyclics l.position
+    ∙ ap (option_map Who.id_in) (slice_get-get_or takes.before.cyclics l.position c l.here.0 ∙ ap Some l.here.1)
+    ∙ ap Some l.named in
+    let own : l.position ≡ place = one_place (ids_on source v) l.position place id rise spot2 spot in
     let after : ids_on source d ≡ ids_of takes.after = ap (λ u. ids_on source u) takes.rest
     ∙ Who.ids_now b source takes.before takes.after takes.here in
     let gone : ids_of takes.after ≡ remove (ids_on source v) place = ap (λ cs. map Who.id_in cs) l.cyclics
-    ∙ map_remove Who.id_in takes.before.cyclics l.place
+    ∙ map_remove Who.id_in takes.before.cyclics l.position
     ∙ (λ i. remove (sym before i) (own i)) in
     subst (λ u. Left source place v u) last (record {
       ids = ap (λ o. option_map_or ids_of o []) kept ∙ after ∙ gone;
@@ -152,7 +153,7 @@ module _ {R : Type 0} (firing : Raise R) (source place id : ℕ) (s t : SystemVi
     still = w.removals source ∙ still;
     online = w.online;
     there = w.long;
-    omni = λ q. ap (λ (rs : List Record). option_map_or (λ (r : Record). is_everywhere r.place)
+    omni = λ q. ap (λ (rs : List Record). option_map_or (λ (r : Record). is_everywhere r.placement)
         (find (λ (r : Record). r.id == q) rs) false) records;
     most = w.most;
     suspended = w.suspended;
@@ -183,10 +184,10 @@ module _ {R : Type 0} (firing : Raise R) (source place id : ℕ) (s t : SystemVi
         still = l.still;
         online = l.online;
         there = l.there;
-        omni = λ q. ap (λ (rs : List Record). option_map_or (λ (y : Record). is_everywhere y.place)
+        omni = λ q. ap (λ (rs : List Record). option_map_or (λ (y : Record). is_everywhere y.placement)
             (find (λ (y : Record). y.id == q) rs) false) records
-            ∙ replaced q k s.records r (with_place (On d false) r) is refl
-            (sym (ap (λ (y : Record). is_everywhere y.place) (sym e) ∙ ap is_everywhere place_is));
+            ∙ replaced q k s.records r (with_placement (On d false) r) is refl
+            (sym (ap (λ (y : Record). is_everywhere y.placement) (sym e) ∙ ap is_everywhere place_is));
         most = (moved firing id source d s.cpus t.cpus
             (λ q. (destination_fits (Some source) s.cpus d chosen).1 (ap Some (sym q))) rise taken works).but.most;
         suspended = (moved firing id source d s.cpus t.cpus
@@ -194,7 +195,8 @@ module _ {R : Type 0} (firing : Raise R) (source place id : ℕ) (s t : SystemVi
         ended = λ m y held. ended_at d k r is records m y held;
       }
     where
-      ended_at : (d k : ℕ) (r : Record) → IsRecord s.records k r → t.records ≡ slice_set s.records k (with_place (On d false) r)
+      ended_at : (d k : ℕ) (r : Record) → IsRecord s.records k r
+          → t.records ≡ slice_set s.records k (with_placement (On d false) r)
           → (m : ℕ) (y : Record) → IsRecord t.records m y
           → (q : Record) × IsRecord s.records m q × ((n : ℕ) → ended_on n y ≡ ended_on n q)
       ended_at d k r is records m y held = dite (ℕ_discrete m k)
@@ -202,12 +204,12 @@ module _ {R : Type 0} (firing : Raise R) (source place id : ℕ) (s t : SystemVi
             r,
             ap (λ j. slice_get s.records j) e ∙ is,
             λ n. ap (λ (x : Record). ended_on n x) (same_some (sym held ∙ ap (λ (rs : List Record). slice_get rs m) records
-                ∙ ap (λ j. slice_get (slice_set s.records k (with_place (On d false) r)) j) e
-                ∙ get_set_same s.records k (with_place (On d false) r) (slice_get_within s.records k r is))),
+                ∙ ap (λ j. slice_get (slice_set s.records k (with_placement (On d false) r)) j) e
+                ∙ get_set_same s.records k (with_placement (On d false) r) (slice_get_within s.records k r is))),
           ))
           (λ ne. (
             y,
-            sym (get_set_other s.records k m (with_place (On d false) r) ne)
+            sym (get_set_other s.records k m (with_placement (On d false) r) ne)
                 ∙ ap (λ (rs : List Record). slice_get rs m) (sym records) ∙ held,
             λ n. refl,
           ))

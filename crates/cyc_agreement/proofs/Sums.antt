@@ -17,10 +17,10 @@ use Rattle.cyc_types.specs.Counting.{no_counts}
 use Rattle.cyc_cpu.specs.Rows.{Cyclic}
 use Rattle.cyc_cpu.specs.declared.removing.Removal.{Removal}
 use Rattle.cyc_cpu.specs.declared.removing.Removal.TheVariants.{Done, Kept}
-use Rattle.cyc_cpu.specs.Cpu.{CpuView, IsCyclic, HasRisingIds as HaveRisingIds, with_moment}
+use Rattle.cyc_cpu.specs.Cpu.{CpuView, IsCyclic, HasRisingCyclics as HaveRisingIds, with_moment}
 use Rattle.cyc_cpu.specs.Laws.{IsLawful}
 use Rattle.cyc_cpu.specs.Removal.{IsReceipt}
-use Rattle.cyc_cpu.specs.Calls.{Changes, PollRemove}
+use Rattle.cyc_cpu.specs.Calls.{CpuChanges, PollRemove}
 use Rattle.cyc_places.specs.declared.record.Record.{Record}
 use Rattle.cyc_places.specs.Places.{IsRecord, HasRisingIds, with_ended, ended_on, summed}
 use Rattle.cyc_agreement.specs.Cpus.{CpusView, IsCpu}
@@ -30,7 +30,7 @@ use Rattle.cyc_agreement.proofs.Spots.{same_some, none_some}
 use Rattle.cyc_agreement.proofs.Lists.{among, true_eq, false_ne, false_true}
 use Rattle.cyc_agreement.proofs.Who.{id_in}
 use Rattle.cyc_agreement.proofs.Recording.{found, record_here}
-use Rattle.cyc_agreement.specs.Removing.{BeginsOn, counts_of}
+use Rattle.cyc_agreement.specs.Removing.{BeginsOn, counts_of_receipt}
 use Rattle.cyc_agreement.specs.Polling.{PollsOn}
 use Rattle.cyc_agreement.specs.RemovalLaws.{cyclic_in}
 use Rattle.cyc_agreement.specs.Counts.{IsFit}
@@ -120,46 +120,47 @@ module _ {R : Type 0} (firing : Raise R) (g : Sent → ℕ) (id : ℕ) (adds : (
   all_of s = sum_by in_cpu s.cpus.cpus + in_record s
 
   -- the counts of a receipt are those of its cyclic
-  of_receipt : (receipt : Receipt) (c : Cyclic) → IsReceipt receipt c → g (counts_of receipt) ≡ of_cyclic c
+  of_receipt : (receipt : Receipt) (c : Cyclic) → IsReceipt receipt c → g (counts_of_receipt receipt) ≡ of_cyclic c
   of_receipt receipt c is = (λ i. g (record { sent = is.1 i; lost = is.2 i }))
 
   -- a stay has ended
   module _ (n : ℕ) (receipt : Receipt) (x y : CpuView R) (s t : SystemView R) (k : ℕ) (r : Record) (fit : IsFit s)
       (at : IsCpu n x s.cpus) (cpus : t.cpus.cpus ≡ slice_set s.cpus.cpus n y)
       (is : IsRecord s.records k r) (named : r.id ≡ id)
-      (records : t.records ≡ slice_set s.records k (with_ended n (summed (ended_on n r) (counts_of receipt)) r)) where
+      (records : t.records ≡ slice_set s.records k (with_ended n (summed (ended_on n r) (counts_of_receipt receipt)) r)) where
     ended_fit : IsFit t
     ended_fit = record {
       rising = subst HasRisingIds (sym records)
-          (rising_set s.records k r (with_ended n (summed (ended_on n r) (counts_of receipt)) r) fit.rising is refl);
+          (rising_set s.records k r (with_ended n (summed (ended_on n r) (counts_of_receipt receipt)) r) fit.rising is refl);
       sixteen = λ j q here. dite (ℕ_discrete j k)
           (λ e. ap (λ (z : Record). length z.ended)
           (same_some (sym here ∙ ap (λ l. slice_get l j) records
-          ∙ ap (λ i. slice_get (slice_set s.records k (with_ended n (summed (ended_on n r) (counts_of receipt)) r)) i) e
-          ∙ get_set_same s.records k (with_ended n (summed (ended_on n r) (counts_of receipt)) r)
+          ∙ ap (λ i. slice_get (slice_set s.records k (with_ended n (summed (ended_on n r) (counts_of_receipt receipt)) r)) i) e
+          ∙ get_set_same s.records k (with_ended n (summed (ended_on n r) (counts_of_receipt receipt)) r)
           (slice_get_within s.records k r is)))
-          ∙ length-set r.ended n (summed (ended_on n r) (counts_of receipt)) ∙ fit.sixteen k r is)
+          ∙ length-set r.ended n (summed (ended_on n r) (counts_of_receipt receipt)) ∙ fit.sixteen k r is)
           (λ ne. fit.sixteen j q (sym (get_set_other s.records k j
-          (with_ended n (summed (ended_on n r) (counts_of receipt)) r) ne) ∙ ap (λ l. slice_get l j) (sym records) ∙ here));
+          (with_ended n (summed (ended_on n r) (counts_of_receipt receipt)) r) ne) ∙ ap (λ l. slice_get l j) (sym records)
+          ∙ here));
       few = (let a = ap (λ (l : List (CpuView R)). length l) cpus in let b = length-set s.cpus.cpus n y in let c = fit.few in
           omega (arith, a, b, c));
     }
 
-    ended_all : g (counts_of receipt) ≡ in_cpu x → in_cpu y ≡ 0 → all_of t ≡ all_of s
+    ended_all : g (counts_of_receipt receipt) ≡ in_cpu x → in_cpu y ≡ 0 → all_of t ≡ all_of s
     ended_all was gone =
         let a = sum_set in_cpu s.cpus.cpus n x y at in
         let b = ap (λ l. sum_by in_cpu l) cpus in
         let low = slice_get_within s.cpus.cpus n x at in let few = fit.few in let many = fit.sixteen k r is in
-        let d = sum_set g r.ended n (ended_on n r) (summed (ended_on n r) (counts_of receipt))
+        let d = sum_set g r.ended n (ended_on n r) (summed (ended_on n r) (counts_of_receipt receipt))
         (slice_get-get_or r.ended n no_counts (omega (arith, low, few, many))) in
-        let e = adds (ended_on n r) (counts_of receipt) in
+        let e = adds (ended_on n r) (counts_of_receipt receipt) in
         let before = ap (λ o. option_map_or (λ (q : Record). sum_by g q.ended) o 0)
         (record_here id k r s.records fit.rising is named) in
         let after = ap (λ o. option_map_or (λ (q : Record). sum_by g q.ended) o 0)
-        (ap (λ l. found id l) records ∙ record_here id k (with_ended n (summed (ended_on n r) (counts_of receipt)) r)
-        (slice_set s.records k (with_ended n (summed (ended_on n r) (counts_of receipt)) r))
-        (rising_set s.records k r (with_ended n (summed (ended_on n r) (counts_of receipt)) r) fit.rising is refl)
-        (get_set_same s.records k (with_ended n (summed (ended_on n r) (counts_of receipt)) r)
+        (ap (λ l. found id l) records ∙ record_here id k (with_ended n (summed (ended_on n r) (counts_of_receipt receipt)) r)
+        (slice_set s.records k (with_ended n (summed (ended_on n r) (counts_of_receipt receipt)) r))
+        (rising_set s.records k r (with_ended n (summed (ended_on n r) (counts_of_receipt receipt)) r) fit.rising is refl)
+        (get_set_same s.records k (with_ended n (summed (ended_on n r) (counts_of_receipt receipt)) r)
         (slice_get_within s.records k r is)) named) in
         omega (arith, a, b, d, e, before, after, was, gone)
 
@@ -189,7 +190,7 @@ module _ {R : Type 0} (firing : Raise R) (g : Sent → ℕ) (id : ℕ) (adds : (
         ended_fit n receipt x y s t k r fit does.here cpus is named records,
         ended_all n receipt x y s t k r fit does.here cpus is named records
             (of_receipt receipt c own ∙ sym (ap (λ o. option_map_or of_cyclic o 0)
-            (cyclic_found x.cyclics id l.place c lawful.rising l.here l.named)))
+            (cyclic_found x.cyclics id l.position c lawful.rising l.here l.named)))
             (ap (λ o. option_map_or of_cyclic o 0) (none_found y.cyclics id
             (less_done firing id x y lawful receipt does.change).gone)),
       )
@@ -200,8 +201,8 @@ module _ {R : Type 0} (firing : Raise R) (g : Sent → ℕ) (id : ℕ) (adds : (
         stays_fit n y s t fit cpus records,
         stays_all n x y s t does.here cpus records
             (ap (λ cs. option_map_or of_cyclic (find (λ (e : Cyclic). e.timer.id == id) cs) 0) o.cyclics
-            ∙ found_set (λ (e : Cyclic). e.timer.id == id) of_cyclic x.cyclics o.place o.cyclic (with_moment never o.cyclic)
-            (at_place x.cyclics o.place o.cyclic o.here) refl refl),
+            ∙ found_set (λ (e : Cyclic). e.timer.id == id) of_cyclic x.cyclics o.position o.cyclic (with_moment never o.cyclic)
+            (at_place x.cyclics o.position o.cyclic o.here) refl refl),
       )
 
   pub poll_keeps : (n : ℕ) (answer : Option Receipt) (s t : SystemView R) → PollsOn firing id n answer s t
@@ -214,7 +215,7 @@ module _ {R : Type 0} (firing : Raise R) (g : Sent → ℕ) (id : ℕ) (adds : (
         ended_fit n receipt x y s t k r fit does.here cpus is named records,
         ended_all n receipt x y s t k r fit does.here cpus is named records
             (of_receipt receipt e.cyclic e.counted ∙ sym (ap (λ o. option_map_or of_cyclic o 0)
-            (cyclic_found x.cyclics id e.leaves.place e.cyclic lawful.rising e.leaves.here (e.leaves.named
+            (cyclic_found x.cyclics id e.leaves.position e.cyclic lawful.rising e.leaves.here (e.leaves.named
             ∙ same_some (sym e.was_open ∙ open_here)))))
             (ap (λ o. option_map_or of_cyclic o 0) (none_found y.cyclics id
             (less_ended firing id x y lawful receipt open_here e).gone)),
@@ -224,6 +225,6 @@ module _ {R : Type 0} (firing : Raise R) (g : Sent → ℕ) (id : ℕ) (adds : (
       let cpus = ap (λ (v : CpusView R). v.cpus) does.rest in
       (stays_fit n y s t fit cpus records, stays_all n x y s t does.here cpus records (by x y does.change))
     where
-      by : (x y : CpuView R) → Changes firing x (PollRemove None) y → in_cpu y ≡ in_cpu x
+      by : (x y : CpuView R) → CpuChanges firing x (PollRemove None) y → in_cpu y ≡ in_cpu x
       by x y (inl (none, same)) = ap in_cpu same
       by x y (inr (own, is, w)) = ap (λ cs. option_map_or of_cyclic (find (λ (e : Cyclic). e.timer.id == id) cs) 0) w.cyclics

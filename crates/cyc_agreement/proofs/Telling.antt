@@ -12,7 +12,15 @@ use Rattle.cyc_agreement.specs.System.{SystemView, has, is_unknown, is_leaving}
 use Rattle.cyc_agreement.proofs.Spots.{same_some}
 use Rattle.cyc_agreement.proofs.Recording.{record_here, record_none}
 use Rattle.cyc_agreement.proofs.FirstReason.{not_when, is_when, passes, stops}
-use Rattle.cyc_agreement.specs.Removing.{BeginsRemoval, BeginsEach, Begun, Answers, unknown_cyclic, busy_on_each, cpus_with}
+use Rattle.cyc_agreement.specs.Removing.{
+  BeginsRemoval,
+  BeginsEach,
+  Begun,
+  AnswersRemoval,
+  unknown_cyclic,
+  busy_on_each,
+  cpus_with,
+}
 use Rattle.cyc_agreement.specs.Removing.{kept_in}
 use Rattle.cyc_agreement.specs.Polling.{PollsRemoval, PollsEach, Polled, not_leaving, leaving_cpus}
 use Rattle.cyc_agreement.specs.Withdrawing.{system, Owns, Withdraws}
@@ -34,10 +42,10 @@ module _ {R : Type 0} (firing : Raise R) (id place : ℕ) (v w : CpusView R)
   -- the record went, and the receipt is of it
   pub answered : (receipt : Receipt) → ((n : ℕ) → has n id w ≡ false)
       → ((r : Record) → IsRecord rs' place r → IsReceiptOf receipt r)
-      → Answers id receipt (system w rs' last) (system w (remove rs' place) last)
+      → AnswersRemoval id receipt (system w rs' last) (system w (remove rs' place) last)
   answered receipt none counts = record {
     nowhere = nowhere id w none;
-    place = place;
+    position = place;
     own = d.after;
     here = now_here id place v w rs rs' d;
     named = d.same_id ∙ ap (λ (r : Record). r.id) (same_some (sym d.was ∙ o.here)) ∙ o.named;

@@ -8,13 +8,13 @@ use Rattle.cyc_types.specs.declared.Raise.{Ghosts as Raise}
 use Rattle.cyc_types.specs.declared.level.Level.{Level}
 use Rattle.cyc_types.specs.declared.moment.When.{When}
 use Rattle.cyc_cpu.specs.Rows.{Cyclic}
-use Rattle.cyc_cpu.specs.Cpu.{CpuView, HasRisingIds}
+use Rattle.cyc_cpu.specs.Cpu.{CpuView, HasRisingCyclics}
 use Rattle.cyc_agreement.specs.Cpus.{CpusView, IsCpu, OfCpu, online_cpus, DoesAt, Works}
 use Rattle.cyc_agreement.specs.System.{SystemView, is_online}
 use Rattle.cyc_agreement.specs.Adding.{add_request, entering}
 use Rattle.cyc_agreement.proofs.Lists.{among, false_ne, eq_true, false_true}
 use Rattle.cyc_agreement.specs.Omni.{component_first, entering_each, AddsOmni}
-use Rattle.cyc_agreement.specs.OmniLaws.{Here, HasOne, new_component}
+use Rattle.cyc_agreement.specs.OmniLaws.{IsOneOf, HasOne, new_component}
 use Rattle.cyc_agreement.proofs.Numbers.{among_online}
 use Rattle.cyc_agreement.proofs.Quiet.{lists_reserved}
 use Rattle.cyc_agreement.proofs.Arriving.{between}
@@ -38,7 +38,8 @@ module _ {R : Type 0} (firing : Raise R) (id : ℕ) (level : Level) (when : When
   -- what one CPU has of it after the walk
   pub record Visited (m : ℕ) (ns : List ℕ) (v w : CpusView R) : Type 0 where
     pub came : Came (copies id ns) (cyclics_on m v) (cyclics_on m w)
-    pub here : among m ns ≡ true → Here (new_component m id level when skew now) (cyclics_on m w) × HasRisingIds (cyclics_on m w)
+    pub here : among m ns ≡ true → IsOneOf (new_component m id level when skew now) (cyclics_on m w)
+        × HasRisingCyclics (cyclics_on m w)
 
   visit_one : (n m : ℕ) (v w : CpusView R)
       → Works firing (entering n id level when.interval (component_first n when skew now)) v w → Visited m (n ∷ []) v w
@@ -48,9 +49,9 @@ module _ {R : Type 0} (firing : Raise R) (id : ℕ) (level : Level) (when : When
         came = subst (λ l. Came (id ∷ []) l (cyclics_on n w)) before (subst (λ l. Came (id ∷ []) places.before.cyclics l) after
             (came_placed firing _ places.before places.after places.change.1));
         here = λ h. (
-          subst (λ l. Here (new_component n id level when skew now) l) after
+          subst (λ l. IsOneOf (new_component n id level when skew now) l) after
               (here_placed firing _ places.before places.after places.change.1),
-          subst (λ l. HasRisingIds l) after places.change.1.rising,
+          subst (λ l. HasRisingCyclics l) after places.change.1.rising,
         );
       }))
       (λ ne. record {
@@ -85,7 +86,7 @@ module _ {R : Type 0} (firing : Raise R) (id : ℕ) (level : Level) (when : When
       }
     where
       by : (u : CpusView R) → Visited m (n ∷ []) v u → Visited m ns u w → (c : Bool) → (n == m) ≡ c → (c || among m ns) ≡ true
-          → Here (new_component m id level when skew now) (cyclics_on m w) × HasRisingIds (cyclics_on m w)
+          → IsOneOf (new_component m id level when skew now) (cyclics_on m w) × HasRisingCyclics (cyclics_on m w)
       by u a b true is h = let (here, rising) = a.here (ap (λ c. c || false) is) in
           (b.came.old (new_component m id level when skew now) here, b.came.rising rising)
       by u a b false is h = b.here h
@@ -107,10 +108,10 @@ module _ {R : Type 0} (firing : Raise R) (s t : SystemView R) (level : Level)
       (one_of (new_component n id level when skew now) (cyclics_on n t.cpus) rising here)
 
   pub others_stay : (x y : CpuView R) → IsCpu n x s.cpus → IsCpu n y t.cpus → (d : Cyclic) → d.timer.id ≢ id
-      → (Here d x.cyclics → Here d y.cyclics) × (Here d y.cyclics → Here d x.cyclics)
+      → (IsOneOf d x.cyclics → IsOneOf d y.cyclics) × (IsOneOf d y.cyclics → IsOneOf d x.cyclics)
   others_stay x y p q d ne = (
-    λ h. subst (λ l. Here d l) after (whole.came.old d (subst (λ l. Here d l) (sym before) h)),
-    λ h. by (whole.came.only d (subst (λ l. Here d l) (sym after) h)),
+    λ h. subst (λ l. IsOneOf d l) after (whole.came.old d (subst (λ l. IsOneOf d l) (sym before) h)),
+    λ h. by (whole.came.only d (subst (λ l. IsOneOf d l) (sym after) h)),
   )
     where
       before : cyclics_on n did.1.0 ≡ x.cyclics
@@ -119,6 +120,6 @@ module _ {R : Type 0} (firing : Raise R) (s t : SystemView R) (level : Level)
       after : cyclics_on n t.cpus ≡ y.cyclics
       after = ap (λ o. option_map_or (λ (c : CpuView R). c.cyclics) o []) q
 
-      by : Here d (cyclics_on n did.1.0) ⊎ (among d.timer.id (copies id (online_cpus s.cpus)) ≡ true) → Here d x.cyclics
-      by (inl h) = subst (λ l. Here d l) before h
+      by : IsOneOf d (cyclics_on n did.1.0) ⊎ (among d.timer.id (copies id (online_cpus s.cpus)) ≡ true) → IsOneOf d x.cyclics
+      by (inl h) = subst (λ l. IsOneOf d l) before h
       by (inr e) = absurd (ne (only_copies id d.timer.id (online_cpus s.cpus) e))

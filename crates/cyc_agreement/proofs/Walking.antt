@@ -21,7 +21,7 @@ use Rattle.cyc_agreement.proofs.Lists.{among}
 use Rattle.cyc_agreement.proofs.Presence.{has_low}
 use Rattle.cyc_agreement.specs.Removing.{Begun, BeginsOn, kept_in}
 use Rattle.cyc_agreement.specs.Polling.{Polled, PollsOn}
-use Rattle.cyc_agreement.specs.Withdrawing.{system, Withdraws, WithdrawsAt}
+use Rattle.cyc_agreement.specs.Withdrawing.{system, Withdraws, LeavesAt}
 use Rattle.cyc_agreement.proofs.Withdrawing.{withdraws_none, withdraws_then}
 
 -- the numbers from one on, where its test is known
@@ -70,15 +70,15 @@ module _ {R A : Type 0} (On : A → SystemView R → SystemView R → Type 0) (c
 
     pub walk_one : (more : ℕ) (x : CpuView R) (u : CpusView R) (ts : List Record) → IsCpu n x w → test x ≡ true
         → ((last : ℕ) → (a : A) × (cpu_of a ≡ n) × (worth a ≡ more) × On a (system w rs' last) (system u ts last))
-        → WithdrawsAt n id place w u rs' ts → Walk (n + 1) (total + more) v u rs ts
+        → Withdraws id place w u rs' ts × LeavesAt n id w u → Walk (n + 1) (total + more) v u rs ts
     walk_one more x u ts at is does l = record {
       did = λ last. by last (k.did last) (does last);
-      withdraws = withdraws_then id place v w u rs rs' ts k.withdraws l.withdraws;
+      withdraws = withdraws_then id place v w u rs rs' ts k.withdraws l.0;
       passed = λ m low h. dite (ℕ_discrete m n)
-          (λ e. ap (λ i. removal_on i u) e ∙ l.leaving (ap (λ i. has i id u) (sym e) ∙ h))
-          (λ ne. ap (λ o. option_and_then (λ cpu. cpu.removal) o) (l.elsewhere m ne)
-          ∙ k.passed m (omega (arith, low, ne)) (sym (ap (λ o. among id (option_map_or ids_of o [])) (l.elsewhere m ne)) ∙ h));
-      ahead = λ m low. l.elsewhere m (λ e. omega (arith, low, e)) ∙ k.ahead m (omega (arith, low));
+          (λ e. ap (λ i. removal_on i u) e ∙ l.1.leaving (ap (λ i. has i id u) (sym e) ∙ h))
+          (λ ne. ap (λ o. option_and_then (λ cpu. cpu.removal) o) (l.1.elsewhere m ne)
+          ∙ k.passed m (omega (arith, low, ne)) (sym (ap (λ o. among id (option_map_or ids_of o [])) (l.1.elsewhere m ne)) ∙ h));
+      ahead = λ m low. l.1.elsewhere m (λ e. omega (arith, low, e)) ∙ k.ahead m (omega (arith, low));
     }
       where
         by : (last : ℕ) → ((way : List A) × (numbers_from 0 (map test v.cpus) ≡ map cpu_of way ++ numbers_from n

@@ -14,7 +14,7 @@ use Rattle.cyc_types.specs.declared.refusal.Refusal.{Refusal}
 use Rattle.cyc_cpu.specs.Rows.{Cyclic, timers}
 use Rattle.cyc_cpu.specs.Cpu.{CpuView, IsCyclic, with_moment, Asks, Looked, Reserves, Widens, Places, Running}
 use Rattle.cyc_cpu.specs.Soft.{SoftKept}
-use Rattle.cyc_cpu.specs.Calls.{Changes, Does, Reserve, Fire, Reprogram}
+use Rattle.cyc_cpu.specs.Calls.{CpuChanges, CpuDoes, Reserve, Fire, Reprogram}
 use Rattle.cyc_types.specs.declared.level.Soft.{Soft}
 use Rattle.cyc_cpu.specs.Ran.{Ran}
 use Rattle.cyc_cpu.specs.SoftRefused.{SoftRefused}
@@ -111,11 +111,11 @@ module _ {R : Type 0} (firing : Raise R) (x y : CpuView R) where
       grown : (q : ℕ) → among q (ids_of y) ≡ ((c.timer.id == q) || among q (ids_of x))
       grown q = any_map id_in (λ own. own == q) y.cyclics
           ∙ ap (λ cs. list_any (λ (e : Cyclic). e.timer.id == q) cs) a.cyclics
-          ∙ any_insert (λ (e : Cyclic). e.timer.id == q) x.cyclics a.place c
+          ∙ any_insert (λ (e : Cyclic). e.timer.id == q) x.cyclics a.position c
           ∙ ap (λ b. (c.timer.id == q) || b) (sym (any_map id_in (λ own. own == q) x.cyclics))
 
 module _ {R : Type 0} (firing : Raise R) (x y : CpuView R) where
-  pub same_reserve : (more : ℕ) (answer : Result (Unit {0}) Refusal) → Changes firing x (Reserve more answer) y → SameIds x y
+  pub same_reserve : (more : ℕ) (answer : Result (Unit {0}) Refusal) → CpuChanges firing x (Reserve more answer) y → SameIds x y
   same_reserve more (Ok done) d = same_reserved firing x y more d.0
   same_reserve more (Err e) d = same_looked firing x y d.0
 
@@ -127,7 +127,7 @@ ids_set cs k m c is = map-set id_in cs k (with_moment m c)
     ∙ set-get_or (map id_in cs) k c.timer.id
 
 pub same_reprogram : {R : Type 0} (firing : Raise R) (x y : CpuView R) (id moment : ℕ)
-    → Changes firing x (Reprogram id moment (Ok tt)) y → SameIds x y
+    → CpuChanges firing x (Reprogram id moment (Ok tt)) y → SameIds x y
 same_reprogram firing x y id moment (k, c, is, named, still, e) = record {
   ids = ap ids_of e ∙ ids_set x.cyclics k moment c is;
   removal = ap (λ (v : CpuView _). v.removal) e;
@@ -138,7 +138,7 @@ same_reprogram firing x y id moment (k, c, is, named, still, e) = record {
 -- a fire moves cyclics to later moments, and takes none away
 ids_after : (now : ℕ) (made : List Expiration) (ts : List Timer)
     → map (λ (t : Timer). t.id) (all_after now made ts) ≡ map (λ (t : Timer). t.id) ts
-unfolding all_after expire.after
+unfolding all_after expire.after_expirations
 ids_after now made [] = refl
 ids_after now made (t ∷ ts) = (λ i. t.id ∷ ids_after now made ts i)
 
@@ -155,7 +155,7 @@ module _ {C R : Type 0} (handler : Calls C) (firing : Raise R)
     (interrupts : Soft → ℕ → Result Ran SoftRefused → Running C R → Running C R → Type 0)
     (s t : Running C R) where
   pub same_fired : (now : ℕ) (answer : Result Fired FireRefused)
-      → Does handler firing interrupts s (Fire now answer) t → SameIds s.cpu t.cpu
+      → CpuDoes handler firing interrupts s (Fire now answer) t → SameIds s.cpu t.cpu
   same_fired now (Ok r) (nn, same, expired, next, makes) = record {
     ids = ids_fired now (expirations now (timers s.cpu.cyclics)) s.cpu.cyclics t.cpu.cyclics makes.timers_are;
     removal = same.removal;

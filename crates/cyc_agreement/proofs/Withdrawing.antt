@@ -18,7 +18,7 @@ use Rattle.cyc_agreement.specs.System.{ids_of, has}
 use Rattle.cyc_agreement.specs.Agreement.{most_on}
 use Rattle.cyc_agreement.proofs.Spots.{same_some, none_some}
 use Rattle.cyc_agreement.proofs.Lists.{among, false_true}
-use Rattle.cyc_agreement.specs.Withdrawing.{Owns, Withdraws, WithdrawsAt}
+use Rattle.cyc_agreement.specs.Withdrawing.{Owns, Withdraws, LeavesAt}
 use Rattle.cyc_agreement.proofs.One.{LeavesCpu}
 
 -- ---- lists
@@ -72,13 +72,14 @@ module _ {R : Type 0} (v : CpusView R) (n id place : ℕ) (x y : CpuView R) (at 
   here_is = ap (λ o. among id (option_map_or ids_of o [])) (get_set_same v.cpus n y (slice_get_within v.cpus n x at))
 
   -- the record afterwards
-  pub withdrawn : (rs' : List Record) (after : Record) → rs' ≡ slice_set rs place after → after.id ≡ r.id → after.place ≡ r.place
+  pub withdrawn : (rs' : List Record) (after : Record) → rs' ≡ slice_set rs place after → after.id ≡ r.id
+      → after.placement ≡ r.placement
       → ((m : ℕ) → has m id (with_cpu v n y) ≡ true → ended_on m after ≡ ended_on m r)
       → ((m : ℕ) → has m id v ≡ false → ended_on m after ≡ ended_on m r)
       → ((m most : ℕ) → most_on m v ≡ Some most → (ended_on m r).sent ≤ most → (ended_on m after).sent ≤ most)
-      → WithdrawsAt n id place v (with_cpu v n y) rs rs'
-  withdrawn rs' after records same_id same_place kept beside bounded = record {
-    withdraws = record {
+      → Withdraws id place v (with_cpu v n y) rs rs' × LeavesAt n id v (with_cpu v n y)
+  withdrawn rs' after records same_id same_placement kept beside bounded = (
+    record {
       others = λ m q ne. at_each v n x y at (λ a b. among q (option_map_or ids_of b []) ≡ among q (option_map_or ids_of a []))
           (l.others q ne) (λ o. refl) m;
       fewer = at_each v n x y at (λ a b. among id (option_map_or ids_of b []) ≡ true
@@ -101,25 +102,27 @@ module _ {R : Type 0} (v : CpusView R) (n id place : ℕ) (x y : CpuView R) (at 
       was = is;
       records = records;
       same_id = same_id;
-      same_place = same_place;
+      same_placement = same_placement;
       kept = kept;
       beside = beside;
       bounded = bounded;
-    };
-    leaving = λ h. ap (λ o. option_and_then (λ cpu. cpu.removal) o) (get_set_same v.cpus n y (slice_get_within v.cpus n x at))
-        ∙ l.leaving (sym here_is ∙ h);
-    elsewhere = λ m ne. get_set_other v.cpus n m y ne;
-  }
+    },
+    record {
+      leaving = λ h. ap (λ o. option_and_then (λ cpu. cpu.removal) o) (get_set_same v.cpus n y (slice_get_within v.cpus n x at))
+          ∙ l.leaving (sym here_is ∙ h);
+      elsewhere = λ m ne. get_set_other v.cpus n m y ne;
+    },
+  )
 
   -- its removal is open there, or goes on
-  pub at_open : (rs' : List Record) → rs' ≡ rs → WithdrawsAt n id place v (with_cpu v n y) rs rs'
+  pub at_open : (rs' : List Record) → rs' ≡ rs → Withdraws id place v (with_cpu v n y) rs rs' × LeavesAt n id v (with_cpu v n y)
   at_open rs' same = withdrawn rs' r (same ∙ sym (set_here rs place r is)) refl refl (λ m h. refl) (λ m h. refl)
       (λ m most h low. low)
 
   -- it has left
   pub at_end : (rs' : List Record) (counts : Sent) → has n id v ≡ true → among id (ids_of y) ≡ false → counts.sent ≤ x.most
       → rs' ≡ slice_set rs place (with_ended n counts r)
-      → WithdrawsAt n id place v (with_cpu v n y) rs rs'
+      → Withdraws id place v (with_cpu v n y) rs rs' × LeavesAt n id v (with_cpu v n y)
   at_end rs' counts was gone few records = withdrawn rs' (with_ended n counts r) records refl refl
       (λ m h. ended_beside r n m counts (λ e. false_true (sym gone ∙ sym here_is ∙ ap (λ k. has k id (with_cpu v n y)) (sym e)
       ∙ h)))
@@ -147,7 +150,7 @@ withdraws_none id place v rs r is = record {
   was = is;
   records = sym (set_here rs place r is);
   same_id = refl;
-  same_place = refl;
+  same_placement = refl;
   kept = λ n h. refl;
   beside = λ n h. refl;
   bounded = λ n most h low. low;
@@ -183,7 +186,7 @@ withdraws_then id place u v w rs ss ts a b = record {
   was = a.was;
   records = b.records ∙ ap (λ l. slice_set l place b.after) a.records ∙ set_twice rs place a.after b.after;
   same_id = b.same_id ∙ ap (λ (r : Record). r.id) middle ∙ a.same_id;
-  same_place = b.same_place ∙ ap (λ (r : Record). r.place) middle ∙ a.same_place;
+  same_placement = b.same_placement ∙ ap (λ (r : Record). r.placement) middle ∙ a.same_placement;
   kept = λ n h. b.kept n h ∙ ap (λ (r : Record). ended_on n r) middle ∙ a.kept n (b.fewer n h);
   beside = λ n h. b.beside n (none_before id place u v rs ss a n h) ∙ ap (λ (r : Record). ended_on n r) middle ∙ a.beside n h;
   bounded = λ n most h low. b.bounded n most (a.most n ∙ h)

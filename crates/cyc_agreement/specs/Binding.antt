@@ -5,22 +5,22 @@ use Rattle.cyc_types.specs.declared.refusal.Refusal.{Refusal}
 use Rattle.cyc_places.specs.declared.record.Placement.{Placement}
 use Rattle.cyc_places.specs.declared.record.Placement.TheVariants.{On}
 use Rattle.cyc_places.specs.declared.record.Record.{Record}
-use Rattle.cyc_places.specs.Places.{IsRecord, with_place}
+use Rattle.cyc_places.specs.Places.{IsRecord, with_placement}
 use Rattle.cyc_agreement.specs.Cpus.{CpusView}
 use Rattle.cyc_agreement.specs.Shifting.{Move, move_of, Shifts}
 use Rattle.cyc_agreement.specs.System.{SystemView}
 
 -- the cyclic, which is on one CPU, is there now
 abbrev pub Records : {R : Type 0} → ℕ → Placement → SystemView R → SystemView R → Type 0
-Records id place s t = (k : ℕ) × (r : Record) × IsRecord s.records k r × (r.id ≡ id)
-    × (t.records ≡ slice_set s.records k (with_place place r)) × (t.last ≡ s.last)
+Records id placement s t = (k : ℕ) × (r : Record) × IsRecord s.records k r × (r.id ≡ id)
+    × (t.records ≡ slice_set s.records k (with_placement placement r)) × (t.last ≡ s.last)
 
 -- the cyclic is on this one CPU, and may be bound to it
-abbrev pub HasPlace : {R : Type 0} → ℕ → ℕ → Bool → SystemView R → Type 0
-HasPlace id n bound s = (k : ℕ) × (r : Record) × IsRecord s.records k r × (r.id ≡ id) × (r.place ≡ On n bound)
+abbrev pub HasPlacement : {R : Type 0} → ℕ → ℕ → Bool → SystemView R → Type 0
+HasPlacement id n bound s = (k : ℕ) × (r : Record) × IsRecord s.records k r × (r.id ≡ id) × (r.placement ≡ On n bound)
 
 abbrev pub HasHome : {R : Type 0} → ℕ → ℕ → SystemView R → Type 0
-HasHome id n s = (bound : Bool) × HasPlace id n bound s
+HasHome id n s = (bound : Bool) × HasPlacement id n bound s
 
 -- the cyclic may be moved from now on (cyclic_bind with no CPU)
 abbrev pub Unbinds : {R : Type 0} → ℕ → Result (Unit {0}) Refusal → SystemView R → SystemView R → Type 0

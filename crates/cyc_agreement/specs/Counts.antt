@@ -1,6 +1,7 @@
 -- All that a cyclic has expired, over all CPUs and all of its stays.
 use Rattle.std.specs.Prelude.{◌≡◌, ℕ, ◌+◌, ◌≤◌, length, sum_by}
 use Rattle.std.specs.Option.{option_map_or}
+use Rattle.cyc_types.specs.Limits.{most_cpus}
 use Rattle.cyc_types.specs.Firing.{FiringView}
 use Rattle.cyc_cpu.specs.Cpu.{CpuView}
 use Rattle.cyc_cpu.specs.Laws.{IsLawful}
@@ -23,8 +24,8 @@ all_lost id s = sum_by (λ cpu. option_map_or (λ c. c.lost) (cyclic_in id cpu) 
 -- the records' ids rise, each has the counts of as many CPUs as there can be, and there are no more
 pub record IsFit {R : Type 0} (s : SystemView R) : Type 0 where
   pub rising : HasRisingIds s.records
-  pub sixteen : (k : ℕ) (r : Record) → IsRecord s.records k r → length r.ended ≡ 16
-  pub few : length s.cpus.cpus ≤ 16
+  pub sixteen : (k : ℕ) (r : Record) → IsRecord s.records k r → length r.ended ≡ most_cpus
+  pub few : length s.cpus.cpus ≤ most_cpus
 
 abbrev pub AreLawful : {R : Type 0} → (R → FiringView) → SystemView R → Type 0
 AreLawful {R} view s = (n : ℕ) (cpu : CpuView R) → IsCpu n cpu s.cpus → IsLawful view cpu

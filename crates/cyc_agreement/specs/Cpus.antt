@@ -8,7 +8,7 @@ use Rattle.cyc_types.specs.declared.level.Soft.{Soft}
 use Rattle.cyc_cpu.specs.Ran.{Ran}
 use Rattle.cyc_cpu.specs.SoftRefused.{SoftRefused}
 use Rattle.cyc_cpu.specs.Cpu.{CpuView, Running, running}
-use Rattle.cyc_cpu.specs.Calls.{CpuCall, Changes, Does}
+use Rattle.cyc_cpu.specs.Calls.{CpuCall, CpuChanges, CpuDoes}
 
 -- the firing sides by number, and beside them which are online
 pub record CpusView (R : Type 0) : Type 0 where
@@ -58,7 +58,7 @@ on n call = record { cpu = n; call = call }
 
 -- the call was made on its CPU, and it reached no handler
 abbrev pub DoesAt : {R : Type 0} → Raise R → CpusView R → CallOn → CpusView R → Type 0
-DoesAt firing v c w = ChangesAt c.cpu (λ x y. Changes firing x c.call y) v w
+DoesAt firing v c w = ChangesAt c.cpu (λ x y. CpuChanges firing x c.call y) v w
 
 -- these calls were made, in order, and no other
 abbrev pub Works : {R : Type 0} → Raise R → List CallOn → CpusView R → CpusView R
@@ -78,7 +78,7 @@ abbrev pub RunsAt : {C R : Type 0} → Calls C
     → Raise R → (Soft → ℕ → Result Ran SoftRefused → Running C R → Running C R → Type 0)
     → RunningCpus C R → CallOn → RunningCpus C R → Type 0
 RunsAt handler firing interrupts s c t = ChangesAt c.cpu
-    (λ x y. Does handler firing interrupts (running s.calls x) c.call (running t.calls y)) s.cpus t.cpus
+    (λ x y. CpuDoes handler firing interrupts (running s.calls x) c.call (running t.calls y)) s.cpus t.cpus
 
 -- a CPU with no cyclic and of size 1, over the ends of its lock and its low level
 abbrev pub new_cpu : {R : Type 0} → ℕ → R → R → CpuView R

@@ -44,9 +44,9 @@ RetiresAll {R} firing n s t = (asked : SystemView R) × OnlyWorks firing (quiet 
     × (empty : SystemView R) × FoldsTo (Retires firing n) asked (ids_on n s.cpus) empty × (t ≡ offline_at n empty)
 
 -- what follows the turns: cyclics that aren't omnipresent are left, or a component has calls outstanding, or all leave
-abbrev pub Leaves : {R : Type 0} → Raise R → ℕ → JuggleReport
+abbrev pub EndsOffline : {R : Type 0} → Raise R → ℕ → JuggleReport
     → Result (Unit {0}) Refusal → SystemView R → SystemView R → Type 0
-Leaves firing n report answer s t = ((single_ids n s ≢ []) × (answer ≡ Err (Left report)) × (t ≡ s))
+EndsOffline firing n report answer s t = ((single_ids n s ≢ []) × (answer ≡ Err (Left report)) × (t ≡ s))
     ⊎ ((single_ids n s ≡ []) × (answer ≡ Err Pending) × FindsPending firing n s t)
     ⊎ ((single_ids n s ≡ []) × (answer ≡ Ok tt) × RetiresAll firing n s t)
 
@@ -56,4 +56,4 @@ abbrev pub GoesOffline : {R : Type 0} → Raise R
     → ℕ → Result (Unit {0}) Refusal → SystemView R → SystemView R → Type 0
 GoesOffline {R} firing n answer s t = Unless (juggle_refusals n s) (λ e. Err e) answer s t
     ((report : JuggleReport) × (moved : SystemView R) × MovesAway firing n report s moved
-    × Leaves firing n report answer moved t)
+    × EndsOffline firing n report answer moved t)

@@ -15,7 +15,7 @@ use Rattle.cyc_agreement.specs.Shifting.{move_of, Shifts}
 use Rattle.cyc_agreement.specs.System.{SystemView, ids_on, removal_on, is_omnipresent}
 use Rattle.cyc_agreement.specs.Refusals.{Unless, no_cpu, offline_cpu}
 use Rattle.cyc_agreement.specs.Adding.{OnlyWorks}
-use Rattle.cyc_agreement.specs.Binding.{HasPlace, Records}
+use Rattle.cyc_agreement.specs.Binding.{HasPlacement, Records}
 use Rattle.cyc_agreement.specs.declared.turning.Turn.{Turn}
 use Rattle.cyc_agreement.specs.declared.turning.Turn.TheVariants.{StaysBound, StaysPending, StaysRefused, Moves}
 
@@ -28,13 +28,13 @@ system_of cpus records last = record { cpus = cpus; records = records.list; last
 -- that its CPU has of it (cyclic_juggle_one).
 abbrev pub TakesTurn : {R : Type 0} → Raise R → ℕ → ℕ → Turn
     → SystemView R → SystemView R → Type 0
-TakesTurn firing source id StaysBound s t = HasPlace id source true s × (t ≡ s)
-TakesTurn firing source id StaysPending s t = HasPlace id source false s
+TakesTurn firing source id StaysBound s t = HasPlacement id source true s × (t ≡ s)
+TakesTurn firing source id StaysPending s t = HasPlacement id source false s
     × (n : ℕ) × (0 < n) × OnlyWorks firing (on source (AskPending id (Some n)) ∷ []) s t
-TakesTurn firing source id StaysRefused s t = HasPlace id source false s
+TakesTurn firing source id StaysRefused s t = HasPlacement id source false s
     × (d : ℕ) × (destination (Some source) s.cpus ≡ Some d) × (e : Refusal)
     × OnlyWorks firing (on source (AskPending id (Some 0)) ∷ on d (Reserve 1 (Err e)) ∷ []) s t
-TakesTurn firing source id Moves s t = HasPlace id source false s
+TakesTurn firing source id Moves s t = HasPlacement id source false s
     × (d : ℕ) × (destination (Some source) s.cpus ≡ Some d)
     × Shifts firing (move_of id source d) (Ok tt) s.cpus t.cpus × Records id (On d false) s t
 

@@ -18,8 +18,8 @@ use Rattle.cyc_agreement.specs.Omni.{component_first, AddsOmni}
 use Rattle.cyc_agreement.specs.Online.{is_staying, GoesOnline}
 
 -- this cyclic is one of these
-abbrev pub Here : Cyclic → List Cyclic → Type 0
-Here c cs = (k : ℕ) × IsCyclic cs k c
+abbrev pub IsOneOf : Cyclic → List Cyclic → Type 0
+IsOneOf c cs = (k : ℕ) × IsCyclic cs k c
 
 -- this cyclic is one of these, and no other has its id
 abbrev pub HasOne : Cyclic → List Cyclic → Type 0
@@ -40,7 +40,7 @@ abbrev pub OthersStay : {R : Type 0} → Raise R → Type 0
 OthersStay {R} firing = (s t : SystemView R) (level : Level) (when : When) (skew now id : ℕ)
     → AddsOmni firing (add_request level when now) skew (Ok id) s t → (n : ℕ) (x y : CpuView R)
     → IsCpu n x s.cpus → IsCpu n y t.cpus
-    → (d : Cyclic) → d.timer.id ≢ id → (Here d x.cyclics → Here d y.cyclics) × (Here d y.cyclics → Here d x.cyclics)
+    → (d : Cyclic) → d.timer.id ≢ id → (IsOneOf d x.cyclics → IsOneOf d y.cyclics) × (IsOneOf d y.cyclics → IsOneOf d x.cyclics)
 
 -- a component that comes back with what its earlier stays on this CPU came to
 abbrev pub old_component : ℕ → Record → When → ℕ → ℕ → Cyclic
@@ -50,7 +50,7 @@ old_component n r when skew now =
 -- after a CPU took part again it has one component of each omnipresent cyclic whose removal is not open
 abbrev pub AllCameBack : {R : Type 0} → Raise R → Type 0
 AllCameBack {R} firing = (s t : SystemView R) (n now : ℕ) → GoesOnline firing n now (Ok tt) s t
-    → (k : ℕ) (r : Record) (when : When) (skew : ℕ) → IsRecord s.records k r → r.place ≡ Everywhere when skew
+    → (k : ℕ) (r : Record) (when : When) (skew : ℕ) → IsRecord s.records k r → r.placement ≡ Everywhere when skew
     → is_staying s.cpus r ≡ true → OfCpu n (λ cpu. HasOne (old_component n r when skew now) cpu.cyclics) t.cpus
 
 -- and no other CPU was touched
@@ -73,5 +73,5 @@ abbrev pub NothingIsLost : {R : Type 0} → Raise R → Type 0
 NothingIsLost {R} firing = (s t : SystemView R) (n now : ℕ) → Agrees s → HasRisingIds s.records
     → is_online n s.cpus ≡ false
     → GoesOnline firing n now (Ok tt) s t → (k : ℕ) (r : Record) → IsRecord s.records k r
-    → (q : Record) × IsRecord t.records k q × (q.id ≡ r.id) × (q.level ≡ r.level) × (q.place ≡ r.place)
+    → (q : Record) × IsRecord t.records k q × (q.id ≡ r.id) × (q.level ≡ r.level) × (q.placement ≡ r.placement)
     × ((m : ℕ) → (expired_on m q t ≡ expired_on m r s) × (lost_on m q t ≡ lost_on m r s))

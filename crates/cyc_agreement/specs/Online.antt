@@ -25,7 +25,7 @@ online_cpu n s = when (is_online n s.cpus) Online
 
 -- the cyclic is omnipresent, and its removal is not open
 abbrev pub is_staying : {R : Type 0} → CpusView R → Record → Bool
-is_staying v r = is_everywhere r.place && not (list_any (is_leaving_here r.id) v.cpus)
+is_staying v r = is_everywhere r.placement && not (list_any (is_leaving_here r.id) v.cpus)
 
 -- these cyclics, by rising ids
 abbrev pub staying : {R : Type 0} → SystemView R → List Record
@@ -40,7 +40,7 @@ return_at n now id level counts (Everywhere first skew) =
 -- each of these in turn
 abbrev pub returns : ℕ → ℕ → List Record → List CallOn
 returns n now [] = []
-returns n now (r ∷ rs) = return_at n now r.id r.level (ended_on n r) r.place ++ returns n now rs
+returns n now (r ∷ rs) = return_at n now r.id r.level (ended_on n r) r.placement ++ returns n now rs
 
 -- the counts of its stays there have gone over to the component
 abbrev pub after_return : {R : Type 0} → ℕ → CpusView R → Record → Record

@@ -10,7 +10,7 @@ use Rattle.cyc_cpu.specs.Calls.{PollRemove}
 use Rattle.cyc_agreement.specs.Cpus.{CpusView, on, numbers_from}
 use Rattle.cyc_agreement.specs.System.{SystemView, is_leaving_here, is_leaving}
 use Rattle.cyc_agreement.specs.Refusals.{Unless}
-use Rattle.cyc_agreement.specs.Removing.{OnlyDoes, EndsStay, Answers, cpus_with}
+use Rattle.cyc_agreement.specs.Removing.{OnlyDoes, EndsStay, AnswersRemoval, cpus_with}
 
 -- the numbers of the CPUs on which the removal of this id is open, rising
 abbrev pub leaving_cpus : {R : Type 0} → ℕ → CpusView R → List ℕ
@@ -34,13 +34,13 @@ PollsEach firing id way s t = FoldsTo (λ u p w. PollsOn firing id p.cpu p.answe
 
 -- Every CPU on which the removal is open was asked, and where one has ended its counts are kept. The receipt comes when no
 -- CPU has the cyclic any more.
-abbrev pub Polls : {R : Type 0} → Raise R
+abbrev pub PollsCpus : {R : Type 0} → Raise R
     → ℕ → Result (Option Receipt) Refusal → SystemView R → SystemView R → Type 0
-Polls {R} firing id (Ok (Some receipt)) s t = (way : List Polled) × (u : SystemView R)
-    × (map (λ p. p.cpu) way ≡ leaving_cpus id s.cpus) × PollsEach firing id way s u × Answers id receipt u t
-Polls firing id (Ok None) s t = (way : List Polled) × (map (λ p. p.cpu) way ≡ leaving_cpus id s.cpus)
+PollsCpus {R} firing id (Ok (Some receipt)) s t = (way : List Polled) × (u : SystemView R)
+    × (map (λ p. p.cpu) way ≡ leaving_cpus id s.cpus) × PollsEach firing id way s u × AnswersRemoval id receipt u t
+PollsCpus firing id (Ok None) s t = (way : List Polled) × (map (λ p. p.cpu) way ≡ leaving_cpus id s.cpus)
     × PollsEach firing id way s t × (cpus_with id t.cpus ≢ [])
-Polls firing id (Err e) s t = ⊥
+PollsCpus firing id (Err e) s t = ⊥
 
 -- no removal of this id is open
 abbrev pub not_leaving : {R : Type 0} → ℕ → SystemView R → Option Refusal
@@ -50,4 +50,4 @@ not_leaving id s = when (not (is_leaving id s)) NoCyclic
 abbrev pub PollsRemoval : {R : Type 0} → Raise R
     → ℕ → Result (Option Receipt) Refusal → SystemView R → SystemView R → Type 0
 PollsRemoval firing id answer s t =
-    Unless (not_leaving id s ∷ []) (λ e. Err e) answer s t (Polls firing id answer s t)
+    Unless (not_leaving id s ∷ []) (λ e. Err e) answer s t (PollsCpus firing id answer s t)

@@ -30,15 +30,15 @@ abbrev pub OnlyDoes : {R : Type 0} → Raise R
 OnlyDoes firing n call s t = DoesAt firing s.cpus (on n call) t.cpus × (t.records ≡ s.records) × (t.last ≡ s.last)
 
 -- the counts of the stay that the receipt is of
-abbrev pub counts_of : Receipt → Sent
-counts_of receipt = record { sent = receipt.sent; lost = receipt.lost }
+abbrev pub counts_of_receipt : Receipt → Sent
+counts_of_receipt receipt = record { sent = receipt.sent; lost = receipt.lost }
 
 -- this call on a CPU ended the cyclic's stay there, whose counts are kept beside those of earlier stays there
 abbrev pub EndsStay : {R : Type 0} → Raise R
     → ℕ → Receipt → CallOn → SystemView R → SystemView R → Type 0
 EndsStay firing id receipt it s t = DoesAt firing s.cpus it t.cpus
     × (k : ℕ) × (r : Record) × IsRecord s.records k r × (r.id ≡ id)
-    × (t.records ≡ slice_set s.records k (with_ended it.cpu (summed (ended_on it.cpu r) (counts_of receipt)) r))
+    × (t.records ≡ slice_set s.records k (with_ended it.cpu (summed (ended_on it.cpu r) (counts_of_receipt receipt)) r))
     × (t.last ≡ s.last)
 
 -- the removal begins on the CPU, and ends there at once where no call is outstanding (cyclic_remove_here)
@@ -65,15 +65,15 @@ kept_in (Done receipt) = 0
 kept_in (Kept kept) = kept
 
 -- the removal is over: no CPU has the cyclic any more, its record goes, and the receipt has the counts of all its stays
-pub record Answers {R : Type 0} (id : ℕ) (receipt : Receipt) (s t : SystemView R) : Type 0 where
+pub record AnswersRemoval {R : Type 0} (id : ℕ) (receipt : Receipt) (s t : SystemView R) : Type 0 where
   pub nowhere : cpus_with id s.cpus ≡ []
-  pub place : ℕ
+  pub position : ℕ
   pub own : Record
-  pub here : IsRecord s.records place own
+  pub here : IsRecord s.records position own
   pub named : own.id ≡ id
   pub counts : IsReceiptOf receipt own
   pub cpus : t.cpus ≡ s.cpus
-  pub records : t.records ≡ remove s.records place
+  pub records : t.records ≡ remove s.records position
   pub last : t.last ≡ s.last
 
 -- The removal began on every CPU that has the cyclic. It is over at once where each of them found no call outstanding; else
@@ -81,7 +81,7 @@ pub record Answers {R : Type 0} (id : ℕ) (receipt : Receipt) (s t : SystemView
 abbrev pub Removes : {R : Type 0} → Raise R
     → ℕ → Result SystemRemoval Refusal → SystemView R → SystemView R → Type 0
 Removes {R} firing id (Ok (system.Done receipt)) s t = (way : List Begun) × (u : SystemView R)
-    × (map (λ b. b.cpu) way ≡ cpus_with id s.cpus) × BeginsEach firing id way s u × Answers id receipt u t
+    × (map (λ b. b.cpu) way ≡ cpus_with id s.cpus) × BeginsEach firing id way s u × AnswersRemoval id receipt u t
 Removes firing id (Ok (system.Kept kept)) s t = (way : List Begun) × (map (λ b. b.cpu) way ≡ cpus_with id s.cpus)
     × BeginsEach firing id way s t × (cpus_with id t.cpus ≢ []) × (kept ≡ sum_by (λ b. kept_in b.found) way)
 Removes firing id (Err e) s t = ⊥

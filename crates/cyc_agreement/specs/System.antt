@@ -30,7 +30,7 @@ is_leaving id s = list_any (is_leaving_here id) s.cpus.cpus
 
 -- the cyclic has a component on each online CPU
 abbrev pub is_omnipresent : {R : Type 0} → ℕ → SystemView R → Bool
-is_omnipresent id s = option_map_or (λ r. is_everywhere r.place) (record_of id s) false
+is_omnipresent id s = option_map_or (λ r. is_everywhere r.placement) (record_of id s) false
 
 -- a system and the handlers of its cyclics
 pub record RunningSystem (C R : Type 0) : Type 0 where

@@ -47,5 +47,5 @@ abbrev pub all_left : JuggleReport → ℕ
 all_left r = r.bound + r.pending + r.refused
 
 -- no call of a cyclic of the CPU was seen outstanding
-abbrev pub AreQuiet : {R : Type 0} → (R → FiringView) → CpuView R → Type 0
-AreQuiet view cpu = (k : ℕ) (c : Cyclic) → IsCyclic cpu.cyclics k c → seen_at view c.timer.id cpu ≡ 0
+abbrev pub HaveNoCalls : {R : Type 0} → (R → FiringView) → CpuView R → Type 0
+HaveNoCalls view cpu = (k : ℕ) (c : Cyclic) → IsCyclic cpu.cyclics k c → seen_at view c.timer.id cpu ≡ 0

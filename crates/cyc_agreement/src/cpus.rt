@@ -3,6 +3,7 @@
 ghost use Rattle.std.specs.Prelude.{◌≡◌, ◌<◌, ◌≤◌, ℕ, List, length, map, slice_set, true, All, Some, IfOk, IfErr};
 ghost use Rattle.std.specs.List.{slice_get};
 ghost use Rattle.std.specs.Borrow.{Lends, sem};
+ghost use Rattle.cyc_types.specs.Limits.{most_cpus};
 ghost use Rattle.cyc_types.specs.declared.refusal.Refusal.TheVariants.{Memory};
 ghost use Rattle.cyc_cpu.specs.Cpu.{CpuView, IsFresh};
 ghost use Rattle.cyc_cpu.specs.Laws.{IsLawful};
@@ -24,13 +25,14 @@ pub struct Cpus<R: Raise> {
 
 impl<R: Raise> Model for Cpus<R> {
     ghost use Rattle.std.specs.Prelude.{◌≡◌, ◌≤◌, length};
+    ghost use Rattle.cyc_types.specs.Limits.{most_cpus};
     ghost use Rattle.cyc_agreement.specs.Cpus.{CpusView};
 
     ghost Value = { CpusView R };
 
     ghost view = { λ c. record { cpus = c.hards.items; online = c.online.items } };
 
-    ghost invariant = { λ c. (length c.online.items ≡ length c.hards.items) × (length c.hards.items ≤ 16) };
+    ghost invariant = { λ c. (length c.online.items ≡ length c.hards.items) × (length c.hards.items ≤ most_cpus) };
 }
 
 /// A CPU with no cyclic over each pair of ends.
@@ -54,7 +56,7 @@ impl<R: Raise + Drop> Cpus<R> {
     /// CPUs with no cyclic, all online, over these ends: of each CPU that of its lock and that of its low level. No cyclic
     /// expires more than `most` times. Refuses with Memory alone; the ends are then dropped.
     pub fn new(alloc: Global, ends: Vec<(R, R)>, most: u64) -> Result<Cpus<R>, Refusal>
-        requires few { length ends.items ≤ 16 }
+        requires few { length ends.items ≤ most_cpus }
         requires fresh { All (λ e. IsFresh (R.view e.0) × IsFresh (R.view e.1)) ends.items }
         ensures ok { IfOk result (λ cpus. cpus ≡ new_cpus most ends.items) }
         ensures err { IfErr result (λ refusal. refusal ≡ Memory) }
@@ -68,7 +70,7 @@ impl<R: Raise + Drop> Cpus<R> {
 impl<R: Raise> Cpus<R> {
     /// The CPUs that have these firing sides by number, each online as is said.
     pub fn from_parts(hards: Vec<Hard<R>>, online: Vec<bool>) -> Cpus<R>
-        requires few { length hards.items ≤ 16 }
+        requires few { length hards.items ≤ most_cpus }
         requires as_many { length online.items ≡ length hards.items }
         ensures { result ≡ record { cpus = hards.items; online = online.items } }
     {
@@ -88,7 +90,7 @@ impl<R: Raise> Cpus<R> {
     pub fn count(&self) -> u32
         ensures count { result ≡ length self.now.cpus }
         ensures online { result ≡ length self.now.online }
-        ensures few { result ≤ 16 }
+        ensures few { result ≤ most_cpus }
     {
         self.hards.len() as u32
     }

@@ -1,7 +1,7 @@
 //! The CPUs of a system: their firing sides by number, which of them are online, and how a cyclic comes to one or goes from one
-//! to another. Then what is true of every system of CPUs: the CPUs and the records agree on where each cyclic is. Beside it what a
-//! new cyclic and one that goes to another CPU change, and why they are refused; and the calls of a system that go over many CPUs
-//! or many cyclics, each of which keeps the agreement:
+//! to another. Then what is true of every system of CPUs: the CPUs and the records agree on where each cyclic is. Beside it what
+//! a new cyclic and one that goes to another CPU change, and why they are refused; and the calls of a system that go over many
+//! CPUs or many cyclics, each of which keeps the agreement:
 //!
 //! - the removal of a cyclic from all CPUs that have it, and its counts over all of them
 //! - how the cyclics of a CPU move to other CPUs, each to the one with the fewest, and how the CPU then goes offline
@@ -34,7 +34,6 @@ mod turning;
 
 pub use adding::{add_omni, enter};
 pub use cpus::Cpus;
-pub use cyc_cpu::Removal;
 pub use finding::{is_leaving, is_leaving_at};
 pub use going_offline::offline;
 pub use juggling::juggle;

@@ -50,50 +50,50 @@ fn open_removal<R: Raise>(cpus: &Cpus<R>, id: CyclicId) -> Option<CyclicId>
 fn begin_each<R: Raise>(
     cpus: &mut Cpus<R>,
     records: &mut Records,
-    place: usize,
+    position: usize,
     id: CyclicId,
 ) -> u64
-    requires owns { Owns id place cpus.old records.old.list }
+    requires owns { Owns id position cpus.old records.old.list }
     requires still { (n : ℕ) → has n id cpus.old ≡ true → removal_on n cpus.old ≡ None }
     ensures did { (last : ℕ) → (way : List Begun) × (map (λ b. b.cpu) way ≡ cpus_with id cpus.old)
         × BeginsEach R.Raise id way (system cpus.old records.old.list last) (system cpus.new records.new.list last)
         × (result ≡ sum_by (λ b. kept_in b.found) way) }
-    ensures withdraws { Withdraws id place cpus.old cpus.new records.old.list records.new.list }
+    ensures withdraws { Withdraws id position cpus.old cpus.new records.old.list records.new.list }
     ensures leaving { (n : ℕ) → has n id cpus.new ≡ true → removal_on n cpus.new ≡ Some id }
 {
     let mut kept = 0;
     for number in 0..cpus.count() {
         if cpus.cpu(number).has(id) {
-            kept += begin_at(cpus, records, place, id, number);
+            kept += begin_at(cpus, records, position, id, number);
         }
     }
     kept
 }
 
 /// Every CPU on which the removal is open is asked whether it is done there.
-fn poll_each<R: Raise>(cpus: &mut Cpus<R>, records: &mut Records, place: usize, id: CyclicId)
-    requires owns { Owns id place cpus.old records.old.list }
+fn poll_each<R: Raise>(cpus: &mut Cpus<R>, records: &mut Records, position: usize, id: CyclicId)
+    requires owns { Owns id position cpus.old records.old.list }
     requires whole { (n : ℕ) → has n id cpus.old ≡ true → removal_on n cpus.old ≡ Some id }
     ensures did { (last : ℕ) → (way : List Polled) × (map (λ p. p.cpu) way ≡ leaving_cpus id cpus.old)
         × PollsEach R.Raise id way (system cpus.old records.old.list last) (system cpus.new records.new.list last) }
-    ensures withdraws { Withdraws id place cpus.old cpus.new records.old.list records.new.list }
+    ensures withdraws { Withdraws id position cpus.old cpus.new records.old.list records.new.list }
     ensures leaving { (n : ℕ) → has n id cpus.new ≡ true → removal_on n cpus.new ≡ Some id }
 {
     for number in 0..cpus.count() {
         if is_leaving_at(cpus, number, id) {
-            poll_at(cpus, records, place, id, number);
+            poll_at(cpus, records, position, id, number);
         }
     }
 }
 
 /// The receipt of a cyclic that no CPU has any more. Its record goes.
-fn close(records: &mut Records, place: usize) -> Receipt
-    requires { place < length records.old.list }
-    ensures receipt { (r : Record) → IsRecord records.old.list place r → IsReceiptOf result r }
-    ensures records { records.new.list ≡ remove records.old.list place }
+fn close(records: &mut Records, position: usize) -> Receipt
+    requires { position < length records.old.list }
+    ensures receipt { (r : Record) → IsRecord records.old.list position r → IsReceiptOf result r }
+    ensures records { records.new.list ≡ remove records.old.list position }
 {
-    let receipt = records.receipt(place);
-    records.remove(place);
+    let receipt = records.receipt(position);
+    records.remove(position);
     receipt
 }
 
@@ -101,11 +101,11 @@ fn close(records: &mut Records, place: usize) -> Receipt
 fn begin_omni<R: Raise>(
     cpus: &mut Cpus<R>,
     records: &mut Records,
-    place: usize,
+    position: usize,
     id: CyclicId,
 ) -> Result<SystemRemoval, Refusal>
     requires holds { (last : ℕ) × Holds (system cpus.old records.old.list last) }
-    requires own { (r : Record) × IsRecord records.old.list place r × (r.id ≡ id) }
+    requires own { (r : Record) × IsRecord records.old.list position r × (r.id ≡ id) }
     ensures did { (last : ℕ) → BeginsRemoval R.Raise id result (system cpus.old records.old.list last)
         (system cpus.new records.new.list last) }
     ensures holds { (last : ℕ) → Holds (system cpus.old records.old.list last) → Holds (system cpus.new records.new.list last) }
@@ -114,23 +114,23 @@ fn begin_omni<R: Raise>(
     if let Some(removed) = open_removal(cpus, id) {
         return Err(Refusal::Busy(removed));
     }
-    let kept = begin_each(cpus, records, place, id);
+    let kept = begin_each(cpus, records, position, id);
     cpus.law();
     if is_leaving(cpus, id) {
         return Ok(SystemRemoval::Kept(kept));
     }
-    Ok(SystemRemoval::Done(close(records, place)))
+    Ok(SystemRemoval::Done(close(records, position)))
 }
 
 /// The open removal of an omnipresent cyclic is polled.
 fn poll_omni<R: Raise>(
     cpus: &mut Cpus<R>,
     records: &mut Records,
-    place: usize,
+    position: usize,
     id: CyclicId,
 ) -> Result<Option<Receipt>, Refusal>
     requires holds { (last : ℕ) × Holds (system cpus.old records.old.list last) }
-    requires own { (r : Record) × IsRecord records.old.list place r × (r.id ≡ id) }
+    requires own { (r : Record) × IsRecord records.old.list position r × (r.id ≡ id) }
     ensures did { (last : ℕ) → PollsRemoval R.Raise id result (system cpus.old records.old.list last)
         (system cpus.new records.new.list last) }
     ensures holds { (last : ℕ) → Holds (system cpus.old records.old.list last) → Holds (system cpus.new records.new.list last) }
@@ -140,12 +140,12 @@ fn poll_omni<R: Raise>(
     if !is_leaving(cpus, id) {
         return Err(Refusal::NoCyclic);
     }
-    poll_each(cpus, records, place, id);
+    poll_each(cpus, records, position, id);
     cpus.law();
     if is_leaving(cpus, id) {
         return Ok(None);
     }
-    Ok(Some(close(records, place)))
+    Ok(Some(close(records, position)))
 }
 
 /// Begins the removal of a cyclic on every CPU that has it (`cyclic_remove`): from now on it never expires. It is done at once
@@ -164,12 +164,12 @@ pub fn begin_remove<R: Raise>(
         (system cpus.new records.new.list last) }
     ensures holds { (last : ℕ) → Holds (system cpus.old records.old.list last) → Holds (system cpus.new records.new.list last) }
 {
-    let Some(place) = records.find(id) else {
+    let Some(position) = records.find(id) else {
         return Err(Refusal::NoCyclic);
     };
-    match records.at(place).place {
-        Placement::On { cpu, bound: _ } => begin_on(cpus, records, place, id, cpu),
-        Placement::Everywhere { when: _, skew: _ } => begin_omni(cpus, records, place, id),
+    match records.at(position).placement {
+        Placement::On { cpu, bound: _ } => begin_on(cpus, records, position, id, cpu),
+        Placement::Everywhere { when: _, skew: _ } => begin_omni(cpus, records, position, id),
     }
 }
 
@@ -189,11 +189,11 @@ pub fn poll_remove<R: Raise>(
     ensures holds { (last : ℕ) → Holds (system cpus.old records.old.list last) → Holds (system cpus.new records.new.list last) }
 {
     cpus.law();
-    let Some(place) = records.find(id) else {
+    let Some(position) = records.find(id) else {
         return Err(Refusal::NoCyclic);
     };
-    match records.at(place).place {
-        Placement::On { cpu, bound: _ } => poll_on(cpus, records, place, id, cpu),
-        Placement::Everywhere { when: _, skew: _ } => poll_omni(cpus, records, place, id),
+    match records.at(position).placement {
+        Placement::On { cpu, bound: _ } => poll_on(cpus, records, position, id, cpu),
+        Placement::Everywhere { when: _, skew: _ } => poll_omni(cpus, records, position, id),
     }
 }

@@ -21,12 +21,13 @@ use cyc_types::{CyclicId, Raise, Receipt, Refusal};
 pub(crate) fn begin_on<R: Raise>(
     cpus: &mut Cpus<R>,
     records: &mut Records,
-    place: usize,
+    position: usize,
     id: CyclicId,
     number: u32,
 ) -> Result<SystemRemoval, Refusal>
     requires holds { (last : ℕ) × Holds (system cpus.old records.old.list last) }
-    requires own { (r : Record) × (bound : Bool) × IsRecord records.old.list place r × (r.id ≡ id) × (r.place ≡ On number bound) }
+    requires own { (r : Record) × (bound : Bool) × IsRecord records.old.list position r × (r.id ≡ id)
+        × (r.placement ≡ On number bound) }
     ensures did { (last : ℕ) → BeginsRemoval R.Raise id result (system cpus.old records.old.list last)
         (system cpus.new records.new.list last) }
     ensures holds { (last : ℕ) → Holds (system cpus.old records.old.list last) → Holds (system cpus.new records.new.list last) }
@@ -42,7 +43,7 @@ pub(crate) fn begin_on<R: Raise>(
     cpus.law();
     match found {
         Removal::Done(receipt) => {
-            records.remove(place);
+            records.remove(position);
             Ok(SystemRemoval::Done(receipt))
         }
         Removal::Kept(kept) => Ok(SystemRemoval::Kept(u64::from(kept))),
@@ -53,12 +54,13 @@ pub(crate) fn begin_on<R: Raise>(
 pub(crate) fn poll_on<R: Raise>(
     cpus: &mut Cpus<R>,
     records: &mut Records,
-    place: usize,
+    position: usize,
     id: CyclicId,
     number: u32,
 ) -> Result<Option<Receipt>, Refusal>
     requires holds { (last : ℕ) × Holds (system cpus.old records.old.list last) }
-    requires own { (r : Record) × (bound : Bool) × IsRecord records.old.list place r × (r.id ≡ id) × (r.place ≡ On number bound) }
+    requires own { (r : Record) × (bound : Bool) × IsRecord records.old.list position r × (r.id ≡ id)
+        × (r.placement ≡ On number bound) }
     ensures did { (last : ℕ) → PollsRemoval R.Raise id result (system cpus.old records.old.list last)
         (system cpus.new records.new.list last) }
     ensures holds { (last : ℕ) → Holds (system cpus.old records.old.list last) → Holds (system cpus.new records.new.list last) }
@@ -73,6 +75,6 @@ pub(crate) fn poll_on<R: Raise>(
     let Some(receipt) = answer else {
         return Ok(None);
     };
-    records.remove(place);
+    records.remove(position);
     Ok(Some(receipt))
 }

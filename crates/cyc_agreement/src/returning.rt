@@ -1,6 +1,7 @@
 //! A CPU takes part again, with its components.
 
 ghost use Rattle.std.specs.Prelude.{◌≡◌, ◌<◌, ◌≤◌, ℕ, [], ◌∷◌, Err, length, filter, map, slice_set, true};
+ghost use Rattle.cyc_types.specs.Limits.{most_cpus};
 ghost use Rattle.cyc_types.specs.Series.{never};
 ghost use Rattle.cyc_types.specs.Reasons.{bad_now};
 ghost use Rattle.cyc_types.specs.Counting.{no_counts};
@@ -20,13 +21,13 @@ use crate::finding::is_leaving;
 use cyc_places::{Placement, Record, Records};
 use cyc_types::{Moment, Raise, Refusal, When};
 
-/// Whether the cyclic at this place is omnipresent, and its removal is not open.
-fn is_staying<R: Raise>(cpus: &Cpus<R>, records: &Records, place: usize) -> bool
-    requires { place < length records.now.list }
-    ensures { (r : TheRecord) → IsRecord records.now.list place r → result ≡ is_staying_of cpus.now r }
+/// Whether the cyclic at this position is omnipresent, and its removal is not open.
+fn is_staying<R: Raise>(cpus: &Cpus<R>, records: &Records, position: usize) -> bool
+    requires { position < length records.now.list }
+    ensures { (r : TheRecord) → IsRecord records.now.list position r → result ≡ is_staying_of cpus.now r }
 {
-    let record = records.at(place);
-    record.place.is_everywhere() && !is_leaving(cpus, record.id)
+    let record = records.at(position);
+    record.placement.is_everywhere() && !is_leaving(cpus, record.id)
 }
 
 /// How many omnipresent cyclics there are whose removal is not open.
@@ -34,45 +35,45 @@ fn count_staying<R: Raise>(cpus: &Cpus<R>, records: &Records) -> usize
     ensures { result ≡ length (filter (is_staying_of cpus.now) records.now.list) }
 {
     let mut count = 0;
-    for place in 0..records.len() {
-        if is_staying(cpus, records, place) {
+    for position in 0..records.len() {
+        if is_staying(cpus, records, position) {
             count += 1;
         }
     }
     count
 }
 
-/// The omnipresent cyclic at this place comes back to a CPU that has an index for it, with the counts that it left there.
+/// The omnipresent cyclic at this position comes back to a CPU that has an index for it, with the counts that it left there.
 fn bring_back<R: Raise>(
     cpus: &mut Cpus<R>,
     records: &mut Records,
     number: u32,
-    place: usize,
+    position: usize,
     now: Moment,
 )
     requires now { now < never }
     requires number { number < length cpus.old.cpus }
-    requires few { length cpus.old.cpus ≤ 16 }
-    requires place { place < length records.old.list }
-    requires everywhere { (r : TheRecord) → IsRecord records.old.list place r → is_everywhere r.place ≡ true }
-    requires fits { (r : TheRecord) → IsRecord records.old.list place r
+    requires few { length cpus.old.cpus ≤ most_cpus }
+    requires position { position < length records.old.list }
+    requires everywhere { (r : TheRecord) → IsRecord records.old.list position r → is_everywhere r.placement ≡ true }
+    requires fits { (r : TheRecord) → IsRecord records.old.list position r
         → OfCpu number (MayPlace r.id (ended_on number r)) cpus.old }
-    ensures did { (r : TheRecord) → IsRecord records.old.list place r → Works R.Raise
-        (return_at number now r.id r.level (ended_on number r) r.place) cpus.old cpus.new }
-    ensures list { (r : TheRecord) → IsRecord records.old.list place r
-        → records.new.list ≡ slice_set records.old.list place (with_ended number no_counts r) }
+    ensures did { (r : TheRecord) → IsRecord records.old.list position r → Works R.Raise
+        (return_at number now r.id r.level (ended_on number r) r.placement) cpus.old cpus.new }
+    ensures list { (r : TheRecord) → IsRecord records.old.list position r
+        → records.new.list ≡ slice_set records.old.list position (with_ended number no_counts r) }
 {
     let Record {
         id,
         level,
-        place: there,
+        placement: there,
         ended: _,
-    } = *records.at(place);
+    } = *records.at(position);
     let Placement::Everywhere { when, skew } = there else {
         unreachable!()
     };
     let When { start, interval } = when;
-    let counts = records.take_ended(place, number as usize);
+    let counts = records.take_ended(position, number as usize);
     let first = component_first(number, start, interval, skew, now);
     cpus.cpu_mut(number)
         .place(id, level, interval, first, counts);
@@ -82,7 +83,7 @@ fn bring_back<R: Raise>(
 fn bring_all_back<R: Raise>(cpus: &mut Cpus<R>, records: &mut Records, number: u32, now: Moment)
     requires now { now < never }
     requires number { number < length cpus.old.cpus }
-    requires few { length cpus.old.cpus ≤ 16 }
+    requires few { length cpus.old.cpus ≤ most_cpus }
     requires rising { HasRisingIds records.old.list }
     requires counts { HaveCounts records.old.list }
     requires empty { OfCpu number (λ cpu. cpu.cyclics ≡ []) cpus.old }
@@ -92,9 +93,9 @@ fn bring_all_back<R: Raise>(cpus: &mut Cpus<R>, records: &mut Records, number: u
     ensures did { Works R.Raise (returns number now (filter (is_staying_of cpus.old) records.old.list)) cpus.old cpus.new }
     ensures list { records.new.list ≡ map (after_return number cpus.old) records.old.list }
 {
-    for place in 0..records.len() {
-        if is_staying(cpus, records, place) {
-            bring_back(cpus, records, number, place, now);
+    for position in 0..records.len() {
+        if is_staying(cpus, records, position) {
+            bring_back(cpus, records, number, position, now);
         }
     }
 }

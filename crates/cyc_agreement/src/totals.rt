@@ -1,6 +1,7 @@
 //! The counts of a cyclic over all CPUs and all stays.
 
 ghost use Rattle.std.specs.Prelude.{◌≡◌, ◌<◌, ◌≤◌, ◌*◌, ◌^◌, ℕ, List, map, length, sum_by};
+ghost use Rattle.cyc_types.specs.Limits.{most_cpus};
 ghost use Rattle.cyc_agreement.specs.Cpus.{Works};
 ghost use Rattle.cyc_places.specs.declared.record.Record.{Record};
 ghost use Rattle.cyc_agreement.specs.Holding.{Holds};
@@ -29,8 +30,8 @@ pub(crate) fn ask_each<R: Raise>(cpus: &mut Cpus<R>, id: CyclicId) -> SystemTota
         × Works R.Raise (map (asked id) way) cpus.old cpus.new × GoingOn way result }
     ensures holds { (records : List Record) (last : ℕ) → Holds (system cpus.old records last)
         → Holds (system cpus.new records last) }
-    ensures expired { result.expired ≤ 16 * 2 ^ 64 }
-    ensures lost { result.lost ≤ 16 * 2 ^ 64 }
+    ensures expired { result.expired ≤ most_cpus * 2 ^ 64 }
+    ensures lost { result.lost ≤ most_cpus * 2 ^ 64 }
 {
     let mut sum = SystemTotals {
         expired: 0,
@@ -61,8 +62,8 @@ pub fn system_totals<R: Raise>(
     ensures holds { (last : ℕ) → Holds (system cpus.old records.now.list last) → Holds (system cpus.new records.now.list last) }
 {
     records.law();
-    let place = records.find(id)?;
-    let record = records.at(place);
+    let position = records.find(id)?;
+    let record = records.at(position);
     let going_on = ask_each(cpus, id);
     Some(SystemTotals {
         expired: record.ended_sent() + going_on.expired,

@@ -1,6 +1,7 @@
 //! The counts of a cyclic whose record says where it is.
 
 ghost use Rattle.std.specs.Prelude.{◌≡◌, ◌≤◌, ◌*◌, ◌^◌, ℕ, List, Bool, map, true};
+ghost use Rattle.cyc_types.specs.Limits.{most_cpus};
 ghost use Rattle.cyc_places.specs.declared.record.Placement.TheVariants.{On};
 ghost use Rattle.cyc_places.specs.declared.record.Record.{Record};
 ghost use Rattle.cyc_agreement.specs.Cpus.{Works};
@@ -23,8 +24,8 @@ fn ask_on<R: Raise>(cpus: &mut Cpus<R>, id: CyclicId, number: u32) -> SystemTota
         × Works R.Raise (map (asked id) way) cpus.old cpus.new × GoingOn way result }
     ensures holds { (records : List Record) (last : ℕ) → Holds (system cpus.old records last)
         → Holds (system cpus.new records last) }
-    ensures expired { result.expired ≤ 16 * 2 ^ 64 }
-    ensures lost { result.lost ≤ 16 * 2 ^ 64 }
+    ensures expired { result.expired ≤ most_cpus * 2 ^ 64 }
+    ensures lost { result.lost ≤ most_cpus * 2 ^ 64 }
 {
     let Some(part) = cpus.cpu_mut(number).totals(id) else {
         unreachable!()
@@ -36,18 +37,18 @@ fn ask_on<R: Raise>(cpus: &mut Cpus<R>, id: CyclicId, number: u32) -> SystemTota
     }
 }
 
-/// The counts of the stays that go on of a cyclic with this place.
-fn ask_at<R: Raise>(cpus: &mut Cpus<R>, id: CyclicId, place: Placement) -> SystemTotals
-    requires home { (n : ℕ) (bound : Bool) → place ≡ On n bound
+/// The counts of the stays that go on of a cyclic with this placement.
+fn ask_at<R: Raise>(cpus: &mut Cpus<R>, id: CyclicId, placement: Placement) -> SystemTotals
+    requires home { (n : ℕ) (bound : Bool) → placement ≡ On n bound
         → (has n id cpus.old ≡ true) × ((m : ℕ) → has m id cpus.old ≡ true → m ≡ n) }
     ensures did { (way : List Counted) × (map (λ a. a.cpu) way ≡ cpus_with id cpus.old)
         × Works R.Raise (map (asked id) way) cpus.old cpus.new × GoingOn way result }
     ensures holds { (records : List Record) (last : ℕ) → Holds (system cpus.old records last)
         → Holds (system cpus.new records last) }
-    ensures expired { result.expired ≤ 16 * 2 ^ 64 }
-    ensures lost { result.lost ≤ 16 * 2 ^ 64 }
+    ensures expired { result.expired ≤ most_cpus * 2 ^ 64 }
+    ensures lost { result.lost ≤ most_cpus * 2 ^ 64 }
 {
-    match place {
+    match placement {
         Placement::On { cpu, bound: _ } => ask_on(cpus, id, cpu),
         Placement::Everywhere { when: _, skew: _ } => ask_each(cpus, id),
     }
@@ -66,9 +67,9 @@ pub fn agreed_totals<R: Raise>(
     ensures holds { (last : ℕ) → Holds (system cpus.old records.now.list last) → Holds (system cpus.new records.now.list last) }
 {
     records.law();
-    let place = records.find(id)?;
-    let record = records.at(place);
-    let going_on = ask_at(cpus, id, record.place);
+    let position = records.find(id)?;
+    let record = records.at(position);
+    let going_on = ask_at(cpus, id, record.placement);
     Some(SystemTotals {
         expired: record.ended_sent() + going_on.expired,
         lost: record.ended_lost() + going_on.lost,

@@ -35,10 +35,10 @@ fn go<R: Raise>(
     records: &mut Records,
     source: u32,
     id: CyclicId,
-    place: usize,
+    position: usize,
 ) -> Turn
     requires agrees { (last : ℕ) × Agrees (system_of cpus.old records.old last) }
-    requires record { (r : Record) × IsRecord records.old.list place r × (r.id ≡ id) × (r.place ≡ On source false) }
+    requires record { (r : Record) × IsRecord records.old.list position r × (r.id ≡ id) × (r.placement ≡ On source false) }
     requires still { removal_on source cpus.old ≡ None }
     requires other { (d : ℕ) × (destination (Some source) cpus.old ≡ Some d) }
     ensures did { (last : ℕ) → TakesTurn R.Raise source id result (system_of cpus.old records.old last)
@@ -56,7 +56,7 @@ fn go<R: Raise>(
                 cpu: target,
                 bound: false,
             };
-            records.set_place(place, there);
+            records.set_placement(position, there);
             Turn::Moves
         }
         Err(why) => match why {
@@ -82,15 +82,15 @@ fn turn_of<R: Raise>(
     ensures agrees { (last : ℕ) → Agrees (system_of cpus.old records.old last) → Agrees (system_of cpus.new records.new last) }
 {
     records.law();
-    let Some(place) = records.find(id) else {
+    let Some(position) = records.find(id) else {
         unreachable!()
     };
-    match records.at(place).place {
+    match records.at(position).placement {
         Placement::On { cpu: _, bound } => {
             if bound {
                 return Some(Turn::StaysBound);
             }
-            Some(go(cpus, records, source, id, place))
+            Some(go(cpus, records, source, id, position))
         }
         Placement::Everywhere { when: _, skew: _ } => None,
     }

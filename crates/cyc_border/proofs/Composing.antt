@@ -8,32 +8,30 @@ use Rattle.cyc_types.specs.Firing.{FiringCall}
 use Rattle.cyc_types.specs.declared.level.Level.{Level}
 use Rattle.cyc_types.specs.declared.level.Level.TheVariants.{Low, Lock, High}
 use Rattle.cyc_types.proofs.Runs.{lost_on}
-use Rattle.cyc_types.specs.Expirations.{Expiration, after, all_after}
+use Rattle.cyc_types.specs.Expirations.{Expiration, after_expirations, all_after}
 use Rattle.cyc_types.specs.Timers.{Timer}
+use Rattle.cyc_types.proofs.Firings.{after_id}
 use Rattle.cyc_timers.specs.Rows.{Cyclic, timers}
-use Rattle.cyc_timers.specs.Acts.{Sides, ids_at, is_at, is_of, same_level, timer_of, way_losses, lost_after}
-use Rattle.cyc_timers.specs.Made.{Makes}
+use Rattle.cyc_timers.specs.Acts.{Sides, ids_at, is_at, is_of_level, same_level, timer_of, way_losses, lost_after, acting}
+use Rattle.cyc_timers.specs.Made.{Makes, fire_state}
 use Rattle.cyc_timers.proofs.Acting.{acts_more, losses_on}
 
-after_level : (now : ℕ) (made : List Expiration) (t : Timer) → (after now made t).level ≡ t.level
-unfolding after
+after_level : (now : ℕ) (made : List Expiration) (t : Timer) → (after_expirations now made t).level ≡ t.level
+unfolding after_expirations
 after_level now made t = refl
-
-after_id : (now : ℕ) (made : List Expiration) (t : Timer) → (after now made t).id ≡ t.id
-unfolding after
-after_id now made t = refl
 
 -- a cyclic is found at its level all through a fire
 found : (l : Level) (id now : ℕ) (made : List Expiration) (ts : List Timer)
-    → is_of l (timer_of id (map (after now made) ts)) ≡ is_of l (timer_of id ts)
+    → is_of_level l (timer_of id (map (after_expirations now made) ts)) ≡ is_of_level l (timer_of id ts)
 found l id now made [] = refl
 found l id now made (t ∷ ts) =
-    ap (λ i. is_of l (cond (i == id) (Some (after now made t)) (timer_of id (map (after now made) ts)))) (after_id now made t)
+    ap (λ i. is_of_level l (cond (i == id) (Some (after_expirations now made t)) (timer_of id (map (after_expirations now made)
+    ts)))) (after_id now made t)
     ∙ here (t.id == id) (found l id now made ts)
   where
-    here : (b : Bool) → is_of l (timer_of id (map (after now made) ts)) ≡ is_of l (timer_of id ts) →
-        is_of l (cond b (Some (after now made t)) (timer_of id (map (after now made) ts)))
-        ≡ is_of l (cond b (Some t) (timer_of id ts))
+    here : (b : Bool) → is_of_level l (timer_of id (map (after_expirations now made) ts)) ≡ is_of_level l (timer_of id ts) →
+        is_of_level l (cond b (Some (after_expirations now made t)) (timer_of id (map (after_expirations now made) ts)))
+        ≡ is_of_level l (cond b (Some t) (timer_of id ts))
     here true rest = ap (λ x. same_level l x) (after_level now made t)
     here false rest = rest
 
@@ -98,9 +96,12 @@ lost_each a b c d (x ∷ xs) (y ∷ ys) ids lost =
 
 module _ {C R : Type 0} (called : C → ℕ → C → Type 0) (count : C → ℕ → ℕ) (firing : Raise R) where
   pub makes_more : (now : ℕ) (made more : List Expiration) (cs cs' cs'' : List Cyclic) (s m t : Sides C R) (lost lost' : ℕ) →
-      all_after now (made ++ more) (timers cs) ≡ timers cs'' → Makes called count firing now made cs cs' s m lost
-      → Makes called count firing now more cs' cs'' m t lost' →
-      Makes called count firing now (made ++ more) cs cs'' s t (lost + lost')
+      all_after now (made ++ more) (timers cs) ≡ timers cs'' → Makes (acting called count firing) now made (fire_state cs s)
+      (fire_state cs' m) lost
+      → Makes (acting called count firing) now more (fire_state cs' m)
+      (fire_state cs'' t) lost' →
+      Makes (acting called count firing) now (made ++ more) (fire_state cs s)
+      (fire_state cs'' t) (lost + lost')
   makes_more now made more cs cs' cs'' s m t lost lost' whole a b =
       let on = λ (l : Level). ids_on l now (timers cs) (timers cs') made more a.timers_are in
       let (acts, lock, low) = acts_more called count firing _ _ _ _ _ _ _ _ _ s m t a.acts b.acts (on High) (on Lock) (on Low)

@@ -11,7 +11,7 @@ use Rattle.std.proofs.lemmas.Bool.Decides.{nat_tests}
 use Rattle.std.proofs.lemmas.List.{get_or_default}
 use Rattle.cyc_types.specs.Series.{due, next, never, late}
 use Rattle.cyc_types.specs.Expirations.{Expiration, is_before, expirations, next_of}
-use Rattle.cyc_types.specs.Timers.{Timer, HasDistinctIds, IsSound}
+use Rattle.cyc_types.specs.Timers.{Timer, HasDistinctIds, IsSoundTimer}
 use Rattle.cyc_types.proofs.Order.{before_total, before_trans}
 use Rattle.cyc_types.proofs.Dues.{due_step, due_later, next_later}
 use Rattle.cyc_types.proofs.Firings.{IsLeastAt, Expires, Firing, fire_step, expirations_none, expirations_first}
@@ -73,7 +73,7 @@ skip_due : (e t now : ℕ) → e ≤ now → e + t + late < now → now < never 
 skip_due e t now h far last some = grind (arith, nat_tests)
 
 -- an expiration at a moment that is not skipped, or the one expiration of a cyclic that is late
-pub expires : (now : ℕ) (t : Timer) → t.moment ≤ now → now < never → IsSound t → (u : Timer) × Expires now t u
+pub expires : (now : ℕ) (t : Timer) → t.moment ≤ now → now < never → IsSoundTimer t → (u : Timer) × Expires now t u
     × (u.moment ≤ never)
 expires now t reached last sound = elim (cases_lt (t.moment + t.interval + late) now) [
   | inl far ↦
@@ -170,9 +170,9 @@ still_first now later (c ∷ cs) x xs after left =
 
 -- where a fire stands, it makes what is left of its list
 pub goes_through : (now : ℕ) (xs rest made done : List Expiration) (ts base cur : List Timer) → now < never → HasDistinctIds ts
-    → HasDistinctIds base → All IsSound cur →
+    → HasDistinctIds base → All IsSoundTimer cur →
     Firing now made ts cur → Firing now done base cur → expirations now cur ≡ xs ++ rest →
-    (end : List Timer) × Firing now (made ++ xs) ts end × Firing now (done ++ xs) base end × All IsSound end
+    (end : List Timer) × Firing now (made ++ xs) ts end × Firing now (done ++ xs) base end × All IsSoundTimer end
 unfolding first_or
 goes_through now [] rest made done ts base cur last apart other sound f g left = (
   cur,
@@ -198,7 +198,7 @@ goes_through now (x ∷ xs) rest made done ts base (c ∷ cs) last apart other s
     let g' = subst (λ p. Firing now (done ++ p ∷ []) base (set (c ∷ cs) i u)) same
     (fire_step now done base (c ∷ cs) i t u g other low is first e) in
     let s = sound i c low in
-    let sound' = All-set IsSound (c ∷ cs) i u
+    let sound' = All-set IsSoundTimer (c ∷ cs) i u
     (record {
       moment = few;
       some = subst (λ n. 0 < n) (sym e.same_interval) s.some;

@@ -10,19 +10,20 @@ use Rattle.cyc_types.specs.declared.level.Level.TheVariants.{High}
 use Rattle.cyc_types.specs.declared.refusal.Refusal.{Refusal}
 use Rattle.cyc_types.specs.declared.refusal.Refusal.TheVariants as why
 use Rattle.cyc_types.specs.Expirations.{Expiration, expirations, all_after}
-use Rattle.cyc_types.specs.Timers.{Timer, HasDistinctIds, IsSound}
+use Rattle.cyc_types.specs.Timers.{Timer, HasDistinctIds, IsSoundTimer}
 use Rattle.cyc_types.proofs.Firings.{fire_start}
+use Rattle.cyc_types.proofs.Facts.{same_some}
 use Rattle.cyc_timers.specs.Rows.{timers}
-use Rattle.cyc_timers.specs.Acts.{ids_at, is_at, is_of, same_level, timer_of}
+use Rattle.cyc_timers.specs.Acts.{ids_at, is_at, is_of_level, same_level, timer_of}
 use Rattle.cyc_timers.specs.Made.{Stops, WhyStopped}
 use Rattle.cyc_timers.specs.declared.fire.Fired.{Fired}
 use Rattle.cyc_timers.specs.declared.fire.FireRefused.{FireRefused}
 use Rattle.cyc_cpu.specs.Cpu.{CpuView}
 use Rattle.cyc_cpu.specs.Calls.{WhyNoFire}
 use Rattle.cyc_cpu.proofs.Calling.{refused_not}
-use Rattle.cyc_border.specs.Border.{Fires, grant, stopped_at}
+use Rattle.cyc_border.specs.Border.{FiresPart, grant, stopped_at}
 use Rattle.cyc_border.specs.Granted.{granted_called, GrantedRefuses}
-use Rattle.cyc_border.specs.Parts.{paused, PartCall, MakesPart, IsRest, Counts, expired_of}
+use Rattle.cyc_border.specs.Parts.{paused, PartCall, MakesPart, IsRest, Counts, expired_in_part}
 use Rattle.cyc_border.specs.declared.granted.Granted.{Granted}
 use Rattle.cyc_border.specs.declared.granted.Granted.TheVariants.{One}
 use Rattle.cyc_border.proofs.HandingOut.{handed_out as handed_is}
@@ -42,7 +43,7 @@ record Comes (now most id : ℕ) (ts : List Timer) : Type 0 where
   pub few : timer.expired < most
 
 -- what is left of a list where its front was made
-left_of : (now : ℕ) (ts cur : List Timer) (made rest : List Expiration) → now < never → HasDistinctIds ts → All IsSound ts
+left_of : (now : ℕ) (ts cur : List Timer) (made rest : List Expiration) → now < never → HasDistinctIds ts → All IsSoundTimer ts
     → expirations now ts ≡ made ++ rest → cur ≡ all_after now made ts → expirations now cur ≡ rest
 left_of now ts cur made rest soon distinct sound listed is =
     let start = fire_start now ts in
@@ -50,13 +51,10 @@ left_of now ts cur made rest soon distinct sound listed is =
     let same : end ≡ cur = g.is ∙ sym is in
     append_cancel_left made (expirations now cur) rest (ap (λ x. made ++ expirations now x) (sym same) ∙ sym g.whole ∙ listed)
 
-same_some : {A : Type 0} {x y : A} → Some x ≡ Some y → x ≡ y
-same_some {A = A} {x = x} {y = y} e = ap (λ (o : Option A). elim o [ None ↦ x | Some z ↦ z ]) e
-
 module _ {R : Type 0} (firing : Raise R) where
   -- a fire that stops in front of a high one hands out what comes next
   hands_out : (now id : ℕ) (stop : Result Fired FireRefused) (high high' : Option ℕ) (u v : CpuView R) → now < never
-      → HasDistinctIds (timers u.cyclics) → All IsSound (timers u.cyclics) → Fires firing now stop high u high' v
+      → HasDistinctIds (timers u.cyclics) → All IsSoundTimer (timers u.cyclics) → FiresPart firing now stop high u high' v
       → stopped_at stop ≡ Some id → Comes now v.most id (timers v.cyclics)
   hands_out now id (Ok r) high high' u v soon distinct sound fires is = absurd (none_some is)
     where
@@ -73,7 +71,7 @@ module _ {R : Type 0} (firing : Raise R) where
         listed = left_of now (timers u.cyclics) (timers v.cyclics) st.made (st.last ∷ st.rest) soon distinct sound st.listed
             st.makes.timers_are;
         named = sym (found_id st.last.id (timers v.cyclics) t found) ∙ sym named;
-        high = ap (is_of High) found ∙ ap (same_level High) high_is;
+        high = ap (is_of_level High) found ∙ ap (same_level High) high_is;
         timer = t;
         found = found;
         few = subst (λ n. t.expired < n) (sym same.most) few;
@@ -106,7 +104,7 @@ module _ {R : Type 0} (firing : Raise R) where
   -- the front of a list in which it comes first
   counts_front : (now most id : ℕ) (answer : Result Fired FireRefused) (ts : List Timer) (q : Expiration)
       (xs rest : List Expiration) (left : Granted) → Comes now most id ts → expirations now ts ≡ (q ∷ xs) ++ rest
-      → expired_of answer ≡ length (q ∷ xs)
+      → expired_in_part answer ≡ length (q ∷ xs)
       → FoldsTo (at_level granted_called High) (grant (Some id)) (ids_at High ts (q ∷ xs)) left → Counts now answer id ts
   counts_front now most id answer ts q xs rest left comes listed expired way =
       let same : comes.first ≡ q = first_is ts comes.first q xs comes.rest rest (sym comes.listed ∙ listed) in
@@ -124,7 +122,8 @@ module _ {R : Type 0} (firing : Raise R) where
 
   -- a fire that is made counts it
   counts : (now most id : ℕ) (answer : Result Fired FireRefused) (high : Option ℕ) (w x : CpuView R) → now < never
-      → w.suspended ≡ false → w.most ≡ most → Comes now most id (timers w.cyclics) → Fires firing now answer (Some id) w high x
+      → w.suspended ≡ false → w.most ≡ most → Comes now most id (timers w.cyclics)
+      → FiresPart firing now answer (Some id) w high x
       → Counts now answer id (timers w.cyclics)
   counts now most id (Ok r) high w x soon is_awake most_is comes (left, (may, same, expired, next, makes), out) =
       let ts = timers w.cyclics in
@@ -165,10 +164,11 @@ module _ {R : Type 0} (firing : Raise R) where
       }
 
   pub counted : (now later id : ℕ) (stop answer : Result Fired FireRefused) (calls : List PartCall) (high high' high'' : Option ℕ)
-      (u v w x : CpuView R) → later < never → now ≤ later → HasDistinctIds (timers u.cyclics) → All IsSound (timers u.cyclics)
-      → Fires firing now stop high u (Some id) v → stopped_at stop ≡ Some id
+      (u v w x : CpuView R) → later < never → now ≤ later → HasDistinctIds (timers u.cyclics)
+      → All IsSoundTimer (timers u.cyclics)
+      → FiresPart firing now stop high u (Some id) v → stopped_at stop ≡ Some id
       → All IsRest calls → FoldsTo (MakesPart firing) (paused (Some id) v) calls (paused high' w)
-      → Fires firing later answer high' w high'' x → w.suspended ≡ false
+      → FiresPart firing later answer high' w high'' x → w.suspended ≡ false
       → (high' ≡ Some id) × Counts later answer id (timers w.cyclics)
   counted now later id stop answer calls high high' high'' u v w x soon after distinct sound first stopped rests way last awake =
       let (high_is, cpu) = rests_keep firing calls (paused (Some id) v) (paused high' w) rests way in
@@ -178,5 +178,5 @@ module _ {R : Type 0} (firing : Raise R) where
         high_is,
         counts later v.most id answer high'' w x soon awake (ap (λ (y : CpuView R). y.most) cpu)
             (subst (λ ts. Comes later v.most id ts) same comes)
-            (subst (λ h. Fires firing later answer h w high'' x) high_is last),
+            (subst (λ h. FiresPart firing later answer h w high'' x) high_is last),
       )

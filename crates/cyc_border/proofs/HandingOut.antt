@@ -9,7 +9,7 @@ use Rattle.cyc_timers.specs.Rows.{timers}
 use Rattle.cyc_timers.specs.declared.fire.Fired.{Fired}
 use Rattle.cyc_timers.specs.declared.fire.FireRefused.{FireRefused}
 use Rattle.cyc_cpu.specs.Cpu.{CpuView}
-use Rattle.cyc_border.specs.Border.{Fires, grant}
+use Rattle.cyc_border.specs.Border.{FiresPart, grant}
 use Rattle.cyc_border.specs.Granted.{granted_called}
 use Rattle.cyc_border.specs.Parts.{IsHandedOut, IsPart}
 use Rattle.cyc_border.specs.declared.granted.Granted.{Granted}
@@ -34,7 +34,7 @@ handed_out (Some x) (id ∷ (j ∷ ids)) left (m, (e, f), (n, (g, h), rest)) = a
 
 pub parts : {R : Type 0} (firing : Raise R) (now : ℕ)
     (answer : Result Fired FireRefused)
-    (high high' : Option ℕ) (v w : CpuView R) → Fires firing now answer high v high' w → IsPart now answer high v
+    (high high' : Option ℕ) (v w : CpuView R) → FiresPart firing now answer high v high' w → IsPart now answer high v
 parts firing now (Ok r) high high' v w (left, (soon, same, expired, next, makes), stopped) =
     (expired, handed_out high _ left makes.acts.called_in_order)
 parts firing now (Err e) high high' v w (left, inl (never, is, kept), stopped) =

@@ -10,7 +10,7 @@ use Rattle.cyc_timers.specs.declared.fire.Fired.{Fired}
 use Rattle.cyc_timers.specs.declared.fire.FireRefused.{FireRefused}
 use Rattle.cyc_cpu.specs.Cpu.{CpuView, Running}
 use Rattle.cyc_cpu.specs.Calls.{WhyNoFire}
-use Rattle.cyc_border.specs.Border.{Fires}
+use Rattle.cyc_border.specs.Border.{FiresPart}
 use Rattle.cyc_border.specs.Parts.{Paused, PartCall, Part, Suspends, Resumes, MakesPart, IsRest, asleep}
 use Rattle.cyc_border.specs.declared.granted.Granted.{Granted}
 
@@ -26,7 +26,7 @@ module _ {R : Type 0} (firing : Raise R) where
 
   -- a fire of a suspended CPU is refused so
   pub suspended_is : (now : ℕ) (answer : Result Fired FireRefused) (high high' : Option ℕ) (v w : CpuView R)
-      → Fires firing now answer high v high' w → v.suspended ≡ true → answer ≡ asleep
+      → FiresPart firing now answer high v high' w → v.suspended ≡ true → answer ≡ asleep
   suspended_is now (Ok r) high high' v w (left, (may, same, expired, next, makes), out) is =
       absurd (false≢true (sym may.awake ∙ is))
   suspended_is now (Err e) high high' v w (left, inl (none, zeros, kept), out) is =
@@ -34,13 +34,13 @@ module _ {R : Type 0} (firing : Raise R) where
   suspended_is now (Err e) high high' v w (left, inr (may, same, st), out) is = absurd (false≢true (sym may.awake ∙ is))
 
   -- and no other
-  pub asleep_is : (now : ℕ) (high high' : Option ℕ) (v w : CpuView R) → Fires firing now asleep high v high' w
+  pub asleep_is : (now : ℕ) (high high' : Option ℕ) (v w : CpuView R) → FiresPart firing now asleep high v high' w
       → v.suspended ≡ true
   asleep_is now high high' v w (left, inl (none, zeros, kept), out) = none
   asleep_is now high high' v w (left, inr (may, same, st), out) = let (t, found, none) = st.stops in absurd none
 
   -- it leaves all as it was
-  pub asleep_keeps : (now : ℕ) (high high' : Option ℕ) (v w : CpuView R) → Fires firing now asleep high v high' w
+  pub asleep_keeps : (now : ℕ) (high high' : Option ℕ) (v w : CpuView R) → FiresPart firing now asleep high v high' w
       → (w ≡ v) × (high' ≡ high)
   asleep_keeps now high high' v w (left, inl (none, zeros, kept), out) = (ap (λ (s : Running Granted R). s.cpu) kept, out)
   asleep_keeps now high high' v w (left, inr (may, same, st), out) = let (t, found, none) = st.stops in absurd none
@@ -50,7 +50,7 @@ module _ {R : Type 0} (firing : Raise R) where
       → (t.high ≡ s.high) × (t.cpu ≡ marked t.cpu.suspended s.cpu)
   rest_keeps (Part now answer) s t is made =
       let (cpu, high) = asleep_keeps now s.high t.high s.cpu t.cpu
-      (subst (λ a. Fires firing now a s.high s.cpu t.high t.cpu) is made) in
+      (subst (λ a. FiresPart firing now a s.high s.cpu t.high t.cpu) is made) in
       (high, cpu ∙ ap (λ b. marked b s.cpu) (ap (λ (v : CpuView R). v.suspended) (sym cpu)))
   rest_keeps Suspends s t is (made, high) =
       (high, made ∙ ap (λ b. marked b s.cpu) (ap (λ (v : CpuView R). v.suspended) (sym made)))

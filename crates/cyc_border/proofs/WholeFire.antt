@@ -15,12 +15,12 @@ use Rattle.cyc_types.specs.declared.level.Level.TheVariants.{High}
 use Rattle.cyc_types.specs.declared.refusal.Refusal.{Refusal}
 use Rattle.cyc_types.specs.declared.refusal.Refusal.TheVariants as why
 use Rattle.cyc_types.proofs.Runs.{times_on}
-use Rattle.cyc_types.specs.Expirations.{Expiration, expirations, after, all_after}
-use Rattle.cyc_types.specs.Timers.{Timer, HasDistinctIds, IsSound, earliest}
+use Rattle.cyc_types.specs.Expirations.{Expiration, expirations, after_expirations, all_after}
+use Rattle.cyc_types.specs.Timers.{Timer, HasDistinctIds, IsSoundTimer, earliest}
 use Rattle.cyc_types.proofs.Firings.{Firing, fire_start}
 use Rattle.cyc_timers.specs.Rows.{Cyclic, timers}
-use Rattle.cyc_timers.specs.Acts.{ids_at, is_at, is_of, same_level, timer_of, lost_after}
-use Rattle.cyc_timers.specs.Made.{Makes, Stops}
+use Rattle.cyc_timers.specs.Acts.{ids_at, is_at, is_of_level, same_level, timer_of, lost_after, acting}
+use Rattle.cyc_timers.specs.Made.{Makes, Stops, fire_state}
 use Rattle.cyc_timers.specs.declared.fire.Fired.{Fired}
 use Rattle.cyc_timers.specs.declared.fire.FireRefused.{FireRefused}
 use Rattle.cyc_timers.proofs.Making.{same_id}
@@ -29,7 +29,17 @@ use Rattle.cyc_cpu.specs.Calls.{MayFire, WhyNoFire}
 use Rattle.cyc_border.specs.Border.{grant, stopped_at, handed_after}
 use Rattle.cyc_border.specs.Granted.{granted_called, granted_count, GrantedRefuses}
 use Rattle.cyc_border.specs.Parts.{Paused, paused, PartCall, Part, Suspends, Resumes, MakesPart, IsRest, IsPaused, answers}
-use Rattle.cyc_border.specs.Parts.{asleep, awake, IsOneFire, IsHandedOut, expired_of, lost_of, handed_out, notes, noted}
+use Rattle.cyc_border.specs.Parts.{
+  asleep,
+  awake,
+  IsOneFire,
+  IsHandedOut,
+  expired_in_part,
+  lost_in_part,
+  handed_out,
+  notes,
+  noted_id,
+}
 use Rattle.cyc_border.specs.declared.granted.Granted.{Granted}
 use Rattle.cyc_border.specs.declared.granted.Granted.TheVariants.{One}
 use Rattle.cyc_border.proofs.HandingOut.{handed_out as handed_is}
@@ -116,7 +126,7 @@ distinct_after : (now : ℕ) (made : List Expiration) (ts cur : List Timer) → 
     → HasDistinctIds cur
 unfolding all_after
 distinct_after now made ts cur is distinct i j d low_i low_j e =
-    let long : length cur ≡ length ts = ap length is ∙ length-map ts (after now made) in
+    let long : length cur ≡ length ts = ap length is ∙ length-map ts (after_expirations now made) in
     distinct i j d (omega (arith, long, low_i)) (omega (arith, long, low_j))
     (sym (same_id now made ts cur i d is low_i) ∙ e ∙ same_id now made ts cur j d is low_j)
 
@@ -137,9 +147,10 @@ module _ {R : Type 0} (firing : Raise R) (now : ℕ) (soon : now < never) where
   -- a part, as handlers that write down would have it
   as_noted : (high : Option ℕ) (xs : List Expiration) (ids : List ℕ) (x y : CpuView R) (left : Granted) (lost : ℕ)
       → ids_at High (timers x.cyclics) xs ≡ pending high →
-      Makes (at_level granted_called High) granted_count firing now xs x.cyclics y.cyclics (sides (grant high) x)
-      (sides left y) lost →
-      Makes (at_level notes High) noted firing now xs x.cyclics y.cyclics (sides ids x) (sides (ids ++ pending high) y) lost
+      Makes (acting (at_level granted_called High) granted_count firing) now xs (fire_state x.cyclics (sides (grant high) x))
+      (fire_state y.cyclics (sides left y)) lost →
+      Makes (acting (at_level notes High) noted_id firing) now xs (fire_state x.cyclics (sides ids x))
+      (fire_state y.cyclics (sides (ids ++ pending high) y)) lost
   as_noted high xs ids x y left lost is m = record {
     acts = record {
       lock_way = m.acts.lock_way;
@@ -161,12 +172,13 @@ module _ {R : Type 0} (firing : Raise R) (now : ℕ) (soon : now < never) where
   -- where a fire in parts stands: what it made so far, for whom it called, and what it lost
   record Stands (v : CpuView R) (made : List Expiration) (ids : List ℕ) (lost : ℕ) (s : Paused R) : Type 0 where
     pub fires : Firing now made (timers v.cyclics) (timers s.cpu.cyclics)
-    pub sound : All IsSound (timers s.cpu.cyclics)
+    pub sound : All IsSoundTimer (timers s.cpu.cyclics)
     pub same : SameCpu (marked s.cpu.suspended v) s.cpu
-    pub makes : Makes (at_level notes High) noted firing now made v.cyclics s.cpu.cyclics (sides [] v) (sides ids s.cpu) lost
+    pub makes : Makes (acting (at_level notes High) noted_id firing) now made (fire_state v.cyclics (sides [] v))
+        (fire_state s.cpu.cyclics (sides ids s.cpu)) lost
     pub next : ComesNext now s.high (timers s.cpu.cyclics)
 
-  at_start : (v : CpuView R) → All IsSound (timers v.cyclics) → Stands v [] [] 0 (paused None v)
+  at_start : (v : CpuView R) → All IsSoundTimer (timers v.cyclics) → Stands v [] [] 0 (paused None v)
   at_start v sound = record {
     fires = fire_start now (timers v.cyclics);
     sound = sound;
@@ -200,7 +212,8 @@ module _ {R : Type 0} (firing : Raise R) (now : ℕ) (soon : now < never) where
   goes_on : (v : CpuView R) (made xs rest : List Expiration) (ids more : List ℕ) (lost lost' : ℕ) (s t : Paused R)
       → HasDistinctIds (timers v.cyclics) → Stands v made ids lost s →
       expirations now (timers s.cpu.cyclics) ≡ xs ++ rest → SameCpu s.cpu t.cpu →
-      Makes (at_level notes High) noted firing now xs s.cpu.cyclics t.cpu.cyclics (sides ids s.cpu) (sides more t.cpu) lost' →
+      Makes (acting (at_level notes High) noted_id firing) now xs (fire_state s.cpu.cyclics (sides ids s.cpu))
+      (fire_state t.cpu.cyclics (sides more t.cpu)) lost' →
       (expirations now (timers t.cpu.cyclics) ≡ rest → ComesNext now t.high (timers t.cpu.cyclics)) →
       Stands v (made ++ xs) more (lost + lost') t × (expirations now (timers t.cpu.cyclics) ≡ rest)
   goes_on v made xs rest ids more lost lost' s t distinct at listed same m next =
@@ -215,9 +228,9 @@ module _ {R : Type 0} (firing : Raise R) (now : ℕ) (soon : now < never) where
       let f' = subst (λ x. Firing now (made ++ xs) (timers v.cyclics) x) is f in (
         record {
           fires = f';
-          sound = subst (λ x. All IsSound x) is sound;
+          sound = subst (λ x. All IsSoundTimer x) is sound;
           same = cpu_then v s.cpu t.cpu at.same same;
-          makes = makes_more (at_level notes High) noted firing now made xs v.cyclics s.cpu.cyclics t.cpu.cyclics (sides [] v)
+          makes = makes_more (at_level notes High) noted_id firing now made xs v.cyclics s.cpu.cyclics t.cpu.cyclics (sides [] v)
               (sides ids s.cpu) (sides more t.cpu) lost lost' (sym f'.is) at.makes m;
           next = next left;
         },
@@ -269,8 +282,9 @@ module _ {R : Type 0} (firing : Raise R) (now : ℕ) (soon : now < never) where
   abbrev Whole : CpuView R → CpuView R → ℕ → Fired → List ℕ → ℕ → Type 0
   Whole v w expired last ids lost = MayFire now (awake v) × SameCpu (awake v) w
       × (expired ≡ length (expirations now (timers v.cyclics))) × (last.next ≡ earliest (timers w.cyclics))
-      × Makes (at_level notes High) noted firing now (expirations now (timers v.cyclics)) v.cyclics w.cyclics (sides [] v)
-      (sides ids w) lost
+      × Makes (acting (at_level notes High) noted_id firing) now (expirations now (timers v.cyclics)) (fire_state v.cyclics (sides
+      [] v))
+      (fire_state w.cyclics (sides ids w)) lost
 
   -- after a call that makes nothing it stands where it stood
   rests : (call : PartCall) (v : CpuView R) (made : List Expiration) (ids : List ℕ) (lost : ℕ) (s t : Paused R)
@@ -297,8 +311,8 @@ module _ {R : Type 0} (firing : Raise R) (now : ℕ) (soon : now < never) where
   -- what the whole comes to, after these answers and a last one
   abbrev After : CpuView R → CpuView R → List Expiration → List (Result Fired FireRefused) → Fired → List ℕ → Option ℕ → ℕ
       → Type 0
-  After v w made parts last ids high lost = Whole v w (length made + (sum_by expired_of parts + last.expired)) last
-      (ids ++ (pending high ++ handed_out parts)) (lost + (sum_by lost_of parts + last.lost))
+  After v w made parts last ids high lost = Whole v w (length made + (sum_by expired_in_part parts + last.expired)) last
+      (ids ++ (pending high ++ handed_out parts)) (lost + (sum_by lost_in_part parts + last.lost))
 
   -- a part that stopped in front of a high cyclic, and what comes after it
   part : (v w : CpuView R) (answer : Result Fired FireRefused) (parts : List (Result Fired FireRefused)) (last : Fired)
@@ -322,7 +336,7 @@ module _ {R : Type 0} (firing : Raise R) (now : ℕ) (soon : now < never) where
       let calls = calls_front s.high ts st.made st.last st.rest st.at at.next st.listed st.makes.acts.called_in_order
       (subst (λ n. GrantedRefuses st.at n) (sym last_is) refuses) in
       let high_is : m.high ≡ Some id = stopped ∙ handed_is_stop s.high e id paused_at in
-      let is_high : is_at High (timers m.cpu.cyclics) st.last ≡ true = ap (is_of High) found ∙ ap (same_level High) high in
+      let is_high : is_at High (timers m.cpu.cyclics) st.last ≡ true = ap (is_of_level High) found ∙ ap (same_level High) high in
       let (at', left_is) = goes_on v made st.made (st.last ∷ st.rest) ids
       (ids ++ pending s.high) lost e.lost s m distinct at st.listed same
       (as_noted s.high st.made ids s.cpu m.cpu st.at e.lost calls st.makes)
@@ -334,32 +348,36 @@ module _ {R : Type 0} (firing : Raise R) (now : ℕ) (soon : now < never) where
       ≡ ids ++ (pending s.high ++ handed_out (Err e ∷ parts)) =
       append_assoc ids (pending s.high) (pending m.high ++ handed_out parts)
       ∙ ap (λ ys. ids ++ (pending s.high ++ ys)) (handed_first (Err e) parts m.high (high_is ∙ sym paused_at)) in
-      let sum_lost : sum_by lost_of (Err e ∷ parts) ≡ e.lost + sum_by lost_of parts = sum_by-cons lost_of (Err e) parts in
-      let sum_expired : sum_by expired_of (Err e ∷ parts) ≡ e.expired + sum_by expired_of parts =
-      sum_by-cons expired_of (Err e) parts in
-      let lost_are : (lost + e.lost) + (sum_by lost_of parts + last.lost) ≡ lost + (sum_by lost_of (Err e ∷ parts) + last.lost) =
+      let sum_lost : sum_by lost_in_part (Err e ∷ parts) ≡ e.lost + sum_by lost_in_part parts = sum_by-cons lost_in_part (Err
+      e) parts in
+      let sum_expired : sum_by expired_in_part (Err e ∷ parts) ≡ e.expired + sum_by expired_in_part parts =
+      sum_by-cons expired_in_part (Err e) parts in
+      let lost_are : (lost + e.lost) + (sum_by lost_in_part parts + last.lost) ≡ lost + (sum_by lost_in_part (Err e ∷ parts) +
+      last.lost) =
       omega (arith, sum_lost) in (
         a,
         b,
         omega (arith, c, both, count, sum_expired),
         d,
-        subst (λ n. Makes (at_level notes High) noted firing now (expirations now (timers v.cyclics)) v.cyclics w.cyclics
-            (sides [] v) (sides (ids ++ (pending s.high ++ handed_out (Err e ∷ parts))) w) n) lost_are
-            (subst (λ ns. Makes (at_level notes High) noted firing now (expirations now (timers v.cyclics)) v.cyclics w.cyclics
-            (sides [] v) (sides ns w) ((lost + e.lost) + (sum_by lost_of parts + last.lost))) ids_are makes),
+        subst (λ n. Makes (acting (at_level notes High) noted_id firing) now (expirations now (timers v.cyclics)) (fire_state
+            v.cyclics (sides [] v))
+            (fire_state w.cyclics (sides (ids ++ (pending s.high ++ handed_out (Err e ∷ parts))) w)) n) lost_are
+            (subst (λ ns. Makes (acting (at_level notes High) noted_id firing) now (expirations now (timers v.cyclics))
+            (fire_state v.cyclics (sides [] v))
+            (fire_state w.cyclics (sides ns w)) ((lost + e.lost) + (sum_by lost_in_part parts + last.lost))) ids_are makes),
       )
 
   -- a fire that was refused counts for nothing
   counts_none : (v w : CpuView R) (made : List Expiration) (parts : List (Result Fired FireRefused)) (last : Fired) (ids : List ℕ)
       (high : Option ℕ) (lost : ℕ) → After v w made parts last ids high lost → After v w made (asleep ∷ parts) last ids high lost
   counts_none v w made parts last ids high lost then =
-      let a = sum_by-cons expired_of asleep parts in
-      let b = sum_by-cons lost_of asleep parts in
-      let x : sum_by expired_of (asleep ∷ parts) ≡ sum_by expired_of parts = omega (arith, a) in
-      let y : sum_by lost_of (asleep ∷ parts) ≡ sum_by lost_of parts = omega (arith, b) in
+      let a = sum_by-cons expired_in_part asleep parts in
+      let b = sum_by-cons lost_in_part asleep parts in
+      let x : sum_by expired_in_part (asleep ∷ parts) ≡ sum_by expired_in_part parts = omega (arith, a) in
+      let y : sum_by lost_in_part (asleep ∷ parts) ≡ sum_by lost_in_part parts = omega (arith, b) in
       subst (λ n. Whole v w (length made + (n + last.expired)) last (ids ++ (pending high ++ handed_out parts))
-      (lost + (sum_by lost_of (asleep ∷ parts) + last.lost))) (sym x)
-      (subst (λ n. Whole v w (length made + (sum_by expired_of parts + last.expired)) last
+      (lost + (sum_by lost_in_part (asleep ∷ parts) + last.lost))) (sym x)
+      (subst (λ n. Whole v w (length made + (sum_by expired_in_part parts + last.expired)) last
       (ids ++ (pending high ++ handed_out parts)) (lost + (n + last.lost))) (sym y) then)
 
   -- a part, or a fire that was refused, and what comes after it
@@ -397,17 +415,19 @@ module _ {R : Type 0} (firing : Raise R) (now : ℕ) (soon : now < never) where
       let both = length-append made xs in
       let ids_are : ids ++ pending s.high ≡ ids ++ (pending s.high ++ handed_out []) =
       ap (λ ys. ids ++ ys) (sym (append-nil (pending s.high))) in
-      let lost_are : lost + last.lost ≡ lost + (sum_by lost_of [] + last.lost) = omega arith in (
+      let lost_are : lost + last.lost ≡ lost + (sum_by lost_in_part [] + last.lost) = omega arith in (
         at_once v,
         wakes v w at'.same (same.suspended ∙ may.awake),
         omega (arith, long, both, expired),
         next,
-        subst (λ n. Makes (at_level notes High) noted firing now (expirations now (timers v.cyclics)) v.cyclics w.cyclics
-            (sides [] v) (sides (ids ++ (pending s.high ++ handed_out [])) w) n) lost_are
-            (subst (λ ns. Makes (at_level notes High) noted firing now (expirations now (timers v.cyclics)) v.cyclics w.cyclics
-            (sides [] v) (sides ns w) (lost + last.lost)) ids_are
-            (subst (λ ys. Makes (at_level notes High) noted firing now ys v.cyclics w.cyclics (sides [] v)
-            (sides (ids ++ pending s.high) w) (lost + last.lost)) (sym whole) at'.makes)),
+        subst (λ n. Makes (acting (at_level notes High) noted_id firing) now (expirations now (timers v.cyclics)) (fire_state
+            v.cyclics (sides [] v))
+            (fire_state w.cyclics (sides (ids ++ (pending s.high ++ handed_out [])) w)) n) lost_are
+            (subst (λ ns. Makes (acting (at_level notes High) noted_id firing) now (expirations now (timers v.cyclics))
+            (fire_state v.cyclics (sides [] v))
+            (fire_state w.cyclics (sides ns w)) (lost + last.lost)) ids_are
+            (subst (λ ys. Makes (acting (at_level notes High) noted_id firing) now ys (fire_state v.cyclics (sides [] v))
+            (fire_state w.cyclics (sides (ids ++ pending s.high) w)) (lost + last.lost)) (sym whole) at'.makes)),
       )
   through v w (Suspends ∷ calls) last made ids lost s distinct at stops (m, done, rest) =
       let (at', high) = rests Suspends v made ids lost s m at tt done in
@@ -423,17 +443,18 @@ module _ {R : Type 0} (firing : Raise R) (now : ℕ) (soon : now < never) where
       (λ k x h. stops (suc k) x (omega (arith, h))) rest) (stops 0 (Part n answer) (omega arith))
 
   pub whole : (calls : List PartCall) (last : Fired) (v w : CpuView R) → HasDistinctIds (timers v.cyclics)
-      → All IsSound (timers v.cyclics) → All (IsPaused now) calls →
+      → All IsSoundTimer (timers v.cyclics) → All (IsPaused now) calls →
       FoldsTo (MakesPart firing) (paused None v) (calls ++ Part now (Ok last) ∷ []) (paused None w)
       → IsOneFire firing now (answers calls) last (awake v) w
   whole calls last v w distinct sound stops way =
       let (a, b, c, d, makes) = through v w calls last [] [] 0 (paused None v) distinct (at_start v sound) stops way in
       let parts = answers calls in
-      let n : 0 + (sum_by lost_of parts + last.lost) ≡ sum_by lost_of parts + last.lost = omega arith in (
+      let n : 0 + (sum_by lost_in_part parts + last.lost) ≡ sum_by lost_in_part parts + last.lost = omega arith in (
         a,
         b,
         omega (arith, c),
         d,
-        subst (λ l. Makes (at_level notes High) noted firing now (expirations now (timers v.cyclics)) v.cyclics w.cyclics
-            (sides [] v) (sides (handed_out parts) w) l) n makes,
+        subst (λ l. Makes (acting (at_level notes High) noted_id firing) now (expirations now (timers v.cyclics)) (fire_state
+            v.cyclics (sides [] v))
+            (fire_state w.cyclics (sides (handed_out parts) w)) l) n makes,
       )

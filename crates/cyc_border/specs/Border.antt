@@ -13,12 +13,12 @@ use Rattle.cyc_timers.specs.declared.fire.FireRefused.{FireRefused}
 use Rattle.cyc_cpu.specs.declared.hard.Totals.{Totals}
 use Rattle.cyc_cpu.specs.declared.removing.Removal.{Removal}
 use Rattle.cyc_cpu.specs.Cpu.{CpuView, running}
-use Rattle.cyc_cpu.specs.Calls.{Changes, Does, Add, Reprogram, AskPending, AskTotals, BeginRemove, Fire, SoftInterrupt}
+use Rattle.cyc_cpu.specs.Calls.{CpuChanges, CpuDoes, Add, Reprogram, AskPending, AskTotals, BeginRemove, Fire, SoftInterrupt}
 use Rattle.cyc_cpu.specs.Calls.{no_interrupts}
 use Rattle.cyc_cpu.specs.Removal.{HasCyclic}
 use Rattle.cyc_cpu.specs.Soft.{raise_tables, Interrupts}
 use Rattle.cyc_border.specs.Granted.{granted_calls}
-use Rattle.cyc_border.specs.Numbers.{number_of, level_named}
+use Rattle.cyc_border.specs.Numbers.{number_of_refusal, level_numbered}
 use Rattle.cyc_border.specs.declared.calling.Asked.{Asked}
 use Rattle.cyc_border.specs.declared.cpu.Cpu.{Cpu}
 use Rattle.cyc_border.specs.declared.granted.Granted.{Granted}
@@ -28,7 +28,7 @@ use Rattle.cyc_border.specs.declared.numbers.Denied.TheVariants.{Misused, Taken,
 
 -- a call that came through a handle: a closed one refuses it, and else it was made on what the handle owns, which stays in it
 abbrev pub Through : {X : Type 0} → Option X → Option X → ℕ → (X → X → Type 0) → Type 0
-Through None m answer made = (answer ≡ number_of Misused) × (m ≡ None)
+Through None m answer made = (answer ≡ number_of_refusal Misused) × (m ≡ None)
 Through (Some v) None answer made = ⊥
 Through (Some v) (Some w) answer made = made v w
 
@@ -43,8 +43,8 @@ found_of (Some a) = Ok a
 found_of None = Err (Refused why.NoCyclic)
 
 -- no call of the CPU was made
-abbrev pub Denies : {A X : Type 0} → Denied → Result A Denied → X → X → Type 0
-Denies e answer v w = (answer ≡ Err e) × (w ≡ v)
+abbrev pub DeniesCall : {A X : Type 0} → Denied → Result A Denied → X → X → Type 0
+DeniesCall e answer v w = (answer ≡ Err e) × (w ≡ v)
 
 -- the numbers of an add, as a caller in C has them
 pub record AddNumbers : Type 0 where
@@ -59,12 +59,12 @@ add_numbers id level start interval now = record { id = id; level = level; start
 
 -- what the numbers of an add say
 abbrev pub IsAsked : ℕ → ℕ → ℤ → ℤ → ℤ → Asked → Type 0
-IsAsked id level start interval now a = (level_named level ≡ Some a.level) × IsId id × (a.id ≡ id)
+IsAsked id level start interval now a = (level_numbered level ≡ Some a.level) × IsId id × (a.id ≡ id)
     × (pos a.when.start ≡ start) × (pos a.when.interval ≡ interval) × (pos a.now ≡ now)
 
 -- why they say nothing: the level or the id is none, then the start, the interval and at last the moment
 abbrev pub WhyNotAsked : ℕ → ℕ → ℤ → ℤ → ℤ → Denied → Type 0
-WhyNotAsked id level start interval now Misused = (level_named level ≡ None) ⊎ (IsId id → ⊥)
+WhyNotAsked id level start interval now Misused = (level_numbered level ≡ None) ⊎ (IsId id → ⊥)
 WhyNotAsked id level start interval now (Refused why.BadWhen) =
     (start <ℤ pos 0) ⊎ ((pos 0 ≤ℤ start) × (pos 1 ≤ℤ interval) × (now <ℤ pos 0))
 WhyNotAsked id level start interval now (Refused why.BadInterval) = (pos 0 ≤ℤ start) × (interval <ℤ pos 1)
@@ -97,45 +97,45 @@ handed_after high (Err e) = by_reason e.why where
 -- the calls of a CPU over any firing ends
 module _ {R : Type 0} (firing : Raise R) where
   -- `cyclic_reprogram`: a negative moment is refused, and no cyclic has a number that is no id
-  abbrev pub Reprograms : ℕ → ℤ → Result (Unit {0}) Denied → CpuView R → CpuView R → Type 0
-  Reprograms id moment answer v w = ((moment <ℤ pos 0) × Denies (Refused why.BadWhen) answer v w)
+  abbrev pub CallsReprogram : ℕ → ℤ → Result (Unit {0}) Denied → CpuView R → CpuView R → Type 0
+  CallsReprogram id moment answer v w = ((moment <ℤ pos 0) × DeniesCall (Refused why.BadWhen) answer v w)
       ⊎ ((m : ℕ) × (pos m ≡ moment)
-      × (((IsId id → ⊥) × Denies (Refused why.NoCyclic) answer v w)
-      ⊎ ((given : Result (Unit {0}) Refusal) × (answer ≡ denied_of given) × Changes firing v (Reprogram id m given) w)))
+      × (((IsId id → ⊥) × DeniesCall (Refused why.NoCyclic) answer v w)
+      ⊎ ((given : Result (Unit {0}) Refusal) × (answer ≡ denied_of given) × CpuChanges firing v (Reprogram id m given) w)))
 
   abbrev pub AsksPending : ℕ → Result ℕ Denied → CpuView R → CpuView R → Type 0
-  AsksPending id answer v w = ((IsId id → ⊥) × Denies (Refused why.NoCyclic) answer v w)
-      ⊎ ((found : Option ℕ) × (answer ≡ found_of found) × Changes firing v (AskPending id found) w)
+  AsksPending id answer v w = ((IsId id → ⊥) × DeniesCall (Refused why.NoCyclic) answer v w)
+      ⊎ ((found : Option ℕ) × (answer ≡ found_of found) × CpuChanges firing v (AskPending id found) w)
 
-  abbrev pub AsksTotals : ℕ → Result Totals Denied → CpuView R → CpuView R → Type 0
-  AsksTotals id answer v w = ((IsId id → ⊥) × Denies (Refused why.NoCyclic) answer v w)
-      ⊎ ((found : Option Totals) × (answer ≡ found_of found) × Changes firing v (AskTotals id found) w)
+  abbrev pub CallsTotals : ℕ → Result Totals Denied → CpuView R → CpuView R → Type 0
+  CallsTotals id answer v w = ((IsId id → ⊥) × DeniesCall (Refused why.NoCyclic) answer v w)
+      ⊎ ((found : Option Totals) × (answer ≡ found_of found) × CpuChanges firing v (AskTotals id found) w)
 
-  abbrev pub BeginsRemoval : ℕ → Result Removal Denied → CpuView R → CpuView R → Type 0
-  BeginsRemoval id answer v w = ((IsId id → ⊥) × Denies (Refused why.NoCyclic) answer v w)
-      ⊎ ((given : Result Removal Refusal) × (answer ≡ denied_of given) × Changes firing v (BeginRemove id given) w)
+  abbrev pub CallsBeginRemove : ℕ → Result Removal Denied → CpuView R → CpuView R → Type 0
+  CallsBeginRemove id answer v w = ((IsId id → ⊥) × DeniesCall (Refused why.NoCyclic) answer v w)
+      ⊎ ((given : Result Removal Refusal) × (answer ≡ denied_of given) × CpuChanges firing v (BeginRemove id given) w)
 
   -- an add: a cyclic here has the id and nothing is done, or it is an add of the CPU
   abbrev pub AddsAsked : Asked → Result (Unit {0}) Denied → CpuView R → CpuView R → Type 0
   AddsAsked a answer v w = (HasCyclic a.id v.cyclics × (answer ≡ Err Taken) × (w ≡ v))
       ⊎ ((given : Result (Unit {0}) Refusal) × (answer ≡ denied_of given)
-      × Changes firing v (Add a.id a.level a.when a.now given) w)
+      × CpuChanges firing v (Add a.id a.level a.when a.now given) w)
 
   -- `cyclic_add`: the numbers are looked at first
-  abbrev pub Adds : AddNumbers → Result (Unit {0}) Denied → CpuView R → CpuView R → Type 0
-  Adds n answer v w = ((e : Denied) × WhyNotAsked n.id n.level n.start n.interval n.now e × Denies e answer v w)
+  abbrev pub CallsAdd : AddNumbers → Result (Unit {0}) Denied → CpuView R → CpuView R → Type 0
+  CallsAdd n answer v w = ((e : Denied) × WhyNotAsked n.id n.level n.start n.interval n.now e × DeniesCall e answer v w)
       ⊎ ((a : Asked) × IsAsked n.id n.level n.start n.interval n.now a × AddsAsked a answer v w)
 
   -- One part of a fire: the handler of the one that is handed out has been called, and its call is granted. The fire goes up to
   -- the next high expiration, which is then the one that is handed out.
-  abbrev pub Fires : ℕ → Result Fired FireRefused → Option ℕ → CpuView R → Option ℕ → CpuView R → Type 0
-  Fires now answer high v high' w = (left : Granted)
-      × Does granted_calls firing no_interrupts (running (grant high) v) (Fire now answer) (running left w)
+  abbrev pub FiresPart : ℕ → Result Fired FireRefused → Option ℕ → CpuView R → Option ℕ → CpuView R → Type 0
+  FiresPart now answer high v high' w = (left : Granted)
+      × CpuDoes granted_calls firing no_interrupts (running (grant high) v) (Fire now answer) (running left w)
       × (high' ≡ handed_after high answer)
 
 -- the same of a CPU on one thread, of which nothing else changes
 abbrev pub FiresCpu : ℕ → Result Fired FireRefused → Cpu → Cpu → Type 0
-FiresCpu now answer v w = Fires raise_tables now answer v.high v.hard w.high w.hard
+FiresCpu now answer v w = FiresPart raise_tables now answer v.high v.hard w.high w.hard
     × (w ≡ record v { hard = w.hard; high = w.high })
 
 -- the call of a soft level that was taken and is not finished
@@ -150,7 +150,7 @@ with_call Lock call v = record v { lock = call }
 -- a soft interrupt of one call at most, with this grant; no other thing changes but the call that is in the caller's hand
 abbrev pub Interrupts1 : Soft → Granted → Result Ran SoftRefused → Option ℕ → Cpu → Cpu → Type 0
 Interrupts1 level g answer call v w = (left : Granted)
-    × Does granted_calls raise_tables (Interrupts granted_calls) (running g v.hard) (SoftInterrupt level 1 answer)
+    × CpuDoes granted_calls raise_tables (Interrupts granted_calls) (running g v.hard) (SoftInterrupt level 1 answer)
     (running left w.hard)
     × (w ≡ with_call level call (record v { hard = w.hard }))
 
@@ -171,6 +171,6 @@ finish_of (Err e) answer = answer ≡ Err (Refused (why.HandlerRefused e.id))
 
 -- a finish is a soft interrupt of one call whose handler grants the call that was taken
 abbrev pub Finishes : Soft → Result (Unit {0}) Denied → Cpu → Cpu → Type 0
-Finishes level answer v w = ((call_at level v ≡ None) × Denies Misused answer v w)
+Finishes level answer v w = ((call_at level v ≡ None) × DeniesCall Misused answer v w)
     ⊎ ((id : ℕ) × (call_at level v ≡ Some id) × (ran : Result Ran SoftRefused) × finish_of ran answer
     × Interrupts1 level (One id) ran None v w)

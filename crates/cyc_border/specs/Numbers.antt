@@ -10,28 +10,28 @@ use Rattle.cyc_border.specs.declared.numbers.Denied.{Denied}
 use Rattle.cyc_border.specs.declared.numbers.Denied.TheVariants.{Misused, Taken, Refused}
 
 -- the library's refusals keep their numbers, which are below 64
-abbrev pub number_of : Denied → ℕ
-number_of Misused = 64
-number_of Taken = 65
-number_of (Refused e) = refusal_number e
+abbrev pub number_of_refusal : Denied → ℕ
+number_of_refusal Misused = 64
+number_of_refusal Taken = 65
+number_of_refusal (Refused e) = refusal_number e
 
 -- 0 where the call was done
 abbrev pub answer_of : {A : Type 0} → Result A Denied → ℕ
 answer_of (Ok a) = 0
-answer_of (Err e) = number_of e
+answer_of (Err e) = number_of_refusal e
 
 -- the id of a refusal that names one, else 0
-abbrev pub id_in : Denied → ℕ
-id_in (Refused (why.Busy id)) = id
-id_in (Refused (why.CountSpent id)) = id
-id_in (Refused (why.HandlerRefused id)) = id
-id_in e = 0
+abbrev pub id_in_refusal : Denied → ℕ
+id_in_refusal (Refused (why.Busy id)) = id
+id_in_refusal (Refused (why.CountSpent id)) = id
+id_in_refusal (Refused (why.HandlerRefused id)) = id
+id_in_refusal e = 0
 
-abbrev pub level_named : ℕ → Option Level
-level_named zero = Some level.Low
-level_named (suc zero) = Some level.Lock
-level_named (suc (suc zero)) = Some level.High
-level_named (suc (suc (suc n))) = None
+abbrev pub level_numbered : ℕ → Option Level
+level_numbered zero = Some level.Low
+level_numbered (suc zero) = Some level.Lock
+level_numbered (suc (suc zero)) = Some level.High
+level_numbered (suc (suc (suc n))) = None
 
 abbrev pub soft_named : ℕ → Option Soft
 soft_named zero = Some soft.Low

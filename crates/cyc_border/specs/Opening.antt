@@ -5,7 +5,7 @@ use Rattle.cyc_core.specs.Tables.{level_of}
 use Rattle.cyc_border.specs.declared.cpu.Cpu.{Cpu}
 
 -- no cyclic, two empty levels of this ceiling, and no call in hand; and it is not suspended
-pub record IsNew (ceiling most : ℕ) (v : Cpu) : Type 0 where
+pub record IsNewCpu (ceiling most : ℕ) (v : Cpu) : Type 0 where
   pub cyclics : v.hard.cyclics ≡ []
   pub removal : v.hard.removal ≡ None
   pub most_is : v.hard.most ≡ most

@@ -10,7 +10,7 @@ use Rattle.cyc_cpu.specs.Cpu.{CpuView}
 use Rattle.cyc_timers.specs.declared.fire.Fired.{Fired}
 use Rattle.cyc_timers.specs.declared.fire.FireRefused.{FireRefused}
 use Rattle.cyc_border.specs.Held.{view_in, step_in}
-use Rattle.cyc_border.specs.Border.{Fires}
+use Rattle.cyc_border.specs.Border.{FiresPart}
 use Rattle.cyc_border.specs.declared.held.HeldEnd.{HeldEnd}
 use Rattle.cyc_border.specs.declared.pair.Firing.{Firing}
 use Rattle.cyc_border.specs.declared.soft_side.SoftSide.{SoftSide}
@@ -46,5 +46,5 @@ OnSide made v w = made v.hard w.hard × (w ≡ record v { hard = w.hard })
 
 -- a part of a fire at the firing side
 abbrev pub FiresSide : ℕ → Result Fired FireRefused → Firing → Firing → Type 0
-FiresSide now answer v w = Fires raise_held now answer v.high v.hard w.high w.hard
+FiresSide now answer v w = FiresPart raise_held now answer v.high v.hard w.high w.hard
     × (w ≡ record v { hard = w.hard; high = w.high })

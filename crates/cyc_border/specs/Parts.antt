@@ -14,8 +14,8 @@ use Rattle.cyc_timers.specs.Acts.{ids_at}
 use Rattle.cyc_timers.specs.declared.fire.Fired.{Fired}
 use Rattle.cyc_timers.specs.declared.fire.FireRefused.{FireRefused}
 use Rattle.cyc_cpu.specs.Cpu.{CpuView, running}
-use Rattle.cyc_cpu.specs.Calls.{Does, Fire, Suspend, Resume, Changes, no_interrupts}
-use Rattle.cyc_border.specs.Border.{Fires, stopped_at}
+use Rattle.cyc_cpu.specs.Calls.{CpuDoes, Fire, Suspend, Resume, CpuChanges, no_interrupts}
+use Rattle.cyc_border.specs.Border.{FiresPart, stopped_at}
 
 -- none, or the one that was handed out, once
 abbrev pub IsHandedOut : Option ℕ → List ℕ → Type 0
@@ -45,9 +45,9 @@ pub data PartCall : Type 0 where
   Resumes : PartCall
 
 abbrev pub MakesPart : {R : Type 0} → Raise R → Paused R → PartCall → Paused R → Type 0
-MakesPart firing s (Part now answer) t = Fires firing now answer s.high s.cpu t.high t.cpu
-MakesPart firing s Suspends t = Changes firing s.cpu Suspend t.cpu × (t.high ≡ s.high)
-MakesPart firing s Resumes t = Changes firing s.cpu Resume t.cpu × (t.high ≡ s.high)
+MakesPart firing s (Part now answer) t = FiresPart firing now answer s.high s.cpu t.high t.cpu
+MakesPart firing s Suspends t = CpuChanges firing s.cpu Suspend t.cpu × (t.high ≡ s.high)
+MakesPart firing s Resumes t = CpuChanges firing s.cpu Resume t.cpu × (t.high ≡ s.high)
 
 -- what a fire answers while the CPU is suspended
 abbrev pub asleep : Result Fired FireRefused
@@ -76,14 +76,14 @@ abbrev pub awake : {R : Type 0} → CpuView R → CpuView R
 awake v = record v { suspended = false }
 
 -- the expirations that a part counted
-abbrev pub expired_of : Result Fired FireRefused → ℕ
-expired_of (Ok r) = r.expired
-expired_of (Err e) = e.expired
+abbrev pub expired_in_part : Result Fired FireRefused → ℕ
+expired_in_part (Ok r) = r.expired
+expired_in_part (Err e) = e.expired
 
 -- those of them that it lost
-abbrev pub lost_of : Result Fired FireRefused → ℕ
-lost_of (Ok r) = r.lost
-lost_of (Err e) = e.lost
+abbrev pub lost_in_part : Result Fired FireRefused → ℕ
+lost_in_part (Ok r) = r.lost
+lost_in_part (Err e) = e.lost
 
 -- the high cyclics that were handed out, in order
 abbrev pub handed_out : List (Result Fired FireRefused) → List ℕ
@@ -92,8 +92,8 @@ handed_out parts = filter_map stopped_at parts
 -- what the parts and the last one counted together
 abbrev pub together : List (Result Fired FireRefused) → Fired → Fired
 together parts last = record {
-  expired = sum_by expired_of parts + last.expired;
-  lost = sum_by lost_of parts + last.lost;
+  expired = sum_by expired_in_part parts + last.expired;
+  lost = sum_by lost_in_part parts + last.lost;
   next = last.next;
 }
 
@@ -101,17 +101,17 @@ together parts last = record {
 abbrev pub notes : List ℕ → ℕ → Level → List ℕ → Type 0
 notes ids id level more = more ≡ ids ++ id ∷ []
 
-abbrev pub noted : List ℕ → ℕ → ℕ
-noted ids id = times id ids
+abbrev pub noted_id : List ℕ → ℕ → ℕ
+noted_id ids id = times id ids
 
 abbrev pub noting : Calls (List ℕ)
-noting = record { count = noted; called = notes; may_refuse = λ ids id. ⊥ }
+noting = record { count = noted_id; called = notes; may_refuse = λ ids id. ⊥ }
 
 -- The parts are one fire of the CPU, whose handlers were called for those that were handed out, in that order: each expiration
 -- that was due is made once, in order, and counted once.
 abbrev pub IsOneFire : {R : Type 0} → Raise R → ℕ
     → List (Result Fired FireRefused) → Fired → CpuView R → CpuView R → Type 0
-IsOneFire firing now parts last v w = Does noting firing no_interrupts (running [] v) (Fire now (Ok (together parts last)))
+IsOneFire firing now parts last v w = CpuDoes noting firing no_interrupts (running [] v) (Fire now (Ok (together parts last)))
     (running (handed_out parts) w)
 
 -- What was handed out is counted: the fire makes the expiration of this id first, and its handler is the only one that is called.
@@ -121,5 +121,5 @@ pub record Counts (now : ℕ) (answer : Result Fired FireRefused) (id : ℕ) (ts
   pub rest : List Expiration
   pub named : first.id ≡ id
   pub listed : expirations now ts ≡ (first ∷ more) ++ rest
-  pub expired : expired_of answer ≡ length (first ∷ more)
+  pub expired : expired_in_part answer ≡ length (first ∷ more)
   pub called : ids_at High ts (first ∷ more) ≡ id ∷ []

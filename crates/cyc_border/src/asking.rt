@@ -1,7 +1,7 @@
 //! Questions to a CPU from C, and another moment for a cyclic.
 
 ghost use Rattle.std.specs.Prelude.{◌≡◌};
-ghost use Rattle.cyc_border.specs.Border.{AsksPending, AsksTotals, Reprograms, BeginsRemoval};
+ghost use Rattle.cyc_border.specs.Border.{AsksPending, CallsTotals, CallsReprogram, CallsBeginRemove};
 
 use crate::numbers::Denied;
 use cyc_cpu::{Hard, Removal, Totals};
@@ -9,7 +9,7 @@ use cyc_types::{CyclicId, Moment, Raise, Refusal};
 
 /// Gives the cyclic another next expiration.
 pub fn reprogram<R: Raise>(cpu: &mut Hard<R>, id: u64, moment: i64) -> Result<(), Denied>
-    ensures { Reprograms R.Raise id moment result cpu.old cpu.new }
+    ensures { CallsReprogram R.Raise id moment result cpu.old cpu.new }
 {
     let moment = Moment::new(moment)?;
     let Some(id) = CyclicId::new(id) else {
@@ -34,7 +34,7 @@ pub fn pending_of<R: Raise>(cpu: &mut Hard<R>, id: u64) -> Result<u32, Denied>
 
 /// The counts of the cyclic.
 pub fn totals_at<R: Raise>(cpu: &mut Hard<R>, id: u64) -> Result<Totals, Denied>
-    ensures { AsksTotals R.Raise id result cpu.old cpu.new }
+    ensures { CallsTotals R.Raise id result cpu.old cpu.new }
 {
     let Some(id) = CyclicId::new(id) else {
         return Err(Denied::Refused(Refusal::NoCyclic));
@@ -47,7 +47,7 @@ pub fn totals_at<R: Raise>(cpu: &mut Hard<R>, id: u64) -> Result<Totals, Denied>
 
 /// Begins the removal of the cyclic.
 pub fn begin_remove<R: Raise>(cpu: &mut Hard<R>, id: u64) -> Result<Removal, Denied>
-    ensures { BeginsRemoval R.Raise id result cpu.old cpu.new }
+    ensures { CallsBeginRemove R.Raise id result cpu.old cpu.new }
 {
     let Some(id) = CyclicId::new(id) else {
         return Err(Denied::Refused(Refusal::NoCyclic));

@@ -2,14 +2,15 @@
 
 ghost use Rattle.std.specs.Prelude.{◌≡◌, Some, None, Err, IfSome, IfNone, IfOk, IfErr};
 ghost use Rattle.cyc_cpu.specs.Soft.{end_at, held_at, HasEmptyLists};
-ghost use Rattle.cyc_border.specs.Border.{IsAsked, WhyNotAsked, AddsAsked, Adds, Fires, FiresCpu, refused_at, Takes, Finishes};
+ghost use Rattle.cyc_border.specs.Border.{IsAsked, WhyNotAsked, AddsAsked, CallsAdd, FiresPart, FiresCpu, refused_at, Takes, Finishes};
 ghost use Rattle.cyc_border.specs.Border.{add_numbers, grant, stopped_at, handed_after, call_at, with_call};
 
 use crate::cpu::Cpu;
 use crate::granted::Granted;
 use crate::numbers::{Denied, level_of};
-use cyc_cpu::{FireRefused, Fired, Hard};
+use cyc_cpu::Hard;
 use cyc_soft::{Ran, SoftRefused};
+use cyc_timers::{FireRefused, Fired};
 use cyc_types::{CyclicId, Level, Moment, Raise, Refusal, Soft, When};
 
 /// What is granted where the caller has called this handler, or none.
@@ -22,8 +23,8 @@ fn granted(called: Option<CyclicId>) -> Granted
     }
 }
 
-/// What stays handed out behind a fire that was refused, but not in front of a high cyclic: what was handed out before, where it was
-/// refused at once. A call, so that LLVM takes it for rare, and a fire that stops in front of a high cyclic goes straight on.
+/// What stays handed out behind a fire that was refused, but not in front of a high cyclic: what was handed out before, where it
+/// was refused at once. A call, so that LLVM takes it for rare, and a fire that stops in front of a high cyclic goes straight on.
 #[cold]
 #[inline(never)]
 fn stays_out(high: Option<CyclicId>, refused: &FireRefused) -> Option<CyclicId>
@@ -110,7 +111,7 @@ pub fn add<R: Raise>(
     interval: i64,
     now: i64,
 ) -> Result<(), Denied>
-    ensures { Adds R.Raise (add_numbers id level start interval now) result cpu.old cpu.new }
+    ensures { CallsAdd R.Raise (add_numbers id level start interval now) result cpu.old cpu.new }
 {
     match read_asked(id, level, start, interval, now) {
         Ok(asked) => add_asked(cpu, asked),
@@ -129,7 +130,7 @@ pub fn fire<R: Raise>(
     high: &mut Option<CyclicId>,
     now: Moment,
 ) -> Result<Fired, FireRefused>
-    ensures { Fires R.Raise now result high.old cpu.old high.new cpu.new }
+    ensures { FiresPart R.Raise now result high.old cpu.old high.new cpu.new }
 {
     let mut calls = granted(*high);
     let answer = cpu.fire(now, &mut calls);

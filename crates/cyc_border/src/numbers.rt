@@ -1,7 +1,7 @@
 //! The refusals as numbers.
 
 ghost use Rattle.std.specs.Prelude.{◌≡◌, IsSome, IfSome};
-ghost use Rattle.cyc_border.specs.Numbers.{number_of, answer_of, id_in, level_named, soft_named};
+ghost use Rattle.cyc_border.specs.Numbers.{number_of_refusal, answer_of, id_in_refusal, level_numbered, soft_named};
 ghost use Rattle.cyc_border.specs.declared.numbers.Denied.TheVariants as denied;
 
 use cyc_types::{Level, Refusal, Soft};
@@ -28,7 +28,7 @@ impl From<Refusal> for Denied {
 impl Denied {
     /// The number by which C tells it.
     pub fn number(&self) -> u32
-        ensures { result ≡ number_of self.now }
+        ensures { result ≡ number_of_refusal self.now }
     {
         match self {
             Denied::Misused => 64,
@@ -39,7 +39,7 @@ impl Denied {
 
     /// The id that the refusal names, 0 where it names none.
     pub fn id(&self) -> u64
-        ensures { result ≡ id_in self.now }
+        ensures { result ≡ id_in_refusal self.now }
     {
         match self {
             Denied::Refused(Refusal::Busy(id)) => id.number(),
@@ -52,7 +52,7 @@ impl Denied {
 
 /// The level of this number: 0 low, 1 lock, 2 high.
 pub fn level_of(number: u32) -> Option<Level>
-    ensures { result ≡ level_named number }
+    ensures { result ≡ level_numbered number }
 {
     match number {
         0 => Some(Level::Low),

@@ -7,8 +7,9 @@ ghost use Rattle.cyc_border.specs.Pair.{FiresSide, IsNewPair, IsClosedOf, SameRi
 use crate::calling::fire;
 use crate::held::HeldEnd;
 use crate::soft_side::SoftSide;
-use cyc_cpu::{FireRefused, Fired, Hard};
+use cyc_cpu::Hard;
 use cyc_ring::{Closed, Ring};
+use cyc_timers::{FireRefused, Fired};
 use cyc_types::{Ceiling, CyclicId, Moment, Refusal};
 use std::alloc::Global;
 use std::sync::Arc;

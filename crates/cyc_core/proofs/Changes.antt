@@ -20,16 +20,16 @@ use Rattle.cyc_level.proofs.Maps.{hand_here}
 use Rattle.cyc_level.proofs.Keeps.{always_lawful, same_ceiling, ceiling_after}
 use Rattle.cyc_core.specs.declared.admitted.Admitted.{Admitted}
 use Rattle.cyc_core.specs.declared.level_core.LevelCore.TheInside.{Inside}
-use Rattle.cyc_core.specs.Tables.{Tables, lookup, cyclic_of, cyclics_of, level_of}
-use Rattle.cyc_core.specs.Reached.{IsReached}
-use Rattle.cyc_core.specs.Shown.{shown, AreKept, IsSound}
+use Rattle.cyc_core.specs.Tables.{Tables, lookup, cyclic_of_entry, cyclics_of_table, level_of}
+use Rattle.cyc_core.specs.Reached.{LevelIsReached}
+use Rattle.cyc_core.specs.Shown.{shown_core, AreKept, IsSoundCore}
 use Rattle.cyc_core.proofs.Keeping.{FindsElse}
 
-pub reached_lawful : (l : SoftLevel) → IsReached l → Lawful l
+pub reached_lawful : (l : SoftLevel) → LevelIsReached l → Lawful l
 reached_lawful l (events, all, is) = subst Lawful (sym is) (always_lawful l.ceiling events all)
 
 -- one more enabled event
-pub reached_on : (l m : SoftLevel) (event : Event) → IsReached l → Enabled event l → m ≡ after event l → IsReached m
+pub reached_on : (l m : SoftLevel) (event : Event) → LevelIsReached l → Enabled event l → m ≡ after event l → LevelIsReached m
 reached_on l m event (events, all, is) may made =
     let on : m ≡ reached l.ceiling (event ∷ events) = made ∙ ap (after event) is in
     let same : m.ceiling ≡ l.ceiling = ap (λ (x : SoftLevel). x.ceiling) on ∙ same_ceiling l.ceiling (event ∷ events) in (
@@ -40,15 +40,15 @@ reached_on l m event (events, all, is) may made =
     )
 
 -- fields that show what an enabled event leaves, with the memory that was there
-pub sound_by : (a b : Inside) (event : Event) → IsSound a → Enabled event (level_of (shown a))
-    → level_of (shown b) ≡ after event (level_of (shown a)) → AreKept b.kept.items b.ids.entries →
+pub sound_by : (a b : Inside) (event : Event) → IsSoundCore a → Enabled event (level_of (shown_core a))
+    → level_of (shown_core b) ≡ after event (level_of (shown_core a)) → AreKept b.kept.items b.ids.entries →
     vec_capacity a.kept ≤ vec_capacity b.kept → a.ids.room ≤ b.ids.room → deque_capacity a.old_list ≤ deque_capacity b.old_list
-    → deque_capacity a.new_list ≤ deque_capacity b.new_list → IsSound b
+    → deque_capacity a.new_list ≤ deque_capacity b.new_list → IsSoundCore b
 sound_by a b event h may made here kept ids old new = record {
-  reached = reached_on (level_of (shown a)) (level_of (shown b)) event h.reached may made;
+  reached = reached_on (level_of (shown_core a)) (level_of (shown_core b)) event h.reached may made;
   cyclics_kept = here;
   some_ceiling = (let same : b.ceiling ≡ a.ceiling = ap (λ (x : SoftLevel). x.ceiling) made
-      ∙ ceiling_after event (level_of (shown a)) in let some = h.some_ceiling in omega (arith, same, some));
+      ∙ ceiling_after event (level_of (shown_core a)) in let some = h.some_ceiling in omega (arith, same, some));
   kept_room = (let r = h.kept_room in omega (arith, r, kept));
   ids_room = (let r = h.ids_room in omega (arith, r, ids));
   old_room = (let r = h.old_room in omega (arith, r, old));
@@ -56,15 +56,15 @@ sound_by a b event h may made here kept ids old new = record {
 }
 
 -- the same, where the lists' memory is not what it was
-pub sound_roomy : (a b : Inside) (event : Event) → IsSound a → Enabled event (level_of (shown a))
-    → level_of (shown b) ≡ after event (level_of (shown a)) → AreKept b.kept.items b.ids.entries →
+pub sound_roomy : (a b : Inside) (event : Event) → IsSoundCore a → Enabled event (level_of (shown_core a))
+    → level_of (shown_core b) ≡ after event (level_of (shown_core a)) → AreKept b.kept.items b.ids.entries →
     cyclics ≤ vec_capacity b.kept → cyclics ≤ b.ids.room → cyclics ≤ deque_capacity b.old_list →
-    cyclics ≤ deque_capacity b.new_list → IsSound b
+    cyclics ≤ deque_capacity b.new_list → IsSoundCore b
 sound_roomy a b event h may made here kept ids old new = record {
-  reached = reached_on (level_of (shown a)) (level_of (shown b)) event h.reached may made;
+  reached = reached_on (level_of (shown_core a)) (level_of (shown_core b)) event h.reached may made;
   cyclics_kept = here;
   some_ceiling = (let same : b.ceiling ≡ a.ceiling = ap (λ (x : SoftLevel). x.ceiling) made
-      ∙ ceiling_after event (level_of (shown a)) in let some = h.some_ceiling in omega (arith, same, some));
+      ∙ ceiling_after event (level_of (shown_core a)) in let some = h.some_ceiling in omega (arith, same, some));
   kept_room = kept;
   ids_room = ids;
   old_room = old;
@@ -73,12 +73,13 @@ sound_roomy a b event h may made here kept ids old new = record {
 
 -- a table that changed at one id shows a map that changed there
 cyclics_changed : (xs ys : List Admitted) (id : ℕ) (o : Option Admitted) (f : Option AdmittedCyclic → Option AdmittedCyclic)
-    → FindsElse xs ys id o → option_map cyclic_of o ≡ f (cyclics_of xs id) → cyclics_of ys ≡ changed_at (cyclics_of xs) id f
-cyclics_changed xs ys id o f found same = λ z q. (ap (option_map cyclic_of) (found q) ∙ by q (eqb q id) refl) z
+    → FindsElse xs ys id o → option_map cyclic_of_entry o ≡ f (cyclics_of_table xs id)
+    → cyclics_of_table ys ≡ changed_at (cyclics_of_table xs) id f
+cyclics_changed xs ys id o f found same = λ z q. (ap (option_map cyclic_of_entry) (found q) ∙ by q (eqb q id) refl) z
   where
-    by : (q : ℕ) (b : Bool) → eqb q id ≡ b → option_map cyclic_of (cond b o (lookup q xs))
-        ≡ cond b (f (cyclics_of xs q)) (cyclics_of xs q)
-    by q true e = same ∙ ap (λ (k : ℕ). f (cyclics_of xs k)) (let is : id ≡ q = grind (arith, nat_tests) in is)
+    by : (q : ℕ) (b : Bool) → eqb q id ≡ b → option_map cyclic_of_entry (cond b o (lookup q xs))
+        ≡ cond b (f (cyclics_of_table xs q)) (cyclics_of_table xs q)
+    by q true e = same ∙ ap (λ (k : ℕ). f (cyclics_of_table xs k)) (let is : id ≡ q = grind (arith, nat_tests) in is)
     by q false e = refl
 
 hand_expired : (n id : ℕ) (hand : Option ℕ) → hand ≡ None → then_some (eqb n 0) id ≡ hand_after_expire n id hand
@@ -94,21 +95,22 @@ hand_finished (suc (suc n)) id some = let no : eqb (suc (suc n)) 1 ≡ false = g
 
 -- what holds of the cyclic holds of the entry
 pub found_fact : (t : Tables) (id : ℕ) (c : Admitted) → lookup id t.table ≡ Some c → (P : AdmittedCyclic → Type 0)
-    → IsSomeAnd ((level_of t).cyclics id) P → P (cyclic_of c)
-found_fact t id c found P h = subst (λ (o : Option AdmittedCyclic). IsSomeAnd o P) (ap (option_map cyclic_of) found) h
+    → IsSomeAnd ((level_of t).cyclics id) P → P (cyclic_of_entry c)
+found_fact t id c found P h = subst (λ (o : Option AdmittedCyclic). IsSomeAnd o P) (ap (option_map cyclic_of_entry) found) h
 
 -- a table that has another entry for one id, which had one
 module _ (t : Tables) (ys : List Admitted) (id : ℕ) (c d : Admitted) (found : lookup id t.table ≡ Some c)
     (else : FindsElse t.table ys id (Some d)) where
   found_count : count (level_of t) id ≡ c.count
-  found_count = ap (λ (o : Option Admitted). count_in (option_map cyclic_of o)) found
+  found_count = ap (λ (o : Option Admitted). count_in (option_map cyclic_of_entry o)) found
 
-  written : (f : AdmittedCyclic → AdmittedCyclic) → cyclic_of d ≡ f (cyclic_of c)
-      → cyclics_of ys ≡ changed_at (cyclics_of t.table) id (option_map f)
+  written : (f : AdmittedCyclic → AdmittedCyclic) → cyclic_of_entry d ≡ f (cyclic_of_entry c)
+      → cyclics_of_table ys ≡ changed_at (cyclics_of_table t.table) id (option_map f)
   written f made = cyclics_changed t.table ys id (Some d) (option_map f) else
-      (ap Some made ∙ sym (ap (λ (o : Option Admitted). option_map f (option_map cyclic_of o)) found))
+      (ap Some made ∙ sym (ap (λ (o : Option Admitted). option_map f (option_map cyclic_of_entry o)) found))
 
-  pub level_expire : (hand : Option ℕ) → cyclic_of d ≡ cyclic_after_expire (cyclic_of c) → hand ≡ then_some (eqb c.count 0) id
+  pub level_expire : (hand : Option ℕ) → cyclic_of_entry d ≡ cyclic_after_expire (cyclic_of_entry c)
+      → hand ≡ then_some (eqb c.count 0) id
       → t.firer_hand ≡ None → level_of (record t { table = ys; firer_hand = hand }) ≡ after (Expire id) (level_of t)
   level_expire hand made is free =
       let in_hand : hand ≡ hand_after_expire (count (level_of t) id) id t.firer_hand = is
@@ -116,11 +118,11 @@ module _ (t : Tables) (ys : List Admitted) (id : ℕ) (c d : Admitted) (found : 
       let map = written cyclic_after_expire made in
       λ z. record (level_of t) { cyclics = map z; firer_hand = in_hand z }
 
-  pub level_lose : cyclic_of d ≡ cyclic_after_lose (cyclic_of c)
+  pub level_lose : cyclic_of_entry d ≡ cyclic_after_lose (cyclic_of_entry c)
       → level_of (record t { table = ys }) ≡ after (Lose id) (level_of t)
   level_lose made = let map = written cyclic_after_lose made in λ z. record (level_of t) { cyclics = map z }
 
-  pub level_finish : (hand : Option ℕ) → cyclic_of d ≡ cyclic_after_finish (cyclic_of c) → t.drainer_hand ≡ Some id
+  pub level_finish : (hand : Option ℕ) → cyclic_of_entry d ≡ cyclic_after_finish (cyclic_of_entry c) → t.drainer_hand ≡ Some id
       → 0 < c.count → hand ≡ then_some (not (eqb c.count 1)) id
       → level_of (record t { table = ys; drainer_hand = hand }) ≡ after Finish (level_of t)
   level_finish hand made holds some is =
@@ -139,7 +141,7 @@ level_clear t ys id else =
     λ z. record (level_of t) { cyclics = map z; marked = None }
 
 pub level_admit : (t : Tables) (ys : List Admitted) (id index : ℕ) (e : Admitted) → FindsElse t.table ys id (Some e)
-    → cyclic_of e ≡ admitted_cyclic index → level_of (record t { table = ys }) ≡ after (Admit id index) (level_of t)
+    → cyclic_of_entry e ≡ admitted_cyclic index → level_of (record t { table = ys }) ≡ after (Admit id index) (level_of t)
 level_admit t ys id index e else made =
     let map = cyclics_changed t.table ys id (Some e) (λ _. Some (admitted_cyclic index)) else (ap Some made) in
     λ z. record (level_of t) { cyclics = map z }
@@ -190,7 +192,7 @@ level_take_old t r ys differ items rest =
       drainer_hand = first_of (cond b t.new_list t.old_list);
     }) test)
 
-some_entry : (o : Option Admitted) (c : AdmittedCyclic) → option_map cyclic_of o ≡ Some c → IsSome o
+some_entry : (o : Option Admitted) (c : AdmittedCyclic) → option_map cyclic_of_entry o ≡ Some c → IsSome o
 some_entry None c is = absurd (let none : ⊥ = cc in none)
 some_entry (Some e) c is = refl
 

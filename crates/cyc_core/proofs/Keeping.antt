@@ -11,7 +11,7 @@ use Rattle.cyc_finder.specs.Indexes as finder
 use Rattle.cyc_finder.specs.Indexes.{Entry, index_of, index_in}
 use Rattle.cyc_core.specs.declared.admitted.Admitted.{Admitted}
 use Rattle.cyc_core.specs.declared.admitted.Kept.{Kept}
-use Rattle.cyc_core.specs.Tables.{lookup, cyclic_of, cyclics_of}
+use Rattle.cyc_core.specs.Tables.{lookup, cyclic_of_entry, cyclics_of_table}
 use Rattle.cyc_core.specs.Shown.{nothing_kept, kept_id, read_as, table_of, AreKept}
 
 -- what is kept at an index
@@ -57,13 +57,14 @@ pub named_entry : (kept : List Kept) (es : List Entry) (q i : ℕ) → index_of 
 named_entry kept es q i h = lookup_is kept es q ∙ ap (option_map (λ i. read_as q i (there kept i))) h
 
 no_index : (kept : List Kept) (q : ℕ) (o : Option ℕ)
-    → option_map cyclic_of (option_map (λ i. read_as q i (there kept i)) o) ≡ None → o ≡ None
+    → option_map cyclic_of_entry (option_map (λ i. read_as q i (there kept i)) o) ≡ None → o ≡ None
 no_index kept q None h = refl
 no_index kept q (Some i) h = absurd (let no : ⊥ = cc in no)
 
 -- what is not admitted has no index
-pub absent_index : (kept : List Kept) (es : List Entry) (q : ℕ) → cyclics_of (table_of kept es) q ≡ None → index_of q es ≡ None
-absent_index kept es q h = no_index kept q (index_of q es) (sym (ap (option_map cyclic_of) (lookup_is kept es q)) ∙ h)
+pub absent_index : (kept : List Kept) (es : List Entry) (q : ℕ) → cyclics_of_table (table_of kept es) q ≡ None
+    → index_of q es ≡ None
+absent_index kept es q h = no_index kept q (index_of q es) (sym (ap (option_map cyclic_of_entry) (lookup_is kept es q)) ∙ h)
 
 -- the index of what is found
 pub index_found : (kept : List Kept) (es : List Entry) (q : ℕ)
@@ -170,15 +171,15 @@ module _ (kept : List Kept) (es new : List Entry) (t : AreKept kept es) (id i : 
   }
 
 some_index : (kept : List Kept) (q : ℕ) (o : Option ℕ)
-    → IsSome (option_map cyclic_of (option_map (λ i. read_as q i (there kept i)) o)) → ¬ (o ≡ None)
+    → IsSome (option_map cyclic_of_entry (option_map (λ i. read_as q i (there kept i)) o)) → ¬ (o ≡ None)
 some_index kept q None some none = let wrong : ⊥ = cc in wrong
 some_index kept q (Some i) some none = let wrong : ⊥ = cc in wrong
 
 -- an admitted id has an index
-pub named_index : (kept : List Kept) (es : List Entry) (q : ℕ) → IsSome (cyclics_of (table_of kept es) q)
+pub named_index : (kept : List Kept) (es : List Entry) (q : ℕ) → IsSome (cyclics_of_table (table_of kept es) q)
     → ¬ (index_of q es ≡ None)
 named_index kept es q some = some_index kept q (index_of q es)
-    (subst (λ (o : Option Admitted). IsSome (option_map cyclic_of o)) (lookup_is kept es q) some)
+    (subst (λ (o : Option Admitted). IsSome (option_map cyclic_of_entry o)) (lookup_is kept es q) some)
 
 -- an index has one id, and an id one index
 pub one_id : (kept : List Kept) (es : List Entry) → AreKept kept es → (id i : ℕ) → index_of id es ≡ Some i → (q : ℕ)

@@ -13,7 +13,7 @@ use Rattle.cyc_core.specs.declared.books.Place.{Place}
 use Rattle.cyc_core.specs.declared.books.Place.TheVariants.{FirerHand, OldBank, NewBank, DrainerHand}
 use Rattle.cyc_core.specs.declared.admitted.Kept.{Kept}
 use Rattle.cyc_finder.specs.Indexes.{Entry, IsIndexed}
-use Rattle.cyc_core.specs.Tables.{lookup, cyclic_of, cyclics_of}
+use Rattle.cyc_core.specs.Tables.{lookup, cyclic_of_entry, cyclics_of_table}
 use Rattle.cyc_core.specs.Shown.{kept_id, table_of, AreKept}
 use Rattle.cyc_core.specs.Showing.{StandsAt}
 use Rattle.cyc_core.proofs.Keeping.{there, found_entry, named_entry}
@@ -126,14 +126,15 @@ none_times id (x ∷ xs) e = by (eqb x id) refl e (none_times id xs)
     by false is e later = let no_one : eqb id x ≡ false = grind (arith, nat_tests) in let sum =
         ap (λ (b : Bool). cond {A = ℕ} b 1 0) no_one in let rest = later e in omega (arith, sum, rest)
 
-cyclic_behind : (o : Option Admitted) (c : AdmittedCyclic) → option_map cyclic_of o ≡ Some c → (e : Admitted) × (o ≡ Some e)
-    × (cyclic_of e ≡ c)
+cyclic_behind : (o : Option Admitted) (c : AdmittedCyclic) → option_map cyclic_of_entry o ≡ Some c → (e : Admitted) × (o ≡ Some e)
+    × (cyclic_of_entry e ≡ c)
 cyclic_behind None c is = absurd (let none : ⊥ = cc in none)
-cyclic_behind (Some e) c is = (e, refl, some_same (cyclic_of e) c is)
+cyclic_behind (Some e) c is = (e, refl, some_same (cyclic_of_entry e) c is)
 
 -- where no cyclic is kept at an index, none is admitted at it, and the other way round
 module _ (kept : List Kept) (es : List Entry) (t : AreKept kept es) (index : ℕ) where
-  pub unused_is : kept_id (there kept index) ≡ None → (id : ℕ) (c : AdmittedCyclic) → cyclics_of (table_of kept es) id ≡ Some c
+  pub unused_is : kept_id (there kept index) ≡ None → (id : ℕ) (c : AdmittedCyclic)
+      → cyclics_of_table (table_of kept es) id ≡ Some c
       → c.index ≢ index
   unused_is free id c is same =
       let (e, found, made) = cyclic_behind (lookup id (table_of kept es)) c is in
@@ -141,16 +142,16 @@ module _ (kept : List Kept) (es : List Entry) (t : AreKept kept es) (index : ℕ
       let no : None ≡ Some id = sym free ∙ (t.named id index).1 named in
       let wrong : ⊥ = cc in wrong
 
-  pub free_is : ((id : ℕ) (c : AdmittedCyclic) → cyclics_of (table_of kept es) id ≡ Some c → c.index ≢ index)
+  pub free_is : ((id : ℕ) (c : AdmittedCyclic) → cyclics_of_table (table_of kept es) id ≡ Some c → c.index ≢ index)
       → kept_id (there kept index) ≡ None
   free_is unused = by (kept_id (there kept index)) refl
     where
       by : (o : Option ℕ) → kept_id (there kept index) ≡ o → o ≡ None
       by None e = refl
       by (Some id) e = let named = (t.named id index).0 e in
-          absurd (unused id _ (ap (option_map cyclic_of) (named_entry kept es id index named)) refl)
+          absurd (unused id _ (ap (option_map cyclic_of_entry) (named_entry kept es id index named)) refl)
 
 -- an unused index has no id
 pub not_indexed : (kept : List Kept) (es : List Entry) (index : ℕ)
-    → ((id : ℕ) (c : AdmittedCyclic) → cyclics_of (table_of kept es) id ≡ Some c → c.index ≢ index) → ¬ IsIndexed index es
-not_indexed kept es index unused (id, e) = unused id _ (ap (option_map cyclic_of) (named_entry kept es id index e)) refl
+    → ((id : ℕ) (c : AdmittedCyclic) → cyclics_of_table (table_of kept es) id ≡ Some c → c.index ≢ index) → ¬ IsIndexed index es
+not_indexed kept es index unused (id, e) = unused id _ (ap (option_map cyclic_of_entry) (named_entry kept es id index e)) refl

@@ -27,19 +27,19 @@ firing_view l = record {
 }
 
 -- the events of a raise with this answer (cyclic_expire)
-abbrev pub raise_events : ℕ → Raised → List Event
-raise_events id First = Expire id ∷ Publish ∷ []
-raise_events id More = Expire id ∷ []
-raise_events id Lost = Lose id ∷ []
+abbrev pub events_of_raise : ℕ → Raised → List Event
+events_of_raise id First = Expire id ∷ Publish ∷ []
+events_of_raise id More = Expire id ∷ []
+events_of_raise id Lost = Lose id ∷ []
 
 -- a call of the firing side with its answer: its events happened, in this order, and the answer is what was found. The firer's
 -- hand is empty after each
-abbrev pub Fires : SoftLevel → FiringCall → SoftLevel → Type 0
-Fires l (Admits id index) m = Happens l (Admit id index) m
-Fires l (Loads id pend) m = (pend ≡ count l id) × (m ≡ l)
-Fires l (Raises id answer) m = FoldsTo Happens l (raise_events id answer) m × (m.firer_hand ≡ None)
-Fires l (Marks id pend) m = (pend ≡ count l id) × Happens l (Mark id) m
-Fires l (Polls id None) m = (0 < count l id) × (m ≡ l)
-Fires l (Polls id (Some counts)) m = (sent_of id (firing_view l) ≡ Some counts) × Happens l (Clear id) m
-Fires l (Expands bank) m = Happens l (Switch bank) m
-Fires l (Looks answer) m = (answer ≡ (l.hard_bank == l.soft_bank)) × (m ≡ l)
+abbrev pub FiringDoes : SoftLevel → FiringCall → SoftLevel → Type 0
+FiringDoes l (Admits id index) m = Happens l (Admit id index) m
+FiringDoes l (Loads id pend) m = (pend ≡ count l id) × (m ≡ l)
+FiringDoes l (Raises id answer) m = FoldsTo Happens l (events_of_raise id answer) m × (m.firer_hand ≡ None)
+FiringDoes l (Marks id pend) m = (pend ≡ count l id) × Happens l (Mark id) m
+FiringDoes l (Polls id None) m = (0 < count l id) × (m ≡ l)
+FiringDoes l (Polls id (Some counts)) m = (sent_of id (firing_view l) ≡ Some counts) × Happens l (Clear id) m
+FiringDoes l (Expands bank) m = Happens l (Switch bank) m
+FiringDoes l (Looks answer) m = (answer ≡ (l.hard_bank == l.soft_bank)) × (m ≡ l)

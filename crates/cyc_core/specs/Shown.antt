@@ -7,7 +7,7 @@ use Rattle.cyc_finder.specs.Sorted.{Rises}
 use Rattle.cyc_finder.specs.Indexes as finder
 use Rattle.cyc_finder.specs.Indexes.{Entry, index_of}
 use Rattle.cyc_core.specs.Tables.{Tables, level_of}
-use Rattle.cyc_core.specs.Reached.{IsReached}
+use Rattle.cyc_core.specs.Reached.{LevelIsReached}
 use Rattle.cyc_core.specs.declared.admitted.Admitted.{Admitted}
 use Rattle.cyc_core.specs.declared.admitted.Kept.{Kept}
 use Rattle.cyc_core.specs.declared.level_core.LevelCore.TheInside.{Inside}
@@ -28,8 +28,8 @@ read_as id index k = record { id = id; index = index; sent = k.sent; done = k.do
 abbrev pub table_of : List Kept → List Entry → List Admitted
 table_of kept entries = map (λ e. read_as e.id e.index (slice_index_or kept e.index nothing_kept)) entries
 
-abbrev pub shown : Inside → Tables
-shown a = record {
+abbrev pub shown_core : Inside → Tables
+shown_core a = record {
   ceiling = a.ceiling;
   hard_bank = a.hard_bank;
   soft_bank = a.soft_bank;
@@ -48,8 +48,8 @@ pub record AreKept (kept : List Kept) (entries : List Entry) : Type 0 where
   pub named : (id index : ℕ) → (kept_id (slice_index_or kept index nothing_kept) ≡ Some id) ↔ (index_of id entries ≡ Some index)
 
 -- the level is reached by enabled events, each cyclic is kept at its index, and all memory is there
-pub record IsSound (a : Inside) : Type 0 where
-  pub reached : IsReached (level_of (shown a))
+pub record IsSoundCore (a : Inside) : Type 0 where
+  pub reached : LevelIsReached (level_of (shown_core a))
   pub cyclics_kept : AreKept a.kept.items a.ids.entries
   pub some_ceiling : 0 < a.ceiling
   pub kept_room : cyclics ≤ vec_capacity a.kept

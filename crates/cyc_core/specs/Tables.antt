@@ -18,20 +18,27 @@ pub record Tables : Type 0 where
   pub drainer_hand : Option ℕ
 
 -- the id of an entry, which rises along the table
-abbrev pub id_in : Admitted → ℕ
-id_in entry = entry.id
+abbrev pub id_of_entry : Admitted → ℕ
+id_of_entry entry = entry.id
 
 -- the entry of an id
 abbrev pub lookup : ℕ → List Admitted → Option Admitted
-lookup id table = look_up id_in id table
+lookup id table = look_up id_of_entry id table
 
 -- the cyclic that an entry stands for
-abbrev pub cyclic_of : Admitted → AdmittedCyclic
-cyclic_of entry = record { index = entry.index; sent = entry.sent; done = entry.done; lost = entry.lost; count = entry.count }
+abbrev pub cyclic_of_entry : Admitted → AdmittedCyclic
+cyclic_of_entry entry = record {
+  index = entry.index;
+  sent = entry.sent;
+  done = entry.done;
+  lost = entry.lost;
+  count =
+      entry.count;
+}
 
 -- the finite map that a table stands for
-abbrev pub cyclics_of : List Admitted → Cyclics
-cyclics_of table = λ id. option_map cyclic_of (lookup id table)
+abbrev pub cyclics_of_table : List Admitted → Cyclics
+cyclics_of_table table = λ id. option_map cyclic_of_entry (lookup id table)
 
 -- the level that the tables show
 abbrev pub level_of : Tables → SoftLevel
@@ -40,7 +47,7 @@ level_of t = record {
   hard_bank = t.hard_bank;
   soft_bank = t.soft_bank;
   cyclics =
-      cyclics_of t.table;
+      cyclics_of_table t.table;
   marked = t.marked;
   firer_hand = t.firer_hand;
   old_list = t.old_list;

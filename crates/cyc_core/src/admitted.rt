@@ -79,14 +79,15 @@ pub(crate) fn is_free_at(kept: &[Kept], index: Index) -> bool
     }
 }
 
-/// Adds the places up to this one, where it is not there yet: nothing is kept at them. It writes these alone, and takes no memory.
-pub(crate) fn reach(kept: &mut Vec<Kept>, place: usize)
-    requires { place < vec_capacity kept.old }
-    ensures within { place < length kept.new.items }
+/// Adds the places up to this one, where it is not there yet: nothing is kept at them. It writes these alone, and takes no
+/// memory.
+pub(crate) fn reach(kept: &mut Vec<Kept>, position: usize)
+    requires { position < vec_capacity kept.old }
+    ensures within { position < length kept.new.items }
     ensures same { (i : ℕ) → slice_index_or kept.new.items i nothing_kept ≡ slice_index_or kept.old.items i nothing_kept }
     ensures capacity { vec_capacity kept.old ≤ vec_capacity kept.new }
 {
-    if place >= kept.len() {
-        let _ = kept.resize(place + 1, Kept::nothing());
+    if position >= kept.len() {
+        let _ = kept.resize(position + 1, Kept::nothing());
     }
 }

@@ -11,8 +11,7 @@ ghost use Rattle.cyc_core.specs.Tables.{level_of, lookup};
 ghost use Rattle.cyc_core.specs.Reached.{Happens};
 
 use crate::admitted::{Admitted, Kept, is_free_at, reach};
-use crate::level_core::LevelCore;
-use cyc_finder::hint_of;
+use crate::level_core::{LevelCore, set_hint};
 use cyc_level::Event;
 use cyc_types::{CyclicId, GREATEST_BANK, Index};
 use thiserror::Error;
@@ -22,7 +21,7 @@ use thiserror::Error;
 #[error("the event is not enabled")]
 pub struct NotEnabled;
 
-/// The place of the first event of a list, counted from 0, that was not enabled when its turn came.
+/// The position of the first event of a list, counted from 0, that was not enabled when its turn came.
 #[derive(Clone, Copy, Debug, PartialEq, Eq, Error)]
 #[error("event {0} is not enabled")]
 pub struct NotEnabledAt(pub usize);
@@ -33,10 +32,10 @@ impl LevelCore {
         requires { Enabled (Admit id index) (level_of self.old) }
         ensures { level_of self.new ≡ after (Admit id index) (level_of self.old) }
     {
-        let place = index.number() as usize;
-        reach(&mut self.kept, place);
+        let position = index.number() as usize;
+        reach(&mut self.kept, position);
         self.ids.insert(id, index);
-        self.kept[place] = Kept {
+        self.kept[position] = Kept {
             id,
             sent: 0,
             done: 0,
@@ -44,7 +43,7 @@ impl LevelCore {
             count: 0,
             here: true,
         };
-        self.hints[hint_of(id)] = index;
+        set_hint(&mut self.hints, id, index);
     }
 
     pub(crate) fn expire(&mut self, entry: Admitted)

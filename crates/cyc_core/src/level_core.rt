@@ -7,11 +7,11 @@ ghost use Rattle.cyc_level.specs.Level.{empty_level};
 ghost use Rattle.cyc_level.specs.Lawful.{Lawful};
 ghost use Rattle.cyc_level.specs.Conservation.{IsConserved};
 ghost use Rattle.cyc_finder.specs.Indexes.{index_of};
-ghost use Rattle.cyc_core.specs.Tables.{cyclic_of, level_of, lookup};
-ghost use Rattle.cyc_core.specs.Reached.{IsReached};
+ghost use Rattle.cyc_core.specs.Tables.{cyclic_of_entry, level_of, lookup};
+ghost use Rattle.cyc_core.specs.Reached.{LevelIsReached};
 
 use crate::admitted::{Admitted, Kept, is_kept_at};
-use cyc_finder::{Finder, HINTS, hint_of};
+use cyc_finder::Finder;
 use cyc_types::{CYCLICS, Ceiling, CyclicId, Index, Refusal};
 use std::alloc::{AllocError, Global};
 use std::collections::VecDeque;
@@ -19,9 +19,9 @@ use std::marker::Model;
 
 /// One soft level, with all its memory taken when it is made.
 ///
-/// Each admitted cyclic is kept at its index, and a finder says which index an id has. So one that is admitted or leaves moves no other's
-/// counts: both are `insert` and `remove` of `Finder`, O(log n) on average where ids rise. A raise and a finish find their cyclic by one
-/// look where its hint is right.
+/// Each admitted cyclic is kept at its index, and a finder says which index an id has. So one that is admitted or leaves moves no
+/// other's counts: both are `insert` and `remove` of `Finder`, O(log n) on average where ids rise. A raise and a finish find
+/// their cyclic by one look where its hint is right.
 ///
 /// Contracts see it as its tables, and `level_of` gives the level that they show.
 #[derive(Drop)]
@@ -38,9 +38,9 @@ pub struct LevelCore {
     pub(crate) old_list: VecDeque<CyclicId>,
     pub(crate) new_list: VecDeque<CyclicId>,
     pub(crate) drainer_hand: Option<CyclicId>,
-    // The index at which an id of these low bits was admitted last. Another may have these bits too, and it may have left, so each
-    // look is checked. They stand in memory of their own, so that a level that is moved copies little.
-    pub(crate) hints: Box<[Index; HINTS]>,
+    // The index at which an id of these low bits was admitted last. Another may have these bits too, and it may have left, so
+    // each look is checked. They stand in memory of their own, so that a level that is moved copies little.
+    pub(crate) hints: Vec<Index>,
 }
 
 impl Model for LevelCore {
@@ -48,19 +48,37 @@ impl Model for LevelCore {
 
     ghost Value = { Tables };
 
-    ghost use Rattle.cyc_core.specs.Shown.{shown, IsSound};
+    ghost use Rattle.cyc_core.specs.Shown.{shown_core, IsSoundCore};
 
-    ghost view = { shown };
+    ghost view = { shown_core };
 
-    ghost invariant = { IsSound };
+    ghost invariant = { IsSoundCore };
 }
 
-/// Hints that say nothing yet. By a call, so that what makes a level has no room for them on its stack.
+/// Where the hint of an id stands: at its low bits, with those above them added, so that ids that are 4,096 apart have hints of
+/// their own too.
+#[inline(always)]
+fn hint_of(id: CyclicId) -> usize {
+    let number = id.number();
+    let hints = u64::from(CYCLICS);
+    (number.wrapping_add(number / hints) % hints) as usize
+}
+
+/// The id was admitted at this index.
+#[inline(always)]
+pub(crate) fn set_hint(hints: &mut [Index], id: CyclicId, index: Index) {
+    if let Some(hint) = hints.get_mut(hint_of(id)) {
+        *hint = index;
+    }
+}
+
+/// As many hints as there may be cyclics, which say nothing yet.
 #[cold]
 #[inline(never)]
-fn no_hints(alloc: Global) -> Result<Box<[Index; HINTS]>, AllocError> {
+fn no_hints(alloc: Global) -> Result<Vec<Index>, AllocError> {
     let first = Index::new(0).unwrap();
-    let hints = Box::new(alloc, [first; HINTS])?;
+    let mut hints = Vec::new(alloc);
+    hints.resize(usize::from(CYCLICS), first)?;
     Ok(hints)
 }
 
@@ -75,8 +93,8 @@ fn no_ids(alloc: Global) -> Result<Finder, AllocError>
     Ok(ids)
 }
 
-/// As `find` of the finder, where a hint was wrong, which mostly is right. By a call that is lent the finder alone, so that what makes
-/// it keeps neither registers nor the level's other fields for it.
+/// As `find` of the finder, where a hint was wrong, which mostly is right. By a call that is lent the finder alone, so that what
+/// makes it keeps neither registers nor the level's other fields for it.
 #[cold]
 #[inline(never)]
 fn find_apart(ids: &Finder, id: CyclicId) -> Option<Index>
@@ -88,9 +106,9 @@ fn find_apart(ids: &Finder, id: CyclicId) -> Option<Index>
 impl LevelCore {
     /// An empty level with both banks 0 and this ceiling.
     ///
-    /// It takes room for `CYCLICS` admitted cyclics, 40 bytes each, for a finder of as many ids (`Finder::reserve`), for two lists of as
-    /// many, 8 bytes each, and for the hints; no other call takes memory. Of cyclics and lists it writes nothing yet. Refuses Memory
-    /// alone.
+    /// It takes room for `CYCLICS` admitted cyclics, 40 bytes each, for a finder of as many ids (`Finder::reserve`), for two
+    /// lists of as many, 8 bytes each, and for the hints; no other call takes memory. Of cyclics and lists it writes nothing yet.
+    /// Refuses Memory alone.
     pub fn new(alloc: Global, ceiling: Ceiling) -> Result<LevelCore, Refusal>
         ensures ok { IfOk result (λ core. level_of core ≡ empty_level ceiling) }
         ensures err { IfErr result (λ refusal. refusal ≡ Refusal.Memory) }
@@ -114,7 +132,7 @@ impl LevelCore {
     /// The conservation theorem of one level, as a call that does nothing: at any time the level is one that enabled events
     /// reached from the empty one, so it keeps every law of such levels.
     pub fn conservation(&self)
-        ensures reached { IsReached (level_of self.now) }
+        ensures reached { LevelIsReached (level_of self.now) }
         ensures lawful { Lawful (level_of self.now) }
         ensures conserved { IsConserved (level_of self.now) }
         ensures some_ceiling { 0 < self.now.ceiling }
@@ -122,12 +140,13 @@ impl LevelCore {
         let _ceiling = &self.ceiling;
     }
 
-    /// The index at which the id was admitted, where its hint is right, as it is until another id of its low bits is admitted. O(1).
+    /// The index at which the id was admitted, where its hint is right, as it is until another id of its low bits is admitted.
+    /// O(1).
     #[inline(always)]
     pub(crate) fn hinted(&self, id: CyclicId) -> Option<Index>
         ensures { IfSome result (λ index. option_map (λ entry. entry.index) (lookup id self.now.table) ≡ Some index) }
     {
-        let hint = self.hints[hint_of(id)];
+        let hint = *self.hints.get(hint_of(id))?;
         if is_kept_at(&self.kept, hint, id) {
             return Some(hint);
         }
@@ -150,7 +169,7 @@ impl LevelCore {
     pub(crate) fn entry_at(&self, id: CyclicId, index: Index) -> Admitted
         requires { option_map (λ entry. entry.index) (lookup id self.now.table) ≡ Some index }
         ensures here { lookup id self.now.table ≡ Some result }
-        ensures cyclic { (level_of self.now).cyclics id ≡ Some (cyclic_of result) }
+        ensures cyclic { (level_of self.now).cyclics id ≡ Some (cyclic_of_entry result) }
         ensures id { result.id ≡ id }
         ensures lawful { Lawful (level_of self.now) }
         ensures some_ceiling { 0 < self.now.ceiling }
@@ -160,7 +179,7 @@ impl LevelCore {
 
     /// The entry of the id, where it is admitted.
     pub(crate) fn find(&self, id: CyclicId) -> Option<Admitted>
-        ensures cyclic { option_map cyclic_of result ≡ (level_of self.now).cyclics id }
+        ensures cyclic { option_map cyclic_of_entry result ≡ (level_of self.now).cyclics id }
         ensures lawful { Lawful (level_of self.now) }
     {
         // Costs nothing: it tells that the level is lawful.
@@ -176,7 +195,7 @@ impl LevelCore {
     pub(crate) fn entry_of(&self, id: CyclicId) -> Admitted
         requires { IsSome (lookup id self.now.table) }
         ensures here { lookup id self.now.table ≡ Some result }
-        ensures cyclic { (level_of self.now).cyclics id ≡ Some (cyclic_of result) }
+        ensures cyclic { (level_of self.now).cyclics id ≡ Some (cyclic_of_entry result) }
         ensures id { result.id ≡ id }
         ensures lawful { Lawful (level_of self.now) }
         ensures some_ceiling { 0 < self.now.ceiling }

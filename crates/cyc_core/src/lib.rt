@@ -13,7 +13,6 @@ pub mod level_core;
 mod raise;
 
 pub use books::{Books, Place};
-pub use cyc_level::Event;
 pub use events::{NotEnabled, NotEnabledAt};
 pub use laws::idle_is_empty;
 pub use level_core::LevelCore;

@@ -4,7 +4,7 @@ ghost use Rattle.std.specs.Prelude.{◌≡◌, Some};
 ghost use Rattle.std.specs.Option.{option_map};
 ghost use Rattle.cyc_types.specs.Firing.{Learns, MayRaise, Raises, Sound};
 ghost use Rattle.cyc_core.specs.Tables.{level_of, lookup};
-ghost use Rattle.cyc_core.specs.FiringSide.{firing_view, Fires};
+ghost use Rattle.cyc_core.specs.FiringSide.{firing_view, FiringDoes};
 
 use crate::level_core::LevelCore;
 use cyc_types::{CyclicId, Index, Raise, Raised, Sent};
@@ -16,7 +16,7 @@ use cyc_types::{CyclicId, Index, Raise, Raised, Sent};
 impl Raise for LevelCore {
     ghost view = { λ core. firing_view (level_of core) };
 
-    ghost step = { λ core call after. Fires (level_of core) call (level_of after) };
+    ghost step = { λ core call after. FiringDoes (level_of core) call (level_of after) };
 
     fn law(&self) {
         self.conservation();
@@ -84,7 +84,7 @@ impl LevelCore {
     fn raise_at(&mut self, id: CyclicId, index: Index) -> Raised
         requires named { option_map (λ entry. entry.index) (lookup id self.old.table) ≡ Some index }
         requires may { MayRaise id (firing_view (level_of self.old)) }
-        ensures step { Fires (level_of self.old) (Raises id result) (level_of self.new) }
+        ensures step { FiringDoes (level_of self.old) (Raises id result) (level_of self.new) }
         ensures learns { Learns (firing_view (level_of self.old)) (Raises id result) (firing_view (level_of self.new)) }
         ensures sound { Sound (firing_view (level_of self.new)) }
     {
@@ -108,7 +108,7 @@ impl LevelCore {
     #[inline(never)]
     fn raise_apart(&mut self, id: CyclicId) -> Raised
         requires { MayRaise id (firing_view (level_of self.old)) }
-        ensures step { Fires (level_of self.old) (Raises id result) (level_of self.new) }
+        ensures step { FiringDoes (level_of self.old) (Raises id result) (level_of self.new) }
         ensures learns { Learns (firing_view (level_of self.old)) (Raises id result) (firing_view (level_of self.new)) }
         ensures sound { Sound (firing_view (level_of self.new)) }
     {

@@ -1,7 +1,8 @@
 //! Events in turn, and lists of events that stop at one that is not enabled.
 
 use crate::level::{admit, apply, books, id, level, place, step};
-use cyc_core::{Event, NotEnabled, Place};
+use cyc_core::{NotEnabled, Place};
+use cyc_level::Event;
 use std::process::Abort;
 
 // Makes the events on a new level of ceiling 1, where all of them are enabled and the last one isn't.

@@ -1,6 +1,7 @@
 //! What the tests ask of a level. No function here says what it gives: the tests compare that.
 
-use cyc_core::{Books, Event, LevelCore, NotEnabled, NotEnabledAt, Place};
+use cyc_core::{Books, LevelCore, NotEnabled, NotEnabledAt, Place};
+use cyc_level::Event;
 use cyc_types::{Ceiling, CyclicId, Index};
 use std::process::Abort;
 

@@ -1,7 +1,8 @@
 //! Worked levels, each with its books.
 
 use crate::level::{admit, apply, books, id, level, place};
-use cyc_core::{Books, Event, LevelCore, NotEnabledAt, Place};
+use cyc_core::{Books, LevelCore, NotEnabledAt, Place};
+use cyc_level::Event;
 use std::process::Abort;
 
 #[test]

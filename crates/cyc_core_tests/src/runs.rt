@@ -1,7 +1,8 @@
 //! Worked soft interrupts of a plain level.
 
 use crate::handlers::{Handlers, PerLevel};
-use cyc_core::{Event, LevelCore};
+use cyc_core::LevelCore;
+use cyc_level::Event;
 use cyc_soft::{Ran, SoftRefused, softint};
 use cyc_types::{Ceiling, CyclicId, Index, Soft};
 use std::process::Abort;

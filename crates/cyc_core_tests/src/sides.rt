@@ -1,7 +1,8 @@
 //! Both sides of a level by their traits' calls.
 
 use crate::level::{admit, apply, id, level};
-use cyc_core::{Event, LevelCore};
+use cyc_core::LevelCore;
+use cyc_level::Event;
 use cyc_types::{CyclicId, Drain, Finished};
 use std::process::Abort;
 

@@ -24,8 +24,21 @@ use Rattle.cyc_cpu.specs.declared.removing.Removal.TheVariants.{Done, Kept}
 use Rattle.cyc_cpu.specs.Moving.{WhyNotTaken}
 use Rattle.cyc_cpu.specs.Cpu.{CpuView, Running, SameCpu, Makes, WhyStopped, Looked, WhyNotReserved, sides}
 use Rattle.cyc_cpu.specs.Calls.{CpuCall, Fire, SoftInterrupt, Add, Place, Reprogram, AskPending, AskTotals, AskRoom, Reserve}
-use Rattle.cyc_cpu.specs.Calls.{Widen, BeginRemove, PollRemove, TakeNow, AskSettled, Suspend, Resume, Changes, Does, Stopped}
+use Rattle.cyc_cpu.specs.Calls.{
+  Widen,
+  BeginRemove,
+  PollRemove,
+  TakeNow,
+  AskSettled,
+  Suspend,
+  Resume,
+  CpuChanges,
+  CpuDoes,
+  Stopped,
+}
 use Rattle.cyc_cpu.specs.Calls.{MayFire, WhyNoFire}
+use Rattle.cyc_timers.specs.Acts.{acting}
+use Rattle.cyc_timers.specs.Made.{fire_state}
 
 module _ {C R : Type 0} (handler : Calls C) (firing : Raise R)
     (interrupts : Soft → ℕ → Result Ran SoftRefused → Running C R → Running C R → Type 0) (now : ℕ) (s t : Running C R)
@@ -33,15 +46,17 @@ module _ {C R : Type 0} (handler : Calls C) (firing : Raise R)
   -- a fire that is not refused at once
   pub fired : (answer : Result Fired FireRefused) → IfOk answer (λ r. r.expired ≡ length (expirations now (timers s.cpu.cyclics)))
       → IfOk answer (λ r. r.next ≡ earliest (timers t.cpu.cyclics))
-      → IfOk answer (λ r. Makes (at_level handler.called High) handler.count firing now
-      (expirations now (timers s.cpu.cyclics)) s.cpu.cyclics t.cpu.cyclics (sides s.calls s.cpu) (sides t.calls t.cpu) r.lost)
+      → IfOk answer (λ r. Makes (acting (at_level handler.called High) handler.count firing) now (expirations now (timers
+      s.cpu.cyclics)) (fire_state s.cpu.cyclics (sides s.calls s.cpu))
+      (fire_state t.cpu.cyclics (sides t.calls t.cpu)) r.lost)
       → IfErr answer (λ e. (made : List Expiration) × (last : Expiration) × (rest : List Expiration)
       × (expirations now (timers s.cpu.cyclics) ≡ made ++ last ∷ rest) × (length made ≡ e.expired) × (at : C)
-      × Makes (at_level handler.called High) handler.count firing now made s.cpu.cyclics t.cpu.cyclics (sides s.calls s.cpu)
-      (sides at t.cpu) e.lost
+      × Makes (acting (at_level handler.called High) handler.count firing) now made (fire_state s.cpu.cyclics (sides s.calls
+      s.cpu))
+      (fire_state t.cpu.cyclics (sides at t.cpu)) e.lost
       × ((id : ℕ) → handler.count t.calls id ≡ handler.count at id)
       × WhyStopped handler.may_refuse s.cpu.most at last (timers t.cpu.cyclics) e.why)
-      → Does handler firing interrupts s (Fire now answer) t
+      → CpuDoes handler firing interrupts s (Fire now answer) t
   fired (Ok r) expired next makes stopped = (may, kept, expired, next, makes)
   fired (Err e) expired next makes (made, last, rest, listed, long, at, m, counted, stops) =
       inr (
@@ -64,7 +79,7 @@ module _ {C R : Type 0} (handler : Calls C) (firing : Raise R)
 -- why an add at a moment that is not never was refused
 pub not_added : {R : Type 0} (firing : Raise R) (id now : ℕ) (level : Level)
     (when : When) (v w : CpuView R) (e : Refusal) → now ≢ never
-    → Changes firing v (Add id level when now (Err e)) w → Looked firing v w × WhyNotReserved firing.view 1 v w e
+    → CpuChanges firing v (Add id level when now (Err e)) w → Looked firing v w × WhyNotReserved firing.view 1 v w e
 not_added firing id now level when v w BadNow early d = absurd (early d.1)
 not_added firing id now level when v w e early d = (d.2, d.3)
 
@@ -78,7 +93,7 @@ refused_not now v e may is = is
 pub not_fired : {C R : Type 0} (handler : Calls C) (firing : Raise R)
     (interrupts : Soft → ℕ → Result Ran SoftRefused → Running C R → Running C R → Type 0) (now : ℕ) (s t : Running C R)
     (e : FireRefused) → MayFire now s.cpu
-    → Does handler firing interrupts s (Fire now (Err e)) t
+    → CpuDoes handler firing interrupts s (Fire now (Err e)) t
     → Stopped handler firing now e s t
 not_fired handler firing interrupts now s t e may (inl d) = absurd (refused_not now s.cpu e.why may d.0)
 not_fired handler firing interrupts now s t e may (inr d) = d.2
@@ -93,12 +108,12 @@ not_taken_most firing id v w e d = absurd d
 
 not_added_most : {R : Type 0} (firing : Raise R) (id now : ℕ) (level : Level)
     (when : When) (v w : CpuView R) (e : Refusal)
-    → Changes firing v (Add id level when now (Err e)) w → w.most ≡ v.most
+    → CpuChanges firing v (Add id level when now (Err e)) w → w.most ≡ v.most
 not_added_most {R} firing id now level when v w BadNow d = ap (λ (x : CpuView R). x.most) d.2
 not_added_most firing id now level when v w e d = d.2.kept.most
 
 pub changes_most : {R : Type 0} (firing : Raise R) (v w : CpuView R) (call : CpuCall)
-    → Changes firing v call w → w.most ≡ v.most
+    → CpuChanges firing v call w → w.most ≡ v.most
 changes_most firing v w (Add id level when now (Ok done)) (absent, early, a) = a.enters.kept.most ∙ a.widens.most
     ∙ a.reserves.most
 changes_most firing v w (Add id level when now (Err e)) d = not_added_most firing id now level when v w e d
@@ -144,13 +159,13 @@ not_taken_suspended firing id v w e d = absurd d
 
 not_added_suspended : {R : Type 0} (firing : Raise R) (id now : ℕ) (level : Level)
     (when : When) (v w : CpuView R) (e : Refusal)
-    → Changes firing v (Add id level when now (Err e)) w → w.suspended ≡ v.suspended
+    → CpuChanges firing v (Add id level when now (Err e)) w → w.suspended ≡ v.suspended
 not_added_suspended {R} firing id now level when v w BadNow d = ap (λ (x : CpuView R). x.suspended) d.2
 not_added_suspended firing id now level when v w e d = d.2.kept.suspended
 
 -- no other call changes whether it is suspended
 pub changes_suspended : {R : Type 0} (firing : Raise R) (v w : CpuView R) (call : CpuCall) → LeavesMark call
-    → Changes firing v call w → w.suspended ≡ v.suspended
+    → CpuChanges firing v call w → w.suspended ≡ v.suspended
 changes_suspended firing v w (Add id level when now (Ok done)) plain (absent, early, a) = a.enters.kept.suspended ∙
     a.widens.suspended
     ∙ a.reserves.suspended
@@ -187,7 +202,7 @@ changes_suspended firing v w (SoftInterrupt level budget answer) plain d = absur
 pub fire_keeps : {C R : Type 0} (handler : Calls C) (firing : Raise R)
     (interrupts : Soft → ℕ → Result Ran SoftRefused → Running C R → Running C R → Type 0) (now : ℕ) (s t : Running C R)
     (answer : Result Fired FireRefused)
-    → Does handler firing interrupts s (Fire now answer) t → SameCpu s.cpu t.cpu
+    → CpuDoes handler firing interrupts s (Fire now answer) t → SameCpu s.cpu t.cpu
 fire_keeps handler firing interrupts now s t (Ok r) d = d.1
 fire_keeps handler firing interrupts now s t (Err e) (inl (late, is, same)) =
     subst (λ x. SameCpu s.cpu x.cpu) (sym same) (record {

@@ -6,14 +6,14 @@ use Rattle.std.proofs.Common.{ap, sym, subst, ◌∙◌}
 use Rattle.std.proofs.Math.ListN.{set}
 use Rattle.std.proofs.lemmas.List.{length-map, get_or_default, get_or-map, map-set, map-append, take-map, drop-map}
 use Rattle.cyc_timers.specs.Rows.{Row, Cyclic, IsRow, IsRising, HasNo, cyclic_of, cyclics_of}
-use Rattle.cyc_timers.specs.Ends.{IsEnd, IsCounted, IsHard}
+use Rattle.cyc_timers.specs.Ends.{IsEnd, IsCounted, IsHard, lock_and_low}
 use Rattle.cyc_types.specs.declared.Raise.{Ghosts as Raise}
 use Rattle.cyc_types.specs.Firing.{FiringView}
 use Rattle.cyc_types.specs.declared.level.Level.{Level}
 use Rattle.cyc_types.specs.declared.level.Level.TheVariants.{Low, Lock, High}
-use Rattle.cyc_cpu.specs.Calls.{CpuCall, Changes}
+use Rattle.cyc_cpu.specs.Calls.{CpuCall, CpuChanges}
 use Rattle.cyc_cpu.specs.Cpu.{IsPassed, ComesAfter, IsNextAfter}
-use Rattle.cyc_cpu.specs.Cpu.{CpuView, IsCyclic, HasNoCyclic, Asks, Looked, AreAdmitted, HasCounts, IsRemoved, HasRisingIds}
+use Rattle.cyc_cpu.specs.Cpu.{CpuView, IsCyclic, HasNoCyclic, Asks, Looked, AreAdmitted, HasCounts, IsRemoved, HasRisingCyclics}
 
 pub is_cyclic : (rows : List Row) (k : ℕ) (r : Row) → IsRow rows k r → IsCyclic (cyclics_of rows) k (cyclic_of r)
 is_cyclic rows k r is = (
@@ -37,8 +37,8 @@ asks_from firing id n u v w is a = subst (λ x. Asks firing id n x w) is a
 
 -- what a call does to a CPU, by what is inside it
 pub changes_from : {R : Type 0} (firing : Raise R) (call : CpuCall) (u v w : CpuView R)
-    → u ≡ v → Changes firing u call w → Changes firing v call w
-changes_from firing call u v w is a = subst (λ x. Changes firing x call w) is a
+    → u ≡ v → CpuChanges firing u call w → CpuChanges firing v call w
+changes_from firing call u v w is a = subst (λ x. CpuChanges firing x call w) is a
 
 pub looked_from : {R : Type 0} (firing : Raise R) (u v w : CpuView R) → u ≡ v
     → Looked firing u w → Looked firing v w
@@ -75,7 +75,7 @@ admitted_cyclics soft size marked v rows ready = record {
   over = ready.over;
 }
 
-pub rising_cyclics : (rows : List Row) → IsRising rows → HasRisingIds (cyclics_of rows)
+pub rising_cyclics : (rows : List Row) → IsRising rows → HasRisingCyclics (cyclics_of rows)
 rising_cyclics rows rising i j d less low =
     let e : Row = record { timer = d.timer; lost = d.lost; carried = d.carried; index = 0 } in
     let l = length-map rows cyclic_of in
@@ -94,7 +94,7 @@ counted_cyclics most rows counted k d low =
 
 -- the cyclic whose removal is open
 pub removed_cyclic : {R : Type 0} (view : R → FiringView) (size most : ℕ) (removal : Option ℕ) (lock low : R) (rows : List Row)
-    (id : ℕ) → IsHard view size most removal lock low rows → removal ≡ Some id → IsRemoved id (cyclics_of rows)
+    (id : ℕ) → IsHard view size most removal (lock_and_low lock low) rows → removal ≡ Some id → IsRemoved id (cyclics_of rows)
 removed_cyclic view size most removal lock low rows id h is = elim (h.is_open id is) [
   | inl m ↦ (let (k, r, row, named, at) = h.ready.lock_end.marked_here id m in (
     k,
@@ -116,7 +116,7 @@ removed_cyclic view size most removal lock low rows id h is = elim (h.is_open id
 
 -- no removal is open of an id that is not here
 pub not_removed : {R : Type 0} (view : R → FiringView) (size most : ℕ) (removal : Option ℕ) (lock low : R) (rows : List Row)
-    (id : ℕ) → IsHard view size most removal lock low rows → HasNo id rows → removal ≢ Some id
+    (id : ℕ) → IsHard view size most removal (lock_and_low lock low) rows → HasNo id rows → removal ≢ Some id
 not_removed view size most removal lock low rows id h none is = elim (h.is_open id is) [
   | inl m ↦ (let (k, r, row, named, at) = h.ready.lock_end.marked_here id m in absurd (no_row id rows k r none row named))
   | inr m ↦ (let (k, r, row, named, at) = h.ready.low_end.marked_here id m in absurd (no_row id rows k r none row named))

@@ -16,7 +16,7 @@ use Rattle.cyc_types.specs.declared.level.Level.TheVariants as level
 use Rattle.cyc_timers.specs.Rows.{Row, IsRow, HasNo, cyclic_of}
 use Rattle.cyc_cpu.specs.Cpu.{HasCounts}
 use Rattle.cyc_timers.specs.Acts.{same_level}
-use Rattle.cyc_timers.specs.Ends.{HasStay, HasRow, IsEnd, IsCounted, IsHard}
+use Rattle.cyc_timers.specs.Ends.{HasStay, HasRow, IsEnd, IsCounted, IsHard, lock_and_low}
 use Rattle.cyc_timers.specs.Quiet.{admits_at}
 use Rattle.cyc_timers.proofs.Readying.{some_same}
 
@@ -205,11 +205,12 @@ marks_same firing false id index e f g = ap (λ x. (firing.view x).marked) (sym 
 -- the CPU with one cyclic more
 pub hard_entered : {R : Type 0} (firing : Raise R) (size most : ℕ) (removal : Option ℕ)
     (lock low lock' low' : R) (rows : List Row) (q id index : ℕ) (own : Level) (u : Row) →
-    IsHard firing.view size most removal lock low rows → q ≤ length rows → HasNo id rows → removal ≢ Some id → u.timer.id ≡ id
+    IsHard firing.view size most removal (lock_and_low lock low) rows → q ≤ length rows → HasNo id rows → removal ≢ Some id
+    → u.timer.id ≡ id
     → u.timer.level ≡ own → u.index ≡ index → Carries u → u.lost ≤ u.timer.expired → u.timer.expired ≤ most →
     Goes firing lock (admits_at level.Lock own id index) lock' → Goes firing low (admits_at level.Low own id index) low'
     → (Sound (firing.view lock) → Sound (firing.view lock')) → (Sound (firing.view low) → Sound (firing.view low')) →
-    IsHard firing.view size most removal lock' low' (insert rows q u)
+    IsHard firing.view size most removal (lock_and_low lock' low') (insert rows q u)
 hard_entered firing size most removal lock low lock' low' rows q id index own u h bound none still named at indexed carries few
     less lock_goes low_goes sound_lock sound_low =
     let k = marks_same firing _ id index lock lock' lock_goes in
@@ -258,13 +259,13 @@ end_expanded soft size marked v w rows bank ready l sound = record {
 
 -- the CPU after a switch of both ends
 pub hard_expanded : {R : Type 0} (view : R → FiringView) (size size' most : ℕ) (removal : Option ℕ) (lock low lock' low' : R)
-    (rows : List Row) (bank : ℕ) → IsHard view size most removal lock low rows → size' ≡ 2 ^ bank →
+    (rows : List Row) (bank : ℕ) → IsHard view size most removal (lock_and_low lock low) rows → size' ≡ 2 ^ bank →
     Learns (view lock) (Expands bank) (view lock') → Sound (view lock') → Learns (view low) (Expands bank) (view low')
-    → Sound (view low') → IsHard view size' most removal lock' low' rows
+    → Sound (view low') → IsHard view size' most removal (lock_and_low lock' low') rows
 hard_expanded view size size' most removal lock low lock' low' rows bank h is k sk w sw =
     let mk = ap (λ (x : FiringView). x.marked) k in
     let mw = ap (λ (x : FiringView). x.marked) w in
-    subst (λ n. IsHard view n most removal lock' low' rows) (sym is) (record {
+    subst (λ n. IsHard view n most removal (lock_and_low lock' low') rows) (sym is) (record {
       ready = record {
         lock_end = subst (λ m. IsEnd level.Lock (2 ^ bank) m (view lock') rows) (sym mk)
             (end_expanded level.Lock size (view lock).marked (view lock) (view lock') rows bank h.ready.lock_end k sk);

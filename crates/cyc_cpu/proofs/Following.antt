@@ -35,17 +35,18 @@ use Rattle.cyc_types.specs.Expirations.{Expiration, all_after, expirations, time
 use Rattle.cyc_types.specs.Timers.{Timer}
 use Rattle.cyc_timers.specs.Rows.{Cyclic, timers}
 use Rattle.cyc_cpu.specs.declared.removing.Removal.TheVariants.{Done, Kept}
-use Rattle.cyc_timers.specs.Acts.{AreRaises, is_of, timer_of}
+use Rattle.cyc_timers.specs.Acts.{AreRaises, is_of_level, timer_of, acting}
+use Rattle.cyc_timers.specs.Made.{fire_state}
 use Rattle.cyc_timers.specs.Shares.{share}
 use Rattle.cyc_timers.specs.Quiet.{OnlyLooks, LoadsThenLooks}
 use Rattle.cyc_cpu.specs.Cpu.{CpuView, Running, sides, Makes, Asks, Looked, Reserves, Widens, Places, IsCyclic, HasNoCyclic}
-use Rattle.cyc_cpu.specs.Cpu.{AreAdmitted, HasRisingIds, with_moment}
+use Rattle.cyc_cpu.specs.Cpu.{AreAdmitted, HasRisingCyclics, with_moment}
 use Rattle.cyc_cpu.specs.Removal.{calls_at, EndGoes, Leaves}
 use Rattle.cyc_cpu.specs.Moving.{WhyNotTaken, Inquires}
 use Rattle.cyc_cpu.specs.Soft.{raise_tables, firing_at, held_at, end_at, drain_tables, SoftKept, Interrupts}
 use Rattle.cyc_cpu.specs.Calls.{Suspend, Resume}
 use Rattle.cyc_cpu.specs.Calls.{CpuCall, Fire, SoftInterrupt, Add, Place, Reprogram, AskPending, AskTotals, AskRoom, Reserve}
-use Rattle.cyc_cpu.specs.Calls.{Widen, BeginRemove, PollRemove, TakeNow, AskSettled, Changes, Does}
+use Rattle.cyc_cpu.specs.Calls.{Widen, BeginRemove, PollRemove, TakeNow, AskSettled, CpuChanges, CpuDoes}
 use Rattle.cyc_cpu.specs.Gone.{IsAbsent, IsGone, HasLeft, PutsNot, StaysGone}
 use Rattle.cyc_cpu.proofs.Gone.{off_of, absent_of, AreSpared, off_goes, none_served}
 use Rattle.cyc_cpu.proofs.Cleared.{goes_here, goes_not, level_cases}
@@ -155,11 +156,12 @@ no_timer id (c ∷ cs) none =
 
 no_share : (own : Level) (id : ℕ) (cs : List Cyclic) (made : List Expiration) → HasNoCyclic id cs
     → share own (timers cs) made id ≡ 0
-no_share own id cs made none = ap (λ o. cond (is_of own o) (times_of id made) 0) (no_timer id cs none)
+no_share own id cs made none = ap (λ o. cond (is_of_level own o) (times_of id made) 0) (no_timer id cs none)
 
 module _ {C : Type 0} (called : C → ℕ → C → Type 0) (count_of : C → ℕ → ℕ) (id : ℕ) where
   fire_gone : (s t : Running C Tables) (now : ℕ) (made : List Expiration) (lost : ℕ) (at : C) → IsGone id s.cpu
-      → Makes called count_of raise_tables now made s.cpu.cyclics t.cpu.cyclics (sides s.calls s.cpu) (sides at t.cpu) lost
+      → Makes (acting called count_of raise_tables) now made (fire_state s.cpu.cyclics (sides s.calls s.cpu))
+      (fire_state t.cpu.cyclics (sides at t.cpu)) lost
       → ((q : ℕ) → count_of t.calls q ≡ count_of at q) → StaysGone count_of id s t
   fire_gone s t now made lost at h m same = (
     record {
@@ -211,7 +213,7 @@ leaves_gone : (id j : ℕ) (way : List FiringCall) (c : Cyclic) (v w : CpuView T
     → Leaves raise_tables j way c v w → IsGone id w
 leaves_gone id j way c v w spared h l =
     goes_gone id c.timer.level way v w spared h l.goes
-    (subst (λ cs. HasNoCyclic id cs) (sym l.cyclics) (none_removed id v.cyclics l.place l.here.0 h.no_cyclic))
+    (subst (λ cs. HasNoCyclic id cs) (sym l.cyclics) (none_removed id v.cyclics l.position l.here.0 h.no_cyclic))
 
 widened_end : (id n m bank : ℕ) (a b : Tables) → IsAbsent id (level_of a) → (m ≤ n → b ≡ a)
     → (n < m → Goes raise_tables a (Expands bank ∷ []) b) → IsAbsent id (level_of b)
@@ -250,7 +252,7 @@ placed_gone : (id : ℕ) (v w : CpuView Tables) (c : Cyclic) → c.timer.id ≢ 
     → IsGone id w
 placed_gone id v w c not h p =
     goes_gone id c.timer.level (Admits c.timer.id p.index ∷ []) v w ((λ q. not (sym q)), tt) h (p.lock, p.low)
-    (subst (λ cs. HasNoCyclic id cs) (sym p.cyclics) (none_placed id v.cyclics p.place c p.within not h.no_cyclic))
+    (subst (λ cs. HasNoCyclic id cs) (sym p.cyclics) (none_placed id v.cyclics p.position c p.within not h.no_cyclic))
 
 inquired_gone : (id : ℕ) (v w : CpuView Tables) → IsGone id v → Inquires raise_tables v w → IsGone id w
 inquired_gone id v w h i = record {
@@ -274,11 +276,11 @@ not_taken_gone id j v w why.Pending h (still, some, n, more, a) = asked_gone id 
 not_taken_gone id j v w e h d = absurd d
 
 not_added_gone : (id own now : ℕ) (level : Level) (when : When) (v w : CpuView Tables) (e : Refusal) → IsGone id v
-    → Changes raise_tables v (Add own level when now (Err e)) w → IsGone id w
+    → CpuChanges raise_tables v (Add own level when now (Err e)) w → IsGone id w
 not_added_gone id own now level when v w why.BadNow h d = same_gone id v w h d.2
 not_added_gone id own now level when v w e h d = looked_gone id v w h d.2
 
-changes_gone : (id : ℕ) (v w : CpuView Tables) (call : CpuCall) → IsGone id v → PutsNot id call → Changes raise_tables v call w
+changes_gone : (id : ℕ) (v w : CpuView Tables) (call : CpuCall) → IsGone id v → PutsNot id call → CpuChanges raise_tables v call w
     → IsGone id w
 changes_gone id v w (Add own level when now (Ok done)) h not (absent, early, a) =
     placed_gone id a.widened w _ not (widened_gone id 1 a.reserved a.widened
@@ -302,7 +304,7 @@ changes_gone id v w (BeginRemove j (Ok (Done receipt))) h not (still, (c, counts
     leaves_gone id j _ c v w (tt, (tt, tt)) h l
 changes_gone id v w (BeginRemove j (Ok (Kept kept))) h not (still, o) =
     goes_gone id o.cyclic.timer.level (Marks j kept ∷ []) v w (tt, tt) h o.goes
-    (subst (λ cs. HasNoCyclic id cs) (sym o.cyclics) (none_changed id v.cyclics o.place never o.cyclic o.here h.no_cyclic))
+    (subst (λ cs. HasNoCyclic id cs) (sym o.cyclics) (none_changed id v.cyclics o.position never o.cyclic o.here h.no_cyclic))
 changes_gone id v w (BeginRemove j (Err e)) h not d = same_gone id v w h d.1
 changes_gone id v w (PollRemove (Some receipt)) h not e = leaves_gone id receipt.id _ e.cyclic v w (tt, tt) h e.leaves
 changes_gone id v w (PollRemove None) h not (inl d) = same_gone id v w h d.1
@@ -322,11 +324,11 @@ changes_gone id v w (SoftInterrupt soft budget answer) h not d = absurd d
 module _ {C : Type 0} (handler : Calls C) (id : ℕ) where
   -- a call of the CPU and its handlers
   abbrev Runs : Running C Tables → CpuCall → Running C Tables → Type 0
-  Runs s call t = Does handler raise_tables (Interrupts handler) s call t
+  Runs s call t = CpuDoes handler raise_tables (Interrupts handler) s call t
 
   -- a call that reaches no handler
   quiet_gone : (s t : Running C Tables) (call : CpuCall) → IsGone id s.cpu → PutsNot id call
-      → Changes raise_tables s.cpu call t.cpu × (t.calls ≡ s.calls) → StaysGone handler.count id s t
+      → CpuChanges raise_tables s.cpu call t.cpu × (t.calls ≡ s.calls) → StaysGone handler.count id s t
   quiet_gone s t call h not (d, same) = (changes_gone id s.cpu t.cpu call h not d, ap (λ (c : C). handler.count c id) same)
 
   pub stays_gone : (s t : Running C Tables) (call : CpuCall) → IsGone id s.cpu → PutsNot id call → Runs s call t
@@ -376,7 +378,7 @@ module _ {C : Type 0} (handler : Calls C) (id : ℕ) where
       (still, on ∙ same)
 
 -- one id, one cyclic
-pub one_cyclic : (cs : List Cyclic) (i k : ℕ) (c d : Cyclic) → HasRisingIds cs → IsCyclic cs i c → IsCyclic cs k d
+pub one_cyclic : (cs : List Cyclic) (i k : ℕ) (c d : Cyclic) → HasRisingCyclics cs → IsCyclic cs i c → IsCyclic cs k d
     → d.timer.id ≡ c.timer.id → d ≡ c
 one_cyclic cs i k c d rising (within, is) (within', is') same = elim (cases_eq k i) [
   | inl eq ↦ sym is' ∙ get_or_default cs k d c within' ∙ ap (λ j. get_or cs j c) eq ∙ is
@@ -389,7 +391,8 @@ one_cyclic cs i k c d rising (within, is) (within', is') same = elim (cases_eq k
 ]
 
 -- a cyclic that has left
-pub none_left : (cs : List Cyclic) (k : ℕ) (c : Cyclic) → HasRisingIds cs → IsCyclic cs k c → HasNoCyclic c.timer.id (remove cs k)
+pub none_left : (cs : List Cyclic) (k : ℕ) (c : Cyclic) → HasRisingCyclics cs → IsCyclic cs k c
+    → HasNoCyclic c.timer.id (remove cs k)
 none_left cs k c rising (within, is) j d low same =
     let n = length-remove cs k within in
     let a = ap (λ (x : Cyclic). x.timer.id) (get_or_default cs k c d within) in
@@ -431,7 +434,7 @@ not_stays : (o : Option AdmittedCyclic) → ((c : AdmittedCyclic) → o ≡ Some
 not_stays None never_there = refl
 not_stays (Some c) never_there = absurd (never_there c refl)
 
-module _ (id : ℕ) (v w : CpuView Tables) (c : Cyclic) (way : List FiringCall) (rising : HasRisingIds v.cyclics)
+module _ (id : ℕ) (v w : CpuView Tables) (c : Cyclic) (way : List FiringCall) (rising : HasRisingCyclics v.cyclics)
     (l : Leaves raise_tables id way c v w) where
   -- at the end of its level it was cleared, and at the other it never was
   end_left : (own : Level) (a b : Tables) → AreAdmitted own (firing_at a) v.cyclics → Lawful (level_of a) → ends_absent id a b way
@@ -442,7 +445,7 @@ module _ (id : ℕ) (v w : CpuView Tables) (c : Cyclic) (way : List FiringCall) 
         (let out : (level_of a).cyclics id ≡ None = not_stays ((level_of a).cyclics id) (λ x e.
         let (k, d, here, named, at) = admitted.only id (stay_of x) (ap (option_map stay_of) e) in
         off (ap (λ (y : Cyclic). y.timer.level) (sym
-        (one_cyclic v.cyclics l.place k c d rising l.here here (named ∙ sym l.named))) ∙ at)) in
+        (one_cyclic v.cyclics l.position k c d rising l.here here (named ∙ sym l.named))) ∙ at)) in
         subst (λ (x : Tables). IsAbsent id (level_of x)) (sym (goes_not raise_tables own c.timer.level a b way goes off))
         (record { not_admitted = out; nowhere = law.one_place id ∙ ap (λ o. one_if_any (count_in o)) out }))
   ]
@@ -452,12 +455,12 @@ module _ (id : ℕ) (v w : CpuView Tables) (c : Cyclic) (way : List FiringCall) 
       ((a b : Tables) → place_count (level_of a) id ≡ one_if_any (count (level_of a) id) → ends_absent id a b way) → IsGone id w
   left_gone lock low lock_law low_law ends = record {
     no_cyclic = subst (λ cs. HasNoCyclic id cs) (sym l.cyclics)
-        (subst (λ j. HasNoCyclic j (remove v.cyclics l.place)) l.named (none_left v.cyclics l.place c rising l.here));
+        (subst (λ j. HasNoCyclic j (remove v.cyclics l.position)) l.named (none_left v.cyclics l.position c rising l.here));
     lock = end_left level.Lock v.lock w.lock lock lock_law (ends v.lock w.lock (lock_law.one_place id)) l.goes.0;
     low = end_left level.Low v.low w.low low low_law (ends v.low w.low (low_law.one_place id)) l.goes.1;
   }
 
-module _ (id : ℕ) (v w : CpuView Tables) (rising : HasRisingIds v.cyclics)
+module _ (id : ℕ) (v w : CpuView Tables) (rising : HasRisingCyclics v.cyclics)
     (lock : AreAdmitted level.Lock (firing_at v.lock) v.cyclics) (low : AreAdmitted level.Low (firing_at v.low) v.cyclics)
     (lock_law : Lawful (level_of v.lock)) (low_law : Lawful (level_of v.low)) where
   pub answered_gone : HasLeft raise_tables id v w → IsGone id w

@@ -17,7 +17,7 @@ use Rattle.cyc_core.specs.Events.{hand_after_finish, as_list, first_of, rest_of,
 use Rattle.cyc_core.proofs.Maps.{hand_here, hand_else, times_append, mapped_none, cleared_none}
 use Rattle.cyc_core.specs.Reached.{Happens}
 use Rattle.cyc_core.specs.Tables.{Tables, level_of}
-use Rattle.cyc_core.specs.FiringSide.{Fires}
+use Rattle.cyc_core.specs.FiringSide.{FiringDoes}
 use Rattle.cyc_core.specs.DrainingSide.{Drains, take_events}
 use Rattle.cyc_soft.specs.Serving.{Served, ids, way_of}
 use Rattle.cyc_cpu.specs.Gone.{IsAbsent}
@@ -188,7 +188,7 @@ abbrev pub AreSpared : ℕ → List FiringCall → Type 0
 AreSpared id [] = Unit {0}
 AreSpared id (call ∷ way) = Spared id call × AreSpared id way
 
-off_fires : (id : ℕ) (l m : SoftLevel) (call : FiringCall) → Spared id call → Off id l → Fires l call m → Off id m
+off_fires : (id : ℕ) (l m : SoftLevel) (call : FiringCall) → Spared id call → Off id l → FiringDoes l call m → Off id m
 off_fires id l m (Admits j index) ne h f = off_admit id l m h j index ne f
 off_fires id l m (Loads j pend) ne h f = subst (Off id) (sym f.1) h
 off_fires id l m (Raises j First) ne h ((a, first, (b, second, last)), empty) =

@@ -10,7 +10,7 @@ use Rattle.cyc_timers.specs.Rows.{Row, IsRow, IsRising, vacant_row}
 use Rattle.std.specs.Prelude.{is_some, ◌⊎◌}
 use Rattle.std.specs.Bool.{OnTrue, OnFalse}
 use Rattle.cyc_cpu.specs.Cpu.{CpuView}
-use Rattle.cyc_cpu.specs.Calls.{Changes, AskSettled}
+use Rattle.cyc_cpu.specs.Calls.{CpuChanges, AskSettled}
 use Rattle.cyc_cpu.specs.Moving.{IsSettled, Inquires}
 use Rattle.cyc_types.proofs.Runs.{goes_on}
 use Rattle.std.proofs.lemmas.List.{map-append, get_or_default}
@@ -203,7 +203,7 @@ some_not_none (Some n) h e = (let wrong : Some n ≡ None = e in cc)
 
 module _ {R : Type 0} (firing : Raise R) where
   pub settled_either : (v w : CpuView R) (b : Bool) → Inquires firing v w → OnTrue b (IsSettled firing.view w)
-      → OnFalse b (IsSettled firing.view w → ⊥) → Changes firing v (AskSettled b) w
+      → OnFalse b (IsSettled firing.view w → ⊥) → CpuChanges firing v (AskSettled b) w
   settled_either v w true i settled unsettled = (i, settled)
   settled_either v w false i settled unsettled = (i, unsettled)
 

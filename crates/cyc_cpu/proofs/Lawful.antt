@@ -14,8 +14,8 @@ use Rattle.cyc_types.proofs.Dues.{due_later}
 use Rattle.cyc_types.proofs.Laws.{times_expirations}
 use Rattle.cyc_types.specs.Counting.{no_counts}
 use Rattle.cyc_timers.specs.Rows.{Row, Cyclic, IsRow, IsRising, timers, cyclic_of, cyclics_of}
-use Rattle.cyc_cpu.specs.Cpu.{HasCounts, HasRisingIds, IsRemoved}
-use Rattle.cyc_timers.specs.Ends.{IsEnd, IsHard}
+use Rattle.cyc_cpu.specs.Cpu.{HasCounts, HasRisingCyclics, IsRemoved}
+use Rattle.cyc_timers.specs.Ends.{IsEnd, IsHard, lock_and_low}
 use Rattle.cyc_cpu.specs.Losses.{IsUnder, IsSpared}
 use Rattle.cyc_cpu.specs.Laws.{IsLawful}
 use Rattle.cyc_cpu.proofs.Cyclics.{admitted_cyclics, rising_cyclics, counted_cyclics, removed_cyclic}
@@ -32,7 +32,7 @@ under_end soft size marked v rows k r ready is at under =
     ]
 
 -- different cyclics have different ids
-pub distinct_ids : (cs : List Cyclic) → HasRisingIds cs → HasDistinctIds (timers cs)
+pub distinct_ids : (cs : List Cyclic) → HasRisingCyclics cs → HasDistinctIds (timers cs)
 distinct_ids cs rising i j d low_i low_j same =
     let l = length-map cs (λ (c : Cyclic). c.timer) in
     let e : Cyclic = record { timer = d; lost = 0; carried = no_counts } in
@@ -49,7 +49,7 @@ distinct_ids cs rising i j d low_i low_j same =
     ]
 
 -- a cyclic whose removal is open is never due
-pub removed_never : (id now : ℕ) (cs : List Cyclic) → HasRisingIds cs → IsRemoved id cs → now < never
+pub removed_never : (id now : ℕ) (cs : List Cyclic) → HasRisingCyclics cs → IsRemoved id cs → now < never
     → times_of id (expirations now (timers cs)) ≡ 0
 removed_never id now cs rising (k, c, (within, is), named, soft, still) early =
     let l = length-map cs (λ (c : Cyclic). c.timer) in
@@ -62,7 +62,7 @@ removed_never id now cs rising (k, c, (within, is), named, soft, still) early =
     ∙ due_later c.timer.moment c.timer.interval now (omega (arith, early, still))
 
 module _ {R : Type 0} (view : R → FiringView) (size room most : ℕ) (removal : Option ℕ) (lock low : R) (rows : List Row)
-    (h : IsHard view size most removal lock low rows) (rising : IsRising rows) where
+    (h : IsHard view size most removal (lock_and_low lock low) rows) (rising : IsRising rows) where
   -- a cyclic that is under its ceiling has lost nothing here
   pub spared_row : (k : ℕ) (r : Row) → IsRow rows k r → IsSpared (view lock).ceiling (view low).ceiling (cyclic_of r)
   spared_row k r is = by_level r.timer.level refl

@@ -45,13 +45,13 @@ module _ {R : Type 0} (firing : Raise R) (id : ℕ) (v w : CpuView R)
           ∙ none_there ((firing.view e).stays id) (λ s h.
           (let (k, d, here, named, at) = admitted.only id s h in
           off (ap (λ (y : Cyclic). y.timer.level) (sym
-          (one_cyclic v.cyclics l.place k c d law.rising l.here here (named ∙ sym l.named))) ∙ at)))
+          (one_cyclic v.cyclics l.position k c d law.rising l.here here (named ∙ sym l.named))) ∙ at)))
     ]
 
     left_off : IsOff firing.view id w
     left_off = record {
       no_cyclic = subst (λ cs. HasNoCyclic id cs) (sym l.cyclics)
-          (subst (λ j. HasNoCyclic j (remove v.cyclics l.place)) l.named (none_left v.cyclics l.place c law.rising l.here));
+          (subst (λ j. HasNoCyclic j (remove v.cyclics l.position)) l.named (none_left v.cyclics l.position c law.rising l.here));
       lock = end_off level.Lock v.lock w.lock law.lock l.goes.0;
       low = end_off level.Low v.low w.low law.low l.goes.1;
     }

@@ -14,10 +14,10 @@ use Rattle.cyc_types.specs.declared.level.Level.{Level}
 use Rattle.cyc_types.specs.declared.level.Level.TheVariants as level
 use Rattle.cyc_timers.specs.Rows.{Row, Cyclic, IsRow, IsRising, at_moment, cyclic_of, cyclics_of}
 use Rattle.cyc_timers.specs.Acts.{same_level}
-use Rattle.cyc_timers.specs.Ends.{HasRow, IsEnd, IsCounted, IsHard}
+use Rattle.cyc_timers.specs.Ends.{HasRow, IsEnd, IsCounted, IsHard, lock_and_low}
 use Rattle.cyc_timers.specs.Quiet.{KeepsStays}
 use Rattle.cyc_cpu.specs.Cpu.{CpuView, HasCounts}
-use Rattle.cyc_cpu.specs.Removal.{calls_at, HasPolled, Opens, Leaves, Waits, Ends, IsReceipt}
+use Rattle.cyc_cpu.specs.Removal.{calls_at, HasPolled, Opens, Leaves, WaitsHere, Ends, IsReceipt}
 use Rattle.cyc_types.specs.declared.receipt.Receipt.{Receipt}
 use Rattle.cyc_timers.proofs.Readying.{Keeps, row_cases, row_new, ids_apart, end_moved, counted_moved, end_kept, loads_keep}
 use Rattle.cyc_timers.proofs.Readying.{keeps_itself}
@@ -99,9 +99,10 @@ module _ {R : Type 0} (view : R → FiringView) (size : ℕ) (rows : List Row) (
   ]
 
   -- the CPU without a cyclic
-  pub hard_left : (most : ℕ) (removal : Option ℕ) (lock low lock' low' : R) → IsHard view size most removal lock low rows →
+  pub hard_left : (most : ℕ) (removal : Option ℕ) (lock low lock' low' : R)
+      → IsHard view size most removal (lock_and_low lock low) rows →
       EndLeft view level.Lock r.timer.level r.timer.id lock lock' → EndLeft view level.Low r.timer.level r.timer.id low low'
-      → IsHard view size most None lock' low' (remove rows k)
+      → IsHard view size most None (lock_and_low lock' low') (remove rows k)
   hard_left most removal lock low lock' low' h a b =
       let (lock_end, no_lock) = end_after level.Lock lock lock' h.ready.lock_end a in
       let (low_end, no_low) = end_after level.Low low low' h.ready.low_end b in
@@ -120,7 +121,7 @@ no_mark (Some id) removal h none = absurd (let yes : removal ≡ Some id = h id 
 -- an open removal is marked at the end of its cyclic's level, and at no other
 module _ {R : Type 0} (view : R → FiringView) (size most : ℕ) (removal : Option ℕ) (lock low : R) (rows : List Row) (k : ℕ)
     (r : Row)
-    (h : IsHard view size most removal lock low rows) (rising : IsRising rows) (is : IsRow rows k r)
+    (h : IsHard view size most removal (lock_and_low lock low) rows) (rising : IsRising rows) (is : IsRow rows k r)
     (removed : removal ≡ Some r.timer.id) where
   at_its_level : (level : Level) → HasRow level r.timer.id rows → r.timer.level ≡ level
   at_its_level level (j, x, is_x, named, at) = ap (λ (y : Row). y.timer.level) (sym (one_row rows k j r x rising is is_x named))
@@ -246,11 +247,13 @@ module _ {R : Type 0} (firing : Raise R) (size : ℕ) (rows : List Row) (k n : �
       ]
 
   -- the CPU with a removal that stays open
-  pub hard_opened : (most : ℕ) (removal : Option ℕ) (lock low lock' low' : R) → IsHard firing.view size most removal lock low rows
+  pub hard_opened : (most : ℕ) (removal : Option ℕ) (lock low lock' low' : R)
+      → IsHard firing.view size most removal (lock_and_low lock low) rows
       → removal ≡ None → r.timer.level ≢ level.High →
       Goes firing lock (calls_at level.Lock r.timer.level (Marks r.timer.id n ∷ [])) lock'
       → Goes firing low (calls_at level.Low r.timer.level (Marks r.timer.id n ∷ [])) low' →
-      Sound (firing.view lock') → Sound (firing.view low') → IsHard firing.view size most (Some r.timer.id) lock' low'
+      Sound (firing.view lock') → Sound (firing.view low') → IsHard firing.view size most (Some r.timer.id) (lock_and_low lock'
+      low')
       (set rows k u)
   hard_opened most removal lock low lock' low' h none soft a b sound_lock sound_low =
       let (lock_end, lock_yes, lock_no) = end_opened level.Lock lock lock' h.ready.lock_end
@@ -324,8 +327,8 @@ module _ {R : Type 0} (firing : Raise R) where
       → Leaves firing id way c v w
   leaves_from id way c u v w is a = subst (λ x. Leaves firing id way c x w) is a
 
-  pub waits_from : (id : ℕ) (u v w : CpuView R) → u ≡ v → Waits firing id u w → Waits firing id v w
-  waits_from id u v w is a = subst (λ x. Waits firing id x w) is a
+  pub waits_from : (id : ℕ) (u v w : CpuView R) → u ≡ v → WaitsHere firing id u w → WaitsHere firing id v w
+  waits_from id u v w is a = subst (λ x. WaitsHere firing id x w) is a
 
   pub ends_from : (receipt : Receipt) (id : ℕ) (c : Cyclic) (counts : Sent) (u v w : CpuView R) → u ≡ v → u.removal ≡ Some id
       → receipt.id ≡ id → IsReceipt receipt c → HasPolled firing.view counts v c →

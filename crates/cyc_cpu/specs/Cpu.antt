@@ -1,11 +1,12 @@
 -- What callers see of the firing side of one CPU.
-use Rattle.std.specs.Prelude.{◌≡◌, ◌≢◌, ℕ, zero, suc, ◌+◌, ◌^◌, nat_le, cond, insert, ◌<◌, ◌≤◌, max, List, length, slice_index_or}
+use Rattle.std.specs.Prelude.{◌≡◌, ◌≢◌, ℕ, ◌+◌, ◌^◌, nat_le, cond, insert, ◌<◌, ◌≤◌, max, List, length, slice_index_or}
 use Rattle.std.specs.Prelude.{All, Bool, true, false, ◌⊎◌, Option, Some, None}
 use Rattle.cyc_types.specs.declared.Raise.{Ghosts as Raise}
 use Rattle.cyc_types.specs.Firing.{FiringView, Expands, Stay, IsAdmitted, seen_of}
 use Rattle.cyc_types.specs.Series.{never}
-use Rattle.cyc_types.specs.Limits.{cyclics as most_cyclics, greatest_bank}
+use Rattle.cyc_types.specs.Limits.{cyclics as most_cyclics}
 use Rattle.cyc_types.specs.Runs.{Goes, Taught}
+pub use Rattle.cyc_types.specs.Banks.{least_bank, bank_for}
 use Rattle.cyc_types.specs.declared.level.Level.{Level}
 use Rattle.cyc_types.specs.declared.level.Level.TheVariants.{Low, Lock, High}
 use Rattle.cyc_types.specs.declared.refusal.Refusal.{Refusal}
@@ -13,6 +14,7 @@ use Rattle.cyc_types.specs.declared.refusal.Refusal.TheVariants as why
 use Rattle.cyc_timers.specs.Rows.{Cyclic}
 use Rattle.cyc_timers.specs.Quiet.{asks_at, admits_at, OnlyLooks}
 use Rattle.cyc_timers.specs.Acts.{Sides}
+use Rattle.cyc_timers.specs.Made.{FireState, fire_state}
 pub use Rattle.cyc_timers.specs.Made.{Makes, WhyStopped, HasCounts}
 pub use Rattle.cyc_timers.specs.Rows.{Rises, IsAt, IsPassed, ComesAfter, IsNextAfter}
 
@@ -45,6 +47,10 @@ running calls v = record { cpu = v; calls = calls }
 abbrev pub sides : {C R : Type 0} → C → CpuView R → Sides C R
 sides calls v = record { calls = calls; lock = v.lock; low = v.low }
 
+-- what a fire changes of these
+abbrev pub fired_on : {C R : Type 0} → C → CpuView R → FireState C R
+fired_on calls v = fire_state v.cyclics (sides calls v)
+
 -- what was seen of a cyclic at the two ends: at least its outstanding calls
 abbrev pub seen_at : {R : Type 0} → (R → FiringView) → ℕ → CpuView R → ℕ
 seen_at view id v = seen_of id (view v.lock) + seen_of id (view v.low)
@@ -64,7 +70,7 @@ pub record IsFresh (v : FiringView) : Type 0 where
   pub bank : v.bank ≡ 0
   pub free : v.hand_free ≡ true
 
--- the cyclic at a place
+-- the cyclic at a position
 abbrev pub IsCyclic : List Cyclic → ℕ → Cyclic → Type 0
 IsCyclic cs k c = (k < length cs) × (slice_index_or cs k c ≡ c)
 
@@ -86,8 +92,8 @@ abbrev pub IsRemoved : ℕ → List Cyclic → Type 0
 IsRemoved id cs = (k : ℕ) × (c : Cyclic) × IsCyclic cs k c × (c.timer.id ≡ id) × (c.timer.level ≢ High) × (c.timer.moment ≡ never)
 
 -- the ids of the cyclics rise
-abbrev pub HasRisingIds : List Cyclic → Type 0
-HasRisingIds cs = (i j : ℕ) (d : Cyclic) → i < j → j < length cs
+abbrev pub HasRisingCyclics : List Cyclic → Type 0
+HasRisingCyclics cs = (i j : ℕ) (d : Cyclic) → i < j → j < length cs
     → (slice_index_or cs i d).timer.id < (slice_index_or cs j d).timer.id
 
 -- the cyclic with another moment
@@ -97,9 +103,9 @@ with_moment m c = record c { timer = record c.timer { moment = m } }
 -- the cyclic was asked for at its end, which answered so many calls outstanding; nothing else was done
 pub record Asks {R : Type 0} (firing : Raise R) (id n : ℕ)
     (v w : CpuView R) : Type 0 where
-  pub place : ℕ
+  pub position : ℕ
   pub cyclic : Cyclic
-  pub here : IsCyclic v.cyclics place cyclic
+  pub here : IsCyclic v.cyclics position cyclic
   pub named : cyclic.timer.id ≡ id
   pub high : cyclic.timer.level ≡ High → n ≡ 0
   pub lock : Goes firing v.lock (asks_at Lock cyclic.timer.level id n) w.lock
@@ -132,15 +138,6 @@ WhyNoRoom view more v why.Expanding = (length v.cyclics + more ≤ most_cyclics)
     × (v.removal ≡ None)
     × (((view v.lock).followed ≡ false) ⊎ ((view v.low).followed ≡ false))
 WhyNoRoom view more v e = ⊥
-
--- the least bank from k on that has n slots, among so many more
-abbrev pub least_bank : ℕ → ℕ → ℕ → ℕ
-least_bank zero k n = k
-least_bank (suc more) k n = cond (nat_le n (2 ^ k)) k (least_bank more (k + 1) n)
-
--- the least bank that has n slots
-abbrev pub bank_for : ℕ → ℕ
-bank_for n = least_bank greatest_bank 0 n
 
 -- the size that a CPU of this size needs for n cyclics: its own where that is enough (`cyclic_expand` doubles)
 abbrev pub size_for : ℕ → ℕ → ℕ
@@ -198,14 +195,14 @@ cyclic_with id level interval moment expired lost =
 abbrev pub new_cyclic : ℕ → Level → ℕ → ℕ → Cyclic
 new_cyclic id level interval moment = cyclic_with id level interval moment 0 0
 
--- the cyclic stands at its place among the others, and is admitted at the end of its level
+-- the cyclic stands at its position among the others, and is admitted at the end of its level
 pub record Places {R : Type 0} (firing : Raise R) (c : Cyclic)
     (v w : CpuView R) : Type 0 where
-  pub place : ℕ
+  pub position : ℕ
   pub index : ℕ
-  pub within : place ≤ length v.cyclics
-  pub cyclics : w.cyclics ≡ insert v.cyclics place c
-  pub rising : HasRisingIds w.cyclics
+  pub within : position ≤ length v.cyclics
+  pub cyclics : w.cyclics ≡ insert v.cyclics position c
+  pub rising : HasRisingCyclics w.cyclics
   pub lock : Goes firing v.lock (admits_at Lock c.timer.level c.timer.id index) w.lock
   pub low : Goes firing v.low (admits_at Low c.timer.level c.timer.id index) w.low
   pub kept : SameCpu v w

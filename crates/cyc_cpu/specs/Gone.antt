@@ -8,7 +8,7 @@ use Rattle.cyc_core.specs.Tables.{Tables, level_of}
 use Rattle.cyc_cpu.specs.declared.removing.Removal.TheVariants.{Done}
 use Rattle.cyc_cpu.specs.Cpu.{CpuView, Running, HasNoCyclic}
 use Rattle.cyc_cpu.specs.declared.moving.Taken.{Taken}
-use Rattle.cyc_cpu.specs.Removal.{Begins, Ends}
+use Rattle.cyc_cpu.specs.Removal.{BeginsHere, Ends}
 use Rattle.cyc_cpu.specs.Moving.{TakesNow}
 use Rattle.cyc_cpu.specs.Calls.{CpuCall, Add, Place}
 
@@ -26,7 +26,7 @@ pub record IsGone (id : ℕ) (v : CpuView Tables) : Type 0 where
 -- the cyclic of this id has left: its removal has answered, as it began or at a poll, or it was taken to another CPU
 abbrev pub HasLeft : {R : Type 0} → Raise R
     → ℕ → CpuView R → CpuView R → Type 0
-HasLeft firing id v w = ((receipt : Receipt) × Begins firing id v (Done receipt) w)
+HasLeft firing id v w = ((receipt : Receipt) × BeginsHere firing id v (Done receipt) w)
     ⊎ ((receipt : Receipt) × (receipt.id ≡ id) × Ends firing receipt v w)
     ⊎ ((taken : Taken) × TakesNow firing id taken v w)
 

@@ -7,12 +7,12 @@ use Rattle.cyc_types.specs.declared.level.Level.TheVariants.{Low, Lock}
 use Rattle.cyc_types.specs.Expirations.{expirations, times_of}
 use Rattle.cyc_types.specs.Timers.{HasDistinctIds}
 use Rattle.cyc_timers.specs.Rows.{timers}
-use Rattle.cyc_cpu.specs.Cpu.{CpuView, AreAdmitted, HasCounts, HasRisingIds, IsRemoved}
+use Rattle.cyc_cpu.specs.Cpu.{CpuView, AreAdmitted, HasCounts, HasRisingCyclics, IsRemoved}
 use Rattle.cyc_cpu.specs.Losses.{IsSpared}
 
 -- what is true of every CPU
 pub record IsLawful {R : Type 0} (view : R → FiringView) (v : CpuView R) : Type 0 where
-  pub rising : HasRisingIds v.cyclics
+  pub rising : HasRisingCyclics v.cyclics
   pub distinct : HasDistinctIds (timers v.cyclics)
   pub counted : All (HasCounts v.most) v.cyclics
   -- the cyclics of each soft level are those admitted at its end

@@ -30,11 +30,11 @@ EndGoes firing own way v w = Goes firing v.lock (calls_at Lock own way) w.lock
 -- this cyclic has left, and no other: the end of its level went this way, and no removal is open
 pub record Leaves {R : Type 0} (firing : Raise R) (id : ℕ) (way : List FiringCall)
     (c : Cyclic) (v w : CpuView R) : Type 0 where
-  pub place : ℕ
-  pub here : IsCyclic v.cyclics place c
+  pub position : ℕ
+  pub here : IsCyclic v.cyclics position c
   pub named : c.timer.id ≡ id
   pub goes : EndGoes firing c.timer.level way v w
-  pub cyclics : w.cyclics ≡ remove v.cyclics place
+  pub cyclics : w.cyclics ≡ remove v.cyclics position
   pub removal : w.removal ≡ None
   pub size : w.size ≡ v.size
   pub room : w.room ≡ v.room
@@ -44,14 +44,14 @@ pub record Leaves {R : Type 0} (firing : Raise R) (id : ℕ) (way : List FiringC
 -- the removal of this cyclic is open: so many calls of it are kept, and it never expires
 pub record Opens {R : Type 0} (firing : Raise R) (id kept : ℕ)
     (v w : CpuView R) : Type 0 where
-  pub place : ℕ
+  pub position : ℕ
   pub cyclic : Cyclic
-  pub here : IsCyclic v.cyclics place cyclic
+  pub here : IsCyclic v.cyclics position cyclic
   pub named : cyclic.timer.id ≡ id
   pub soft : cyclic.timer.level ≢ High
   pub some : 0 < kept
   pub goes : EndGoes firing cyclic.timer.level (Marks id kept ∷ []) v w
-  pub cyclics : w.cyclics ≡ slice_set v.cyclics place (with_moment never cyclic)
+  pub cyclics : w.cyclics ≡ slice_set v.cyclics position (with_moment never cyclic)
   pub removal : w.removal ≡ Some id
   pub size : w.size ≡ v.size
   pub room : w.room ≡ v.room
@@ -69,10 +69,10 @@ abbrev pub IsReceipt : Receipt → Cyclic → Type 0
 IsReceipt receipt c = (receipt.id ≡ c.timer.id) × (receipt.sent ≡ c.timer.expired) × (receipt.lost ≡ c.lost)
 
 -- a removal is done exactly where the mark found nothing outstanding (`cyclic_remove_here`)
-abbrev pub Begins : {R : Type 0} → Raise R → ℕ → CpuView R → Removal → CpuView R → Type 0
-Begins firing id v (Done receipt) w = (c : Cyclic) × (counts : Sent) × IsReceipt receipt c × HasPolled firing.view counts v c
+abbrev pub BeginsHere : {R : Type 0} → Raise R → ℕ → CpuView R → Removal → CpuView R → Type 0
+BeginsHere firing id v (Done receipt) w = (c : Cyclic) × (counts : Sent) × IsReceipt receipt c × HasPolled firing.view counts v c
     × Leaves firing id (Marks id 0 ∷ Polls id (Some counts) ∷ []) c v w
-Begins firing id v (Kept kept) w = Opens firing id kept v w
+BeginsHere firing id v (Kept kept) w = Opens firing id kept v w
 
 -- the open removal has ended: the poll found nothing outstanding
 pub record Ends {R : Type 0} (firing : Raise R) (receipt : Receipt)
@@ -85,11 +85,11 @@ pub record Ends {R : Type 0} (firing : Raise R) (receipt : Receipt)
   pub leaves : Leaves firing receipt.id (Polls receipt.id (Some counts) ∷ []) cyclic v w
 
 -- the open removal of this cyclic goes on: the poll found calls outstanding
-pub record Waits {R : Type 0} (firing : Raise R) (id : ℕ)
+pub record WaitsHere {R : Type 0} (firing : Raise R) (id : ℕ)
     (v w : CpuView R) : Type 0 where
-  pub place : ℕ
+  pub position : ℕ
   pub cyclic : Cyclic
-  pub here : IsCyclic v.cyclics place cyclic
+  pub here : IsCyclic v.cyclics position cyclic
   pub named : cyclic.timer.id ≡ id
   pub goes : EndGoes firing cyclic.timer.level (Polls id None ∷ []) v w
   pub cyclics : w.cyclics ≡ v.cyclics

@@ -9,7 +9,7 @@ use Rattle.cyc_types.specs.declared.level.Soft.{Soft}
 use Rattle.cyc_types.specs.declared.level.Soft.TheVariants.{Low, Lock}
 use Rattle.cyc_core.specs.Tables.{Tables, level_of}
 use Rattle.cyc_types.specs.Firing.{FiringView, FiringCall}
-use Rattle.cyc_core.specs.FiringSide.{firing_view, Fires}
+use Rattle.cyc_core.specs.FiringSide.{firing_view, FiringDoes}
 use Rattle.cyc_core.specs.DrainingSide.{Drains, held_of, done_of}
 use Rattle.cyc_soft.specs.declared.Ran.{Ran}
 use Rattle.cyc_soft.specs.declared.SoftRefused.{SoftRefused}
@@ -28,7 +28,7 @@ end_beside Lock v = v.low
 
 -- a call of the firing side of a level that no other thread uses
 abbrev pub fires : Tables → FiringCall → Tables → Type 0
-fires a call b = Fires (level_of a) call (level_of b)
+fires a call b = FiringDoes (level_of a) call (level_of b)
 
 -- a call of the soft side of a level that no other thread uses
 abbrev pub drains : Tables → DrainCall → Tables → Type 0

@@ -7,13 +7,13 @@ ghost use Rattle.cyc_types.specs.Limits.{cyclics};
 ghost use Rattle.cyc_types.specs.declared.level.Level.TheVariants.{Low, Lock};
 ghost use Rattle.cyc_types.specs.Series.{never, first};
 ghost use Rattle.cyc_types.specs.declared.refusal.Refusal.TheVariants.{Memory, BadNow, NoCyclic, Suspended};
-ghost use Rattle.cyc_types.specs.Timers.{earliest, IsSound};
+ghost use Rattle.cyc_types.specs.Timers.{earliest, IsSoundTimer};
 ghost use Rattle.cyc_types.specs.Expirations.{Expiration, expirations};
 ghost use Rattle.cyc_timers.specs.Rows.{Cyclic, timers};
 ghost use Rattle.cyc_cpu.specs.Laws.{IsLawful};
 ghost use Rattle.cyc_cpu.specs.Losses.{IsSparedAt};
 ghost use Rattle.cyc_cpu.specs.Cpu.{running, seen_at, IsCyclic, IsFresh, HasNoCyclic, Asks, MayWiden, Places, new_cyclic};
-ghost use Rattle.cyc_cpu.specs.Calls.{Changes, Does, no_interrupts, Fire, Add, Reprogram, AskPending, AskTotals, AskRoom};
+ghost use Rattle.cyc_cpu.specs.Calls.{CpuChanges, CpuDoes, no_interrupts, Fire, Add, Reprogram, AskPending, AskTotals, AskRoom};
 ghost use Rattle.cyc_cpu.specs.Calls.{Reserve, Widen};
 
 use crate::ends::{both_followed, least_bank, load_pend, places_of};
@@ -47,7 +47,7 @@ pub struct Hard<R: Raise> {
 impl<R: Raise> Model for Hard<R> {
     ghost use Rattle.cyc_timers.specs.Rows.{cyclics_of};
     ghost use Rattle.cyc_cpu.specs.Cpu.{CpuView};
-    ghost use Rattle.cyc_timers.specs.Ends.{IsHard};
+    ghost use Rattle.cyc_timers.specs.Ends.{IsHard, lock_and_low};
 
     ghost Value = { CpuView R };
 
@@ -63,7 +63,7 @@ impl<R: Raise> Model for Hard<R> {
       low = h.low;
     } };
 
-    ghost invariant = { λ h. IsHard R.view h.table.size h.most h.removal h.lock h.low h.table.rows };
+    ghost invariant = { λ h. IsHard R.view h.table.size h.most h.removal (lock_and_low h.lock h.low) h.table.rows };
 }
 
 /// A fire that made nothing is refused.
@@ -146,7 +146,7 @@ impl<R: Raise> Hard<R> {
 
     /// Each cyclic as a fire takes it: its next expiration is a moment, and its interval is one. It does nothing when it runs.
     pub fn timers_law(&self)
-        ensures { All IsSound (timers self.now.cyclics) }
+        ensures { All IsSoundTimer (timers self.now.cyclics) }
     {
         self.table.law();
     }
@@ -168,13 +168,13 @@ impl<R: Raise> Hard<R> {
     /// Makes every expiration that is due at `now`, in the order of their moments and ids (`cyclic_fire`). At high level the
     /// handler is called, at a soft level the pend is raised.
     ///
-    /// Refuses with Suspended while the CPU is suspended, then with BadNow where `now` is never. An expiration of a cyclic that has
-    /// expired `most` times is refused with CountSpent, and one whose handler refuses with HandlerRefused; those before it were made.
-    /// Takes no memory.
+    /// Refuses with Suspended while the CPU is suspended, then with BadNow where `now` is never. An expiration of a cyclic that
+    /// has expired `most` times is refused with CountSpent, and one whose handler refuses with HandlerRefused; those before it
+    /// were made. Takes no memory.
     pub fn fire<C: Calls>(&mut self, now: Moment, calls: &mut C) -> Result<Fired, FireRefused>
-        // The whole list was made, or it was made up to an expiration that was refused; while the CPU is suspended, or at the moment
-        // that is never, nothing.
-        ensures { Does C.Calls R.Raise no_interrupts (running calls.old self.old) (Fire now result)
+        // The whole list was made, or it was made up to an expiration that was refused; while the CPU is suspended, or at the
+        // moment that is never, nothing.
+        ensures { CpuDoes C.Calls R.Raise no_interrupts (running calls.old self.old) (Fire now result)
             (running calls.new self.new) }
     {
         if self.suspended {
@@ -196,7 +196,7 @@ impl<R: Raise> Hard<R> {
     /// Gives the cyclic another next expiration, and changes nothing else (`cyclic_reprogram`). Refuses with NoCyclic where
     /// the id is not here, or its removal is open. Takes no memory.
     pub fn reprogram(&mut self, id: CyclicId, moment: Moment) -> Result<(), Refusal>
-        ensures { Changes R.Raise self.old (Reprogram id moment result) self.new }
+        ensures { CpuChanges R.Raise self.old (Reprogram id moment result) self.new }
     {
         let _ = moment.nanoseconds();
         if self.is_removed(id) {
@@ -209,12 +209,13 @@ impl<R: Raise> Hard<R> {
         self.reprogram_anew(id, moment)
     }
 
-    /// As `reprogram`, of a cyclic whose removal is not open and that two looks did not find: out of the way of one that they find.
+    /// As `reprogram`, of a cyclic whose removal is not open and that two looks did not find: out of the way of one that they
+    /// find.
     #[cold]
     #[inline(never)]
     fn reprogram_anew(&mut self, id: CyclicId, moment: Moment) -> Result<(), Refusal>
         requires { self.old.removal ≢ Some id }
-        ensures { Changes R.Raise self.old (Reprogram id moment result) self.new }
+        ensures { CpuChanges R.Raise self.old (Reprogram id moment result) self.new }
     {
         match self.table.seek(id) {
             Some(index) => {
@@ -227,7 +228,7 @@ impl<R: Raise> Hard<R> {
 
     /// The calls of the cyclic that are outstanding, 0 at high level. None where the id is not here. Takes no memory.
     pub fn pending(&mut self, id: CyclicId) -> Option<u32>
-        ensures { Changes R.Raise self.old (AskPending id result) self.new }
+        ensures { CpuChanges R.Raise self.old (AskPending id result) self.new }
     {
         let (_, pend) = self.ask(id)?;
         Some(pend)
@@ -236,7 +237,7 @@ impl<R: Raise> Hard<R> {
     /// The counts of the cyclic, with those that it carried in, and its calls that are outstanding. None where the id is
     /// not here. Takes no memory.
     pub fn totals(&mut self, id: CyclicId) -> Option<Totals>
-        ensures { Changes R.Raise self.old (AskTotals id result) self.new }
+        ensures { CpuChanges R.Raise self.old (AskTotals id result) self.new }
     {
         let (kept, pending) = self.ask(id)?;
         Some(Totals {
@@ -266,7 +267,7 @@ impl<R: Raise> Hard<R> {
     /// Refuses with Full where the CPU would hold more than `CYCLICS`; where the size must grow also with Busy while a
     /// removal is open, and then with Expanding where a soft level has not followed the last switch of banks.
     pub fn room(&mut self, more: usize) -> Result<(), Refusal>
-        ensures { Changes R.Raise self.old (AskRoom more result) self.new }
+        ensures { CpuChanges R.Raise self.old (AskRoom more result) self.new }
     {
         let len = self.table.len();
         let size = self.table.size();
@@ -289,7 +290,7 @@ impl<R: Raise> Hard<R> {
     /// Takes the memory that so many more cyclics need, so that `widen` and adding them take none. Refuses as `room`, then
     /// with Memory.
     pub fn reserve(&mut self, more: usize) -> Result<(), Refusal>
-        ensures { Changes R.Raise self.old (Reserve more result) self.new }
+        ensures { CpuChanges R.Raise self.old (Reserve more result) self.new }
     {
         self.room(more)?;
         let needed = self.table.len() + more;
@@ -303,7 +304,7 @@ impl<R: Raise> Hard<R> {
     /// no memory.
     pub fn widen(&mut self, more: usize)
         requires { MayWiden R.view more self.old }
-        ensures { Changes R.Raise self.old (Widen more) self.new }
+        ensures { CpuChanges R.Raise self.old (Widen more) self.new }
     {
         let needed = self.table.len() + more;
         if needed > self.table.size() {
@@ -325,7 +326,7 @@ impl<R: Raise> Hard<R> {
         now: Moment,
     ) -> Result<(), Refusal>
         requires absent { HasNoCyclic id self.old.cyclics }
-        ensures { Changes R.Raise self.old (Add id level when now result) self.new }
+        ensures { CpuChanges R.Raise self.old (Add id level when now result) self.new }
     {
         if now.nanoseconds() == Moment::NEVER.nanoseconds() {
             return Err(Refusal::BadNow);

@@ -3,10 +3,10 @@
 ghost use Rattle.std.specs.Prelude.{ℕ, List, All};
 ghost use Rattle.std.specs.List.{FoldsTo};
 ghost use Rattle.cyc_core.specs.Tables.{Tables, level_of};
-ghost use Rattle.cyc_core.specs.Reached.{IsReached};
+ghost use Rattle.cyc_core.specs.Reached.{LevelIsReached};
 ghost use Rattle.cyc_core.specs.Lawful.{Lawful};
 ghost use Rattle.cyc_cpu.specs.Cpu.{CpuView, Running};
-ghost use Rattle.cyc_cpu.specs.Calls.{CpuCall, Does};
+ghost use Rattle.cyc_cpu.specs.Calls.{CpuCall, CpuDoes};
 ghost use Rattle.cyc_cpu.specs.Soft.{raise_tables, Interrupts};
 ghost use Rattle.cyc_cpu.specs.Gone.{HasLeft, IsGone, PutsNot, StaysGone};
 
@@ -18,8 +18,8 @@ impl Hard<LevelCore> {
     /// The conservation theorem of both soft levels: each is one that enabled events reached, and so lawful. It does nothing
     /// when it runs.
     pub fn levels_conservation(&self)
-        ensures lock_reached { IsReached (level_of self.now.lock) }
-        ensures low_reached { IsReached (level_of self.now.low) }
+        ensures lock_reached { LevelIsReached (level_of self.now.lock) }
+        ensures low_reached { LevelIsReached (level_of self.now.low) }
         ensures lock_lawful { Lawful (level_of self.now.lock) }
         ensures low_lawful { Lawful (level_of self.now.low) }
     {
@@ -34,12 +34,12 @@ impl Hard<LevelCore> {
         ensures left { (id : ℕ) (w : CpuView Tables) → HasLeft raise_tables id self.now w → IsGone id w }
         // One more call on the CPU that doesn't put it in makes no call of it, and leaves it gone.
         ensures kept { (id : ℕ) (s t : Running C Tables) (call : CpuCall) → IsGone id s.cpu → PutsNot id call
-            → Does C.Calls raise_tables (Interrupts C.Calls) s call t
+            → CpuDoes C.Calls raise_tables (Interrupts C.Calls) s call t
             → StaysGone C.count id s t }
         // So none of any number of such calls makes one.
         ensures nothing_follows { (id : ℕ) (s t : Running C Tables) (way : List CpuCall)
             → HasLeft raise_tables id self.now s.cpu → All (PutsNot id) way
-            → FoldsTo (Does C.Calls raise_tables (Interrupts C.Calls)) s way t
+            → FoldsTo (CpuDoes C.Calls raise_tables (Interrupts C.Calls)) s way t
             → StaysGone C.count id s t }
     {
         self.law();

@@ -23,14 +23,14 @@ pub struct Taken {
 
 impl<R: Raise> Hard<R> {
     ghost use Rattle.cyc_cpu.specs.Cpu.{HasNoCyclic};
-    ghost use Rattle.cyc_cpu.specs.Calls.{Changes, TakeNow, Place};
+    ghost use Rattle.cyc_cpu.specs.Calls.{CpuChanges, TakeNow, Place};
 
     /// Takes the cyclic off this CPU with all its counts (the first half of `cyclic_juggle_one_to`).
     ///
     /// Refuses with NoCyclic where the id is not here, then with Busy while any removal is open, then with Pending where
     /// calls of it are outstanding. Takes no memory.
     pub fn take_now(&mut self, id: CyclicId) -> Result<Taken, Refusal>
-        ensures did { Changes R.Raise self.old (TakeNow id result) self.new }
+        ensures did { CpuChanges R.Raise self.old (TakeNow id result) self.new }
         ensures counts { IfOk result (λ taken. (taken.sent.lost ≤ taken.sent.sent) × (taken.sent.sent ≤ self.old.most)) }
     {
         self.table.law();
@@ -71,7 +71,7 @@ impl<R: Raise> Hard<R> {
         requires free { length self.old.cyclics < self.old.size }
         requires lost { carried.lost ≤ carried.sent }
         requires most { carried.sent ≤ self.old.most }
-        ensures { Changes R.Raise self.old (Place id level interval moment carried) self.new }
+        ensures { CpuChanges R.Raise self.old (Place id level interval moment carried) self.new }
     {
         let _ = moment.nanoseconds();
         let _ = interval.nanoseconds();

@@ -34,7 +34,7 @@ fn receipt_of(id: CyclicId, kept: Record) -> Receipt
 }
 
 impl<R: Raise> Hard<R> {
-    ghost use Rattle.cyc_cpu.specs.Calls.{Changes, BeginRemove, PollRemove};
+    ghost use Rattle.cyc_cpu.specs.Calls.{CpuChanges, BeginRemove, PollRemove};
 
     /// Begins the removal of a cyclic (`cyclic_remove_here`): from now on it never expires. It is done at once where no call
     /// of it is outstanding, as at high level. Else it stays open, and `poll_remove` answers once the soft interrupt has made
@@ -42,7 +42,7 @@ impl<R: Raise> Hard<R> {
     ///
     /// Refuses with NoCyclic where the id is not here, then with Busy while a removal is open. Takes no memory.
     pub fn begin_remove(&mut self, id: CyclicId) -> Result<Removal, Refusal>
-        ensures { Changes R.Raise self.old (BeginRemove id result) self.new }
+        ensures { CpuChanges R.Raise self.old (BeginRemove id result) self.new }
     {
         self.table.law();
         let Some(index) = self.table.find(id) else {
@@ -65,7 +65,7 @@ impl<R: Raise> Hard<R> {
     /// Ends the open removal where the last of its calls was made, and gives the receipt, with the counts that the cyclic
     /// carried in. None where no removal is open, or calls are still outstanding. Takes no memory.
     pub fn poll_remove(&mut self) -> Option<Receipt>
-        ensures { Changes R.Raise self.old (PollRemove result) self.new }
+        ensures { CpuChanges R.Raise self.old (PollRemove result) self.new }
     {
         self.table.law();
         let id = self.removal?;

@@ -6,7 +6,7 @@ ghost use Rattle.cyc_types.specs.Firing.{MayAsk, Sound, seen_of};
 ghost use Rattle.cyc_types.specs.declared.level.Level.TheVariants.{Low, Lock};
 ghost use Rattle.cyc_timers.specs.Rows.{Row, IsRow};
 ghost use Rattle.cyc_timers.specs.Quiet.{OnlyLoads};
-ghost use Rattle.cyc_cpu.specs.Calls.{Changes, AskSettled};
+ghost use Rattle.cyc_cpu.specs.Calls.{CpuChanges, AskSettled};
 
 use crate::ends::{both_followed, load_pend};
 use crate::hard::Hard;
@@ -29,7 +29,7 @@ fn all_quiet<R: Raise>(table: &Table, lock: &mut R, low: &mut R) -> bool
 {
     table.law();
     let mut passed = None;
-    for _place in 0..table.len() {
+    for _position in 0..table.len() {
         let Some(found) = table.next_after(passed) else {
             unreachable!()
         };
@@ -51,7 +51,7 @@ impl<R: Raise> Hard<R> {
     /// After true, nothing of this CPU is refused with Expanding, Busy or Pending until the next fire or switch of banks
     /// (`settling_law` of cyc_cpu_laws).
     pub fn settled(&mut self) -> bool
-        ensures { Changes R.Raise self.old (AskSettled result) self.new }
+        ensures { CpuChanges R.Raise self.old (AskSettled result) self.new }
     {
         if self.removal.is_some() {
             return false;

@@ -6,7 +6,7 @@ ghost use Rattle.cyc_types.specs.Firing.{Sound};
 ghost use Rattle.cyc_soft.specs.Serving.{IsSoftint, soft_side};
 ghost use Rattle.cyc_timers.specs.Quiet.{KeepsStays};
 ghost use Rattle.cyc_cpu.specs.Cpu.{running};
-ghost use Rattle.cyc_cpu.specs.Calls.{Does, SoftInterrupt};
+ghost use Rattle.cyc_cpu.specs.Calls.{CpuDoes, SoftInterrupt};
 ghost use Rattle.cyc_cpu.specs.Soft.{end_at, raise_tables, drain_tables, firing_at, HasEmptyLists, Interrupts};
 
 use crate::hard::Hard;
@@ -47,7 +47,7 @@ impl Hard<LevelCore> {
         budget: u32,
     ) -> Result<Ran, SoftRefused>
         // What `cyc_soft::softint` does, each call at this level; and nothing else changed.
-        ensures did { Does C.Calls raise_tables (Interrupts C.Calls)
+        ensures did { CpuDoes C.Calls raise_tables (Interrupts C.Calls)
             (running calls.old self.old) (SoftInterrupt level budget result) (running calls.new self.new) }
 
         // Where it is idle, nothing waits at its level.

@@ -16,21 +16,23 @@ use Rattle.cyc_types.specs.Timers.{Timer, HasDistinctIds}
 use Rattle.cyc_types.specs.Counting.{no_counts}
 use Rattle.cyc_cpu.specs.Rows.{timers}
 use Rattle.cyc_cpu.specs.FireRefused.{FireRefused}
-use Rattle.cyc_cpu.specs.Acts.{is_of, timer_of}
+use Rattle.cyc_cpu.specs.Acts.{is_of_level, timer_of}
 use Rattle.cyc_cpu.specs.Shares.{share}
 use Rattle.cyc_cpu.specs.Cpu.{CpuView, Running, SameCpu, Makes, sides}
 use Rattle.cyc_cpu.specs.Laws.{IsLawful}
 use Rattle.cyc_cpu.specs.Calls.{Suspend, Resume}
-use Rattle.cyc_cpu.specs.Calls.{CpuCall, Changes, Does, Stopped, no_interrupts, Fire, SoftInterrupt, Add, Place, Reprogram}
+use Rattle.cyc_cpu.specs.Calls.{CpuCall, CpuChanges, CpuDoes, Stopped, no_interrupts, Fire, SoftInterrupt, Add, Place, Reprogram}
 use Rattle.cyc_cpu.specs.Calls.{AskPending, AskTotals, AskRoom, Reserve, Widen, BeginRemove, PollRemove, TakeNow, AskSettled}
 use Rattle.cyc_cpu.proofs.Sharing.{raises_add_up, ids_add_up}
-use Rattle.cyc_cpu_laws.specs.Runs.{Steps}
-use Rattle.cyc_cpu_laws.specs.Accounts.{Account, nothing, both, made_by, account_of, account_in, KeepsLimits, Proceeds}
+use Rattle.cyc_cpu_laws.specs.Runs.{CpuSteps}
+use Rattle.cyc_cpu_laws.specs.Accounts.{Account, no_call_made, both, made_by, account_of, account_in, KeepsLimits, Proceeds}
 use Rattle.cyc_cpu_laws.proofs.Stills.{still_raises, changes_still}
 use Rattle.cyc_cpu_laws.proofs.Shifts.{changes_shift, shift_sums}
 use Rattle.cyc_cpu_laws.proofs.Fires.{fired_expired, fired_lost}
 use Rattle.cyc_cpu_laws.proofs.Ways.{passes_none, passes_on, passes_ceiling}
 use Rattle.cyc_cpu_laws.specs.Passing.{Passes}
+use Rattle.cyc_timers.specs.Acts.{acting}
+use Rattle.cyc_timers.specs.Made.{fire_state}
 
 -- an account of expirations alone
 abbrev of_fire : List Timer → List Expiration → Account
@@ -42,7 +44,7 @@ of_fire ts made = record {
 }
 
 pub none_made : (level : Level) (ts : List Timer) (id : ℕ) → share level ts [] id ≡ 0
-none_made level ts id = either (is_of level (timer_of id ts))
+none_made level ts id = either (is_of_level level (timer_of id ts))
   where
     either : (b : Bool) → cond b (times_of id []) 0 ≡ 0
     either true = refl
@@ -61,7 +63,7 @@ limits_on view u v w a b = record {
 }
 
 module _ {C R : Type 0} (handler : Calls C) (firing : Raise R) where
-  pub proceeds_none : (s : Running C R) → Proceeds handler.count firing nothing s s
+  pub proceeds_none : (s : Running C R) → Proceeds handler.count firing no_call_made s s
   proceeds_none s = record {
     lock_lost = λ id. 0;
     low_lost = λ id. 0;
@@ -100,8 +102,8 @@ module _ {C R : Type 0} (handler : Calls C) (firing : Raise R) where
   -- the expirations of a fire
   fired : (s t : Running C R) (now lost : ℕ) (made : List Expiration) (at : C) → HasDistinctIds (timers s.cpu.cyclics) →
       SameCpu s.cpu t.cpu → ((id : ℕ) → handler.count t.calls id ≡ handler.count at id) →
-      Makes (at_level handler.called High) handler.count firing now made s.cpu.cyclics t.cpu.cyclics (sides s.calls s.cpu)
-      (sides at t.cpu) lost → Proceeds handler.count firing (of_fire (timers s.cpu.cyclics) made) s t
+      Makes (acting (at_level handler.called High) handler.count firing) now made (fire_state s.cpu.cyclics (sides s.calls s.cpu))
+      (fire_state t.cpu.cyclics (sides at t.cpu)) lost → Proceeds handler.count firing (of_fire (timers s.cpu.cyclics) made) s t
   fired s t now lost made at distinct kept same m =
       let ts = timers s.cpu.cyclics in
       let lock : (id : ℕ) → raised_by id m.acts.lock_way ≡ share Lock ts made id =
@@ -132,7 +134,7 @@ module _ {C R : Type 0} (handler : Calls C) (firing : Raise R) where
   made_is s t made made' is p = subst (λ xs. Proceeds handler.count firing (of_fire (timers s.cpu.cyclics) xs) s t) is p
 
   -- a call that reaches no handler
-  quiet : (s t : Running C R) (call : CpuCall) → made_by call s.cpu.cyclics ≡ [] → Changes firing s.cpu call t.cpu
+  quiet : (s t : Running C R) (call : CpuCall) → made_by call s.cpu.cyclics ≡ [] → CpuChanges firing s.cpu call t.cpu
       × (t.calls ≡ s.calls) → Proceeds handler.count firing (account_of call s.cpu.cyclics) s t
   quiet s t call none (d, same) =
       let ts = timers s.cpu.cyclics in
@@ -197,7 +199,7 @@ module _ {C R : Type 0} (handler : Calls C) (firing : Raise R) where
 
   -- one call
   pub proceeds_one : (s t : Running C R) (call : CpuCall) → IsLawful firing.view s.cpu →
-      Does handler firing no_interrupts s call t → Proceeds handler.count firing (account_of call s.cpu.cyclics) s t
+      CpuDoes handler firing no_interrupts s call t → Proceeds handler.count firing (account_of call s.cpu.cyclics) s t
   proceeds_one s t (Fire now (Ok r)) law (
     early,
     kept,
@@ -230,11 +232,11 @@ module _ {C R : Type 0} (handler : Calls C) (firing : Raise R) where
 
   -- the calls of a run
   abbrev D : Running C R → CpuCall → Running C R → Type 0
-  D = Steps handler firing no_interrupts
+  D = CpuSteps handler firing no_interrupts
 
   pub proceeds_in : (s t : Running C R) (way : List CpuCall) → IsLawful firing.view s.cpu → (run : FoldsTo D s way t) →
       Proceeds handler.count firing (account_in D s way t run) s t
-  proceeds_in s t [] law run = subst (λ (x : Running C R). Proceeds handler.count firing nothing s x) run (proceeds_none s)
+  proceeds_in s t [] law run = subst (λ (x : Running C R). Proceeds handler.count firing no_call_made s x) run (proceeds_none s)
   proceeds_in s t (call ∷ way) law (m, (does, lawful), rest) =
       proceeds_on (account_of call s.cpu.cyclics) (account_in D m way t rest) s m t (proceeds_one s m call law does)
       (proceeds_in m t way lawful rest)

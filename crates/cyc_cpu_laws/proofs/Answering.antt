@@ -22,9 +22,9 @@ use Rattle.cyc_cpu.specs.Cpu.{CpuView, AreAdmitted, IsCyclic}
 use Rattle.cyc_cpu.specs.Removal.{Leaves, calls_at}
 use Rattle.cyc_cpu.specs.Laws.{IsLawful}
 use Rattle.cyc_cpu.specs.Soft.{raise_tables, firing_at, done_at}
-use Rattle.cyc_cpu.specs.Calls.{CpuCall, Changes, BeginRemove, PollRemove, TakeNow}
-use Rattle.cyc_cpu_laws.specs.Accounts.{counts_of, left_by}
-use Rattle.cyc_cpu_laws.specs.Receipts.{Releases, HasCalls, done_by, pending_by, IsBalanced, AnswersCalls}
+use Rattle.cyc_cpu.specs.Calls.{CpuCall, CpuChanges, BeginRemove, PollRemove, TakeNow}
+use Rattle.cyc_cpu_laws.specs.Accounts.{counts_for, left_by}
+use Rattle.cyc_cpu_laws.specs.Receipts.{Releases, HasCalls, done_by, pending_by, IsBalancedCyclic, AnswersCalls}
 
 -- of a lawful stay, each expiration is done, outstanding or lost
 stay_done : (l : SoftLevel) (id : ℕ) (s : Stay) (o : Option AdmittedCyclic) → l.cyclics id ≡ o → Lawful l →
@@ -85,7 +85,7 @@ module _ (v w : CpuView Tables) (law : IsLawful firing_at v) (lock : Lawful (lev
       c.timer.level ≢ High → (n : ℕ) → HasCalls c.carried n →
       c.timer.expired ≡ c.lost + (n + done_by c.timer.level v id)
   left_calls id way c l finds soft n carried =
-      at_level id n way c l.place l.here l.named finds c.timer.level refl soft l.goes.0 l.goes.1 carried
+      at_level id n way c l.position l.here l.named finds c.timer.level refl soft l.goes.0 l.goes.1 carried
 
   balanced_at : (c : Cyclic) (k : ℕ) → IsCyclic v.cyclics k c → (own : Level) → c.timer.level ≡ own → own ≢ High → (n : ℕ) →
       HasCalls c.carried n → c.timer.expired ≡ c.lost + (n + done_by own v c.timer.id) + pending_by own v c.timer.id
@@ -93,15 +93,15 @@ module _ (v w : CpuView Tables) (law : IsLawful firing_at v) (lock : Lawful (lev
   balanced_at c k here Low at soft n carried = balanced_here Low v.low v.cyclics k c n law.low low here at carried
   balanced_at c k here High at soft n carried = absurd (soft refl)
 
-  own_counts : (id : ℕ) (s : Sent) (m : ℕ) → HasCalls s m → HasCalls (counts_of id s id) m
+  own_counts : (id : ℕ) (s : Sent) (m : ℕ) → HasCalls s m → HasCalls (counts_for id s id) m
   own_counts id s m h = let yes : (id == id) ≡ true = grind (arith, nat_tests) in
       subst (λ (b : Bool). HasCalls (cond b s no_counts) m) (sym yes) h
 
   answer : (id own : ℕ) (way : List FiringCall) (c : Cyclic) (s : Sent) (call : CpuCall) → own ≡ id →
-      left_by call id ≡ counts_of own s id → s.sent ≡ c.timer.expired → s.lost ≡ c.lost →
+      left_by call id ≡ counts_for own s id → s.sent ≡ c.timer.expired → s.lost ≡ c.lost →
       FindsNone own way → Leaves raise_tables own way c v w → AnswersCalls id call v
   answer id own way c s call same is sent lost finds l = record {
-    place = l.place;
+    position = l.position;
     cyclic = c;
     here = l.here;
     named = l.named ∙ same;
@@ -110,10 +110,10 @@ module _ (v w : CpuView Tables) (law : IsLawful firing_at v) (lock : Lawful (lev
         let h : HasCalls s (n + done_by c.timer.level v own) = omega (arith, m, sent, lost) in
         subst (λ (j : ℕ). HasCalls (left_by call id) (n + done_by c.timer.level v j)) same
         (subst (λ (x : Sent). HasCalls x (n + done_by c.timer.level v own)) (sym is)
-        (subst (λ (j : ℕ). HasCalls (counts_of own s j) (n + done_by c.timer.level v own)) same (own_counts own s _ h))));
+        (subst (λ (j : ℕ). HasCalls (counts_for own s j) (n + done_by c.timer.level v own)) same (own_counts own s _ h))));
   }
 
-  pub answers_calls : (id : ℕ) (call : CpuCall) → Releases id call → Changes raise_tables v call w → AnswersCalls id call v
+  pub answers_calls : (id : ℕ) (call : CpuCall) → Releases id call → CpuChanges raise_tables v call w → AnswersCalls id call v
   answers_calls id (BeginRemove own (Ok (Done receipt))) same (still, (c, counts, is, polled, l)) =
       answer id own _ c (record { sent = receipt.sent; lost = receipt.lost })
       (BeginRemove own (Ok (Done receipt))) same refl is.1 is.2 (begun_none own counts) l
@@ -125,7 +125,7 @@ module _ (v w : CpuView Tables) (law : IsLawful firing_at v) (lock : Lawful (lev
   answers_calls id call released d = absurd released
 
 pub all_balanced : (v : CpuView Tables) → IsLawful firing_at v → Lawful (level_of v.lock) → Lawful (level_of v.low) →
-    All (IsBalanced v) v.cyclics
+    All (IsBalancedCyclic v) v.cyclics
 all_balanced v law lock low k d within =
     balanced_at v v law lock low (get_or v.cyclics k d) k (within, get_or_default v.cyclics k (get_or v.cyclics k d) d within)
     (get_or v.cyclics k d).timer.level refl

@@ -26,12 +26,23 @@ use Rattle.cyc_cpu.specs.Cpu.{Running}
 use Rattle.cyc_cpu.specs.Laws.{IsLawful}
 use Rattle.cyc_cpu.specs.Soft.{raise_tables, drain_tables, held_at, firing_at, end_at, SoftKept, Interrupts}
 use Rattle.cyc_cpu.specs.Calls.{Suspend, Resume}
-use Rattle.cyc_cpu.specs.Calls.{CpuCall, Does, no_interrupts, Fire, SoftInterrupt, Add, Place, Reprogram, AskPending, AskTotals}
+use Rattle.cyc_cpu.specs.Calls.{
+  CpuCall,
+  CpuDoes,
+  no_interrupts,
+  Fire,
+  SoftInterrupt,
+  Add,
+  Place,
+  Reprogram,
+  AskPending,
+  AskTotals,
+}
 use Rattle.cyc_cpu.specs.Calls.{AskRoom, Reserve, Widen, BeginRemove, PollRemove, TakeNow, AskSettled}
 use Rattle.cyc_cpu.proofs.Softs.{serving_keeps}
-use Rattle.cyc_cpu_laws.specs.Runs.{Steps}
+use Rattle.cyc_cpu_laws.specs.Runs.{CpuSteps}
 use Rattle.cyc_cpu_laws.specs.Passing.{Passes}
-use Rattle.cyc_cpu_laws.specs.Accounts.{Account, nothing, both, told, account_of, account_in, expired_of, lost_of}
+use Rattle.cyc_cpu_laws.specs.Accounts.{Account, no_call_made, both, calls_told, account_of, account_in, expired_of, lost_of}
 use Rattle.cyc_cpu_laws.specs.Cores.{LevelCall, OfFiring, OfSoft, LevelDoes, firing_calls, soft_calls, CorePasses, CoreProceeds}
 use Rattle.cyc_cpu_laws.proofs.Ways.{passes_one, passes_ceiling}
 use Rattle.cyc_cpu_laws.proofs.Accounting.{none_made, limits_none, limits_on, proceeds_one}
@@ -151,7 +162,7 @@ last_finishes true = refl
 last_finishes false = refl
 
 module _ {C : Type 0} (handler : Calls C) where
-  pub core_proceeds_none : (s : Running C Tables) → CoreProceeds handler.count nothing s s
+  pub core_proceeds_none : (s : Running C Tables) → CoreProceeds handler.count no_call_made s s
   core_proceeds_none s = record {
     lock_lost = λ id. 0;
     low_lost = λ id. 0;
@@ -182,7 +193,7 @@ module _ {C : Type 0} (handler : Calls C) where
 
   -- a call that is no soft interrupt
   no_interrupt : (s t : Running C Tables) (call : CpuCall) → ((own : Level) → 0 ≡ (account_of call s.cpu.cyclics).served own) →
-      IsLawful firing_at s.cpu → Does handler raise_tables no_interrupts s call t →
+      IsLawful firing_at s.cpu → CpuDoes handler raise_tables no_interrupts s call t →
       CoreProceeds handler.count (account_of call s.cpu.cyclics) s t
   no_interrupt s t call none law d =
       let p = proceeds_one handler raise_tables s t call law d in
@@ -216,12 +227,12 @@ module _ {C : Type 0} (handler : Calls C) where
       (ran : List Served) (rest : List DrainCall) →
       Serves drain_tables (handler_at handler (as_level soft)) (soft_side (end_at soft s.cpu) s.calls) ran rest
       (soft_side (end_at soft t.cpu) at) →
-      finishes_of rest ≡ [] → length ran ≡ told answer → ((q : ℕ) → handler.count t.calls q ≡ handler.count at q) →
+      finishes_of rest ≡ [] → length ran ≡ calls_told answer → ((q : ℕ) → handler.count t.calls q ≡ handler.count at q) →
       SoftKept soft s.cpu t.cpu → CoreProceeds handler.count (account_of (SoftInterrupt soft budget answer) s.cpu.cyclics) s t
   interrupted Low budget answer s t at ran rest serves none long same kept =
       let zero : (own : Level) (id : ℕ) → 0 ≡ share own (timers s.cpu.cyclics) [] id =
       λ own id. sym (none_made own (timers s.cpu.cyclics) id) in
-      let low = served_level level.Low s.cpu.low t.cpu.low (told answer) s.calls at ran rest serves none long in
+      let low = served_level level.Low s.cpu.low t.cpu.low (calls_told answer) s.calls at ran rest serves none long in
       record {
         lock_lost = λ id. 0;
         low_lost = λ id. 0;
@@ -244,7 +255,7 @@ module _ {C : Type 0} (handler : Calls C) where
   interrupted Lock budget answer s t at ran rest serves none long same kept =
       let zero : (own : Level) (id : ℕ) → 0 ≡ share own (timers s.cpu.cyclics) [] id =
       λ own id. sym (none_made own (timers s.cpu.cyclics) id) in
-      let lock = served_level level.Lock s.cpu.lock t.cpu.lock (told answer) s.calls at ran rest serves none long in
+      let lock = served_level level.Lock s.cpu.lock t.cpu.lock (calls_told answer) s.calls at ran rest serves none long in
       record {
         lock_lost = λ id. 0;
         low_lost = λ id. 0;
@@ -267,7 +278,7 @@ module _ {C : Type 0} (handler : Calls C) where
 
   -- one call
   pub core_proceeds_one : (s t : Running C Tables) (call : CpuCall) → IsLawful firing_at s.cpu →
-      Does handler raise_tables (Interrupts handler) s call t →
+      CpuDoes handler raise_tables (Interrupts handler) s call t →
       CoreProceeds handler.count (account_of call s.cpu.cyclics) s t
   core_proceeds_one s t (SoftInterrupt soft budget (Ok r)) law (did, kept) =
       let (ran, long, serves, left) = did.served in
@@ -308,12 +319,12 @@ module _ {C : Type 0} (handler : Calls C) where
 
   -- the calls of a run
   abbrev D : Running C Tables → CpuCall → Running C Tables → Type 0
-  D = Steps handler raise_tables (Interrupts handler)
+  D = CpuSteps handler raise_tables (Interrupts handler)
 
   pub core_proceeds_in : (s t : Running C Tables) (way : List CpuCall) → IsLawful firing_at s.cpu → (run : FoldsTo D s way t) →
       CoreProceeds handler.count (account_in D s way t run) s t
   core_proceeds_in s t [] law run =
-      subst (λ (x : Running C Tables). CoreProceeds handler.count nothing s x) run (core_proceeds_none s)
+      subst (λ (x : Running C Tables). CoreProceeds handler.count no_call_made s x) run (core_proceeds_none s)
   core_proceeds_in s t (call ∷ way) law (m, (does, lawful), rest) =
       core_proceeds_on (account_of call s.cpu.cyclics) (account_in D m way t rest) s m t (core_proceeds_one s m call law does)
       (core_proceeds_in m t way lawful rest)

@@ -13,12 +13,23 @@ use Rattle.cyc_cpu.specs.Cpu.{CpuView, Running, HasNoCyclic, AreAdmitted}
 use Rattle.cyc_cpu.specs.Laws.{IsLawful}
 use Rattle.cyc_cpu.specs.Gone.{IsOff, PutsNot}
 use Rattle.cyc_cpu.specs.Calls.{Suspend, Resume}
-use Rattle.cyc_cpu.specs.Calls.{CpuCall, Changes, Does, no_interrupts, Fire, SoftInterrupt, Add, Place, Reprogram, AskPending}
+use Rattle.cyc_cpu.specs.Calls.{
+  CpuCall,
+  CpuChanges,
+  CpuDoes,
+  no_interrupts,
+  Fire,
+  SoftInterrupt,
+  Add,
+  Place,
+  Reprogram,
+  AskPending,
+}
 use Rattle.cyc_cpu.specs.Calls.{AskTotals, AskRoom, Reserve, Widen, BeginRemove, PollRemove, TakeNow, AskSettled}
 use Rattle.cyc_cpu.proofs.Off.{none_there}
-use Rattle.cyc_cpu_laws.specs.Runs.{Steps}
+use Rattle.cyc_cpu_laws.specs.Runs.{CpuSteps}
 use Rattle.cyc_cpu_laws.specs.Accounts.{made_by}
-use Rattle.cyc_cpu_laws.specs.Absence.{StaysOff}
+use Rattle.cyc_cpu_laws.specs.Absence.{StaysOff, run_from}
 use Rattle.cyc_cpu_laws.proofs.Shifts.{changes_shift, shift_away}
 use Rattle.cyc_cpu_laws.proofs.Fires.{no_share, no_cyclic, fired_away}
 use Rattle.cyc_cpu_laws.proofs.Accounting.{proceeds_one}
@@ -38,12 +49,12 @@ module _ {C R : Type 0} (handler : Calls C) (firing : Raise R) (id : ℕ) where
   }
 
   quiet_away : (s t : Running C R) (call : CpuCall) → HasNoCyclic id s.cpu.cyclics → PutsNot id call →
-      Changes firing s.cpu call t.cpu × (t.calls ≡ s.calls) → HasNoCyclic id t.cpu.cyclics
+      CpuChanges firing s.cpu call t.cpu × (t.calls ≡ s.calls) → HasNoCyclic id t.cpu.cyclics
   quiet_away s t call none not d =
       shift_away call s.cpu.cyclics t.cpu.cyclics id (changes_shift firing s.cpu t.cpu call d.0) not none
 
   away_one : (s t : Running C R) (call : CpuCall) → HasNoCyclic id s.cpu.cyclics → PutsNot id call →
-      Does handler firing no_interrupts s call t → HasNoCyclic id t.cpu.cyclics
+      CpuDoes handler firing no_interrupts s call t → HasNoCyclic id t.cpu.cyclics
   away_one s t (Fire now (Ok r)) none not (
     early,
     kept,
@@ -82,11 +93,11 @@ module _ {C R : Type 0} (handler : Calls C) (firing : Raise R) (id : ℕ) where
       (no_cyclic id s.cpu.cyclics none)
 
   abbrev D : Running C R → CpuCall → Running C R → Type 0
-  D = Steps handler firing no_interrupts
+  D = CpuSteps handler firing no_interrupts
 
   pub stays_off : (s t : Running C R) (way : List CpuCall) → IsLawful firing.view s.cpu → IsOff firing.view id s.cpu
       → All (PutsNot id) way →
-      (run : FoldsTo D s way t) → StaysOff handler.count firing.view D id s way t run
+      (run : FoldsTo D s way t) → StaysOff handler.count firing.view D id (run_from D s way t run)
   stays_off s t [] law gone not run = record {
     off = subst (λ (x : Running C R). IsOff firing.view id x.cpu) run gone;
     uncalled = ap (λ (x : Running C R). handler.count x.calls id) (sym run);

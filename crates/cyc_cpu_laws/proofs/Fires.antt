@@ -9,9 +9,9 @@ use Rattle.cyc_types.specs.declared.level.Level.{Level}
 use Rattle.cyc_types.specs.declared.level.Level.TheVariants.{Low, Lock, High}
 use Rattle.cyc_types.proofs.Runs.{lost_few}
 use Rattle.cyc_types.specs.Timers.{Timer, HasDistinctIds}
-use Rattle.cyc_types.specs.Expirations.{Expiration, times_of, after, all_after}
+use Rattle.cyc_types.specs.Expirations.{Expiration, times_of, after_expirations, all_after}
 use Rattle.cyc_cpu.specs.Rows.{Cyclic, timers}
-use Rattle.cyc_cpu.specs.Acts.{timer_of, is_of, same_level, lost_after}
+use Rattle.cyc_cpu.specs.Acts.{timer_of, is_of_level, same_level, lost_after}
 use Rattle.cyc_cpu.specs.Cpu.{HasNoCyclic}
 use Rattle.cyc_cpu.specs.Shares.{share}
 use Rattle.cyc_cpu_laws.specs.Accounts.{expired_of, lost_of}
@@ -57,7 +57,7 @@ no_timer id (t ∷ ts) away =
 
 pub no_share : (level : Level) (id : ℕ) (ts : List Timer) (made : List Expiration) → timer_of id ts ≡ None →
     share level ts made id ≡ 0
-no_share level id ts made none = ap (λ o. cond (is_of level o) (times_of id made) 0) none
+no_share level id ts made none = ap (λ o. cond (is_of_level level o) (times_of id made) 0) none
 
 no_shares : (id : ℕ) (ts : List Timer) (made : List Expiration) → timer_of id ts ≡ None → shares ts made id ≡ 0
 no_shares id ts made none =
@@ -84,22 +84,23 @@ head_away t ts id distinct is k d low same = let e : suc k ≡ zero = distinct (
 -- the cyclic's own share, or none
 share_head : (level : Level) (id : ℕ) (t : Timer) (ts : List Timer) (made : List Expiration) (b : Bool) → (t.id == id) ≡ b →
     share level (t ∷ ts) made id ≡ cond b (cond (same_level level t.level) (times_of id made) 0) (share level ts made id)
-share_head level id t ts made true is = ap (λ (b : Bool). cond (is_of level (cond b (Some t) (timer_of id ts)))
+share_head level id t ts made true is = ap (λ (b : Bool). cond (is_of_level level (cond b (Some t) (timer_of id ts)))
     (times_of id made) 0) is
-share_head level id t ts made false is = ap (λ (b : Bool). cond (is_of level (cond b (Some t) (timer_of id ts)))
+share_head level id t ts made false is = ap (λ (b : Bool). cond (is_of_level level (cond b (Some t) (timer_of id ts)))
     (times_of id made) 0) is
 
 fired_timers : (id now : ℕ) (made : List Expiration) (ts : List Timer) → HasDistinctIds ts →
-    timers_expired id (map (after now made) ts) ≡ timers_expired id ts + shares ts made id
-unfolding after
+    timers_expired id (map (after_expirations now made) ts) ≡ timers_expired id ts + shares ts made id
+unfolding after_expirations
 fired_timers id now made [] distinct = refl
 fired_timers id now made (t ∷ ts) distinct = at (t.id == id) refl (fired_timers id now made ts (tail_distinct t ts distinct))
   where
-    at : (b : Bool) → (t.id == id) ≡ b → timers_expired id (map (after now made) ts) ≡ timers_expired id ts + shares ts made id →
-        timers_expired id (map (after now made) (t ∷ ts)) ≡ timers_expired id (t ∷ ts) + shares (t ∷ ts) made id
+    at : (b : Bool) → (t.id == id) ≡ b → timers_expired id (map (after_expirations now made) ts) ≡ timers_expired id ts +
+        shares ts made id →
+        timers_expired id (map (after_expirations now made) (t ∷ ts)) ≡ timers_expired id (t ∷ ts) + shares (t ∷ ts) made id
     at true is rest =
         let same : t.id ≡ id = grind (arith, nat_tests) in
-        let a = sum_by-cons (expired_in id) (after now made t) (map (after now made) ts) in
+        let a = sum_by-cons (expired_in id) (after_expirations now made t) (map (after_expirations now made) ts) in
         let b = sum_by-cons (expired_in id) t ts in
         let c = ap (λ (b : Bool). cond b (t.expired + times_of t.id made) 0) is in
         let d = ap (λ (b : Bool). cond b t.expired 0) is in
@@ -111,7 +112,7 @@ fired_timers id now made (t ∷ ts) distinct = at (t.id == id) refl (fired_timer
         let n1 = n.1 in let n2 = no_shares id ts made n.0 in
         omega (arith, a, b, c, d, e, x, y, z, o, n1, n2, rest)
     at false is rest =
-        let a = sum_by-cons (expired_in id) (after now made t) (map (after now made) ts) in
+        let a = sum_by-cons (expired_in id) (after_expirations now made t) (map (after_expirations now made) ts) in
         let b = sum_by-cons (expired_in id) t ts in
         let c = ap (λ (b : Bool). cond b (t.expired + times_of t.id made) 0) is in
         let d = ap (λ (b : Bool). cond b t.expired 0) is in
@@ -144,14 +145,15 @@ module _ (id now : ℕ) (made : List Expiration) (lock_way low_way : List Firing
   abbrev lost_own : Cyclic → ℕ
   lost_own c = cond (c.timer.id == id) c.lost 0
 
-  lost_pairs : (cs cs' : List Cyclic) → HasDistinctIds (timers cs) → timers cs' ≡ map (after now made) (timers cs) →
+  lost_pairs : (cs cs' : List Cyclic) → HasDistinctIds (timers cs) → timers cs' ≡ map (after_expirations now made) (timers cs) →
       map (λ (c : Cyclic). c.lost) cs' ≡ map lost_then cs →
       lost_of id cs' ≡ lost_of id cs + where_some (timer_of id (timers cs)) (lost_by id lock_way + lost_by id low_way)
-  unfolding after
+  unfolding after_expirations
   lost_pairs [] [] distinct are losses = refl
   lost_pairs [] (d ∷ cs') distinct are losses = let l : length (d.timer ∷ timers cs') ≡ 0 = ap length are in
       absurd (omega (arith, l))
-  lost_pairs (c ∷ cs) [] distinct are losses = let l : 0 ≡ length (after now made c.timer ∷ map (after now made)
+  lost_pairs (c ∷ cs) [] distinct are losses = let l : 0 ≡ length (after_expirations now made c.timer ∷ map (after_expirations
+      now made)
       (timers cs)) = ap length are in absurd (omega (arith, l))
   lost_pairs (c ∷ cs) (d ∷ cs') distinct are losses =
       at (c.timer.id == id) refl (lost_pairs cs cs' (tail_distinct c.timer (timers cs) distinct) (ap rest_of are)
@@ -223,18 +225,19 @@ no_cyclic id (c ∷ cs) none =
     ∙ no_cyclic id cs (λ k d low. none (suc k) d (omega (arith, low)))
 
 same_ids : (id now : ℕ) (made : List Expiration) (ts : List Timer) → timer_of id ts ≡ None →
-    timer_of id (map (after now made) ts) ≡ None
-unfolding after
+    timer_of id (map (after_expirations now made) ts) ≡ None
+unfolding after_expirations
 same_ids id now made [] none = refl
 same_ids id now made (t ∷ ts) none = at (t.id == id) refl (same_ids id now made ts)
   where
-    at : (b : Bool) → (t.id == id) ≡ b → (timer_of id ts ≡ None → timer_of id (map (after now made) ts) ≡ None) →
-        timer_of id (map (after now made) (t ∷ ts)) ≡ None
+    at : (b : Bool) → (t.id == id) ≡ b → (timer_of id ts ≡ None → timer_of id (map (after_expirations now made) ts) ≡ None) →
+        timer_of id (map (after_expirations now made) (t ∷ ts)) ≡ None
     at true is rest = (let found = ap (λ (b : Bool). cond b (Some t) (timer_of id ts)) is in
         let wrong : Some t ≡ None = sym found ∙ none in absurd (cc))
     at false is rest =
         (let skip = ap (λ (b : Bool). cond b (Some t) (timer_of id ts)) is in
-        ap (λ (b : Bool). cond b (Some (after now made t)) (timer_of id (map (after now made) ts))) is ∙ rest (sym skip ∙ none))
+        ap (λ (b : Bool). cond b (Some (after_expirations now made t)) (timer_of id (map (after_expirations now made) ts))) is
+        ∙ rest (sym skip ∙ none))
 
 cyclic_none : (id : ℕ) (cs : List Cyclic) → timer_of id (timers cs) ≡ None → HasNoCyclic id cs
 cyclic_none id [] none k d low same = absurd (omega (arith, low))

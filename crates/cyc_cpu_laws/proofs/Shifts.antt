@@ -21,9 +21,9 @@ use Rattle.cyc_cpu.specs.Removal.{Leaves}
 use Rattle.cyc_cpu.specs.Cpu.{CpuView, IsCyclic, HasNoCyclic, with_moment}
 use Rattle.cyc_cpu.specs.Moving.{WhyNotTaken}
 use Rattle.cyc_cpu.specs.Calls.{Suspend, Resume}
-use Rattle.cyc_cpu.specs.Calls.{CpuCall, Changes, Fire, SoftInterrupt, Add, Place, Reprogram, AskPending, AskTotals, AskRoom}
+use Rattle.cyc_cpu.specs.Calls.{CpuCall, CpuChanges, Fire, SoftInterrupt, Add, Place, Reprogram, AskPending, AskTotals, AskRoom}
 use Rattle.cyc_cpu.specs.Calls.{Reserve, Widen, BeginRemove, PollRemove, TakeNow, AskSettled}
-use Rattle.cyc_cpu_laws.specs.Accounts.{counts_of, entered_by, left_by, expired_of, lost_of}
+use Rattle.cyc_cpu_laws.specs.Accounts.{counts_for, entered_by, left_by, expired_of, lost_of}
 
 -- a cyclic's counts, where it has the id
 abbrev pub expired_in : ℕ → Cyclic → ℕ
@@ -67,12 +67,12 @@ lost_if false s n e = refl
 
 -- the counts of a cyclic of this id
 sent_as : (own : ℕ) (s : Sent) (c : Cyclic) → c.timer.id ≡ own → s.sent ≡ c.timer.expired → (id : ℕ) →
-    (counts_of own s id).sent ≡ expired_in id c
+    (counts_for own s id).sent ≡ expired_in id c
 sent_as own s c named e id = sent_if (own == id) s c.timer.expired e ∙ ap (λ (j : ℕ). cond (j == id) c.timer.expired 0)
     (sym named)
 
 lost_as : (own : ℕ) (s : Sent) (c : Cyclic) → c.timer.id ≡ own → s.lost ≡ c.lost → (id : ℕ) →
-    (counts_of own s id).lost ≡ lost_in id c
+    (counts_for own s id).lost ≡ lost_in id c
 lost_as own s c named e id = lost_if (own == id) s c.lost e ∙ ap (λ (j : ℕ). cond (j == id) c.lost 0) (sym named)
 
 module _ {R : Type 0} (firing : Raise R) where
@@ -81,7 +81,7 @@ module _ {R : Type 0} (firing : Raise R) where
 
   left : (call : CpuCall) (id : ℕ) (way : List FiringCall) (c : Cyclic) (v w : CpuView R) → TakesOut call c →
       Leaves firing id way c v w → Shifts call v.cyclics w.cyclics
-  left call id way c v w out l = inr (inr (inr (l.place, c, l.here, l.cyclics, out)))
+  left call id way c v w out l = inr (inr (inr (l.position, c, l.here, l.cyclics, out)))
 
   not_taken : (id : ℕ) (v w : CpuView R) (e : Refusal) → WhyNotTaken firing id v e w →
       Shifts (TakeNow id (Err e)) v.cyclics w.cyclics
@@ -91,24 +91,24 @@ module _ {R : Type 0} (firing : Raise R) where
   not_taken id v w e d = absurd d
 
   not_added : (id now : ℕ) (level : Level) (when : When) (v w : CpuView R) (e : Refusal) →
-      Changes firing v (Add id level when now (Err e)) w → Shifts (Add id level when now (Err e)) v.cyclics w.cyclics
+      CpuChanges firing v (Add id level when now (Err e)) w → Shifts (Add id level when now (Err e)) v.cyclics w.cyclics
   not_added id now level when v w why.BadNow d = same (Add id level when now (Err why.BadNow)) v w (λ j. (refl, refl)) d.2
   not_added id now level when v w e (absent, early, looked, why_not) = inl (looked.cyclics, λ j. (refl, refl))
 
-  pub changes_shift : (v w : CpuView R) (call : CpuCall) → Changes firing v call w → Shifts call v.cyclics w.cyclics
+  pub changes_shift : (v w : CpuView R) (call : CpuCall) → CpuChanges firing v call w → Shifts call v.cyclics w.cyclics
   changes_shift v w (Add id level when now (Ok done)) (absent, early, a) =
       let before : a.widened.cyclics ≡ v.cyclics = a.widens.cyclics ∙ a.reserves.cyclics in
       inr (inr (inl (
-        a.enters.place,
+        a.enters.position,
         _,
-        subst (λ cs. a.enters.place ≤ length cs) before a.enters.within,
-        subst (λ cs. w.cyclics ≡ insert cs a.enters.place _) before a.enters.cyclics,
+        subst (λ cs. a.enters.position ≤ length cs) before a.enters.within,
+        subst (λ cs. w.cyclics ≡ insert cs a.enters.position _) before a.enters.cyclics,
         λ j. (zero_if (id == j), zero_if (id == j), refl, (λ not. not)),
       )))
   changes_shift v w (Add id level when now (Err e)) d = not_added id now level when v w e d
   changes_shift v w (Place id level interval moment carried) (may, p) =
       inr (inr (inl (
-        p.place,
+        p.position,
         _,
         p.within,
         p.cyclics,
@@ -145,7 +145,7 @@ module _ {R : Type 0} (firing : Raise R) where
         lost_as id s c l.named is.2 j,
       )) l
   changes_shift v w (BeginRemove id (Ok (Kept kept))) (still, o) = inr (inl (
-    o.place,
+    o.position,
     never,
     o.cyclic,
     o.here,

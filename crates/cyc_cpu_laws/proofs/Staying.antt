@@ -21,9 +21,9 @@ use Rattle.cyc_cpu.specs.Cpu.{CpuView, Running, WhyNoRoom, WhyNotReserved}
 use Rattle.cyc_cpu.specs.Removal.{calls_at, Opens, WhyNotBegun}
 use Rattle.cyc_cpu.specs.Moving.{IsSettled, WhyNotTaken}
 use Rattle.cyc_cpu.specs.Calls.{Suspend, Resume}
-use Rattle.cyc_cpu.specs.Calls.{CpuCall, Changes, Does, Fire, SoftInterrupt, Add, Place, Reprogram, AskPending, AskTotals}
+use Rattle.cyc_cpu.specs.Calls.{CpuCall, CpuChanges, CpuDoes, Fire, SoftInterrupt, Add, Place, Reprogram, AskPending, AskTotals}
 use Rattle.cyc_cpu.specs.Calls.{AskRoom, Reserve, Widen, BeginRemove, PollRemove, TakeNow, AskSettled}
-use Rattle.cyc_cpu_laws.specs.Runs.{Steps}
+use Rattle.cyc_cpu_laws.specs.Runs.{CpuSteps}
 use Rattle.cyc_cpu_laws.specs.Settled.{IsNoFire, IsUntil, IsPutOff}
 use Rattle.cyc_cpu_laws.proofs.Stills.{IsStill, AreStill, changes_still}
 
@@ -113,11 +113,11 @@ module _ {R : Type 0} (firing : Raise R) where
   not_taken id v w e s d = absurd d
 
   not_added : (id now : ℕ) (level : Level) (when : When) (v w : CpuView R) (e : Refusal) → v.removal ≡ None →
-      Changes firing v (Add id level when now (Err e)) w → w.removal ≡ None
+      CpuChanges firing v (Add id level when now (Err e)) w → w.removal ≡ None
   not_added id now level when v w why.BadNow s d = ap (λ (x : CpuView R). x.removal) d.2 ∙ s
   not_added id now level when v w e s (absent, early, looked, why_not) = looked.kept.removal ∙ s
 
-  still_closed : (v w : CpuView R) (call : CpuCall) → IsSettled firing.view v → Changes firing v call w → w.removal ≡ None
+  still_closed : (v w : CpuView R) (call : CpuCall) → IsSettled firing.view v → CpuChanges firing v call w → w.removal ≡ None
   still_closed v w (Add id level when now (Ok done)) s (absent, early, a) = a.enters.kept.removal ∙ a.widens.removal
       ∙ a.reserves.removal ∙ s.still
   still_closed v w (Add id level when now (Err e)) s d = not_added id now level when v w e s.still d
@@ -149,7 +149,7 @@ module _ {R : Type 0} (firing : Raise R) where
   still_closed v w (Fire now answer) s d = absurd d
   still_closed v w (SoftInterrupt soft budget answer) s d = absurd d
 
-  settled_changes : (v w : CpuView R) (call : CpuCall) → IsSettled firing.view v → w.size ≡ v.size → Changes firing v call w →
+  settled_changes : (v w : CpuView R) (call : CpuCall) → IsSettled firing.view v → w.size ≡ v.size → CpuChanges firing v call w →
       IsSettled firing.view w
   settled_changes v w call s same d =
       let st = changes_still firing v w call d in
@@ -180,14 +180,14 @@ module _ {R : Type 0} (firing : Raise R) where
   not_reserved_until more v w e s d u = absurd u
 
   not_added_until : (id now : ℕ) (level : Level) (when : When) (v w : CpuView R) (e : Refusal) → IsSettled firing.view w →
-      Changes firing v (Add id level when now (Err e)) w → IsUntil e → ⊥
+      CpuChanges firing v (Add id level when now (Err e)) w → IsUntil e → ⊥
   not_added_until id now level when v w why.Expanding s d u = not_reserved_until 1 v w why.Expanding s d.3 u
   not_added_until id now level when v w (why.Busy own) s d u = not_reserved_until 1 v w (why.Busy own) s d.3 u
   not_added_until id now level when v w why.Pending s d u = not_reserved_until 1 v w why.Pending s d.3 u
   not_added_until id now level when v w e s d u = absurd u
 
   added_size : (id now : ℕ) (level : Level) (when : When) (v w : CpuView R) (e : Refusal) →
-      Changes firing v (Add id level when now (Err e)) w → w.size ≡ v.size
+      CpuChanges firing v (Add id level when now (Err e)) w → w.size ≡ v.size
   added_size id now level when v w why.BadNow d = ap (λ (x : CpuView R). x.size) d.2
   added_size id now level when v w e (absent, early, looked, why_not) = looked.kept.size
 
@@ -204,7 +204,7 @@ module _ {R : Type 0} (firing : Raise R) where
   not_begun_until id v why.Expanding s d u = d
   not_begun_until id v e s d u = absurd u
 
-  put_off : (v w : CpuView R) (call : CpuCall) → IsSettled firing.view v → Changes firing v call w → IsPutOff call → ⊥
+  put_off : (v w : CpuView R) (call : CpuCall) → IsSettled firing.view v → CpuChanges firing v call w → IsPutOff call → ⊥
   put_off v w (Add id level when now (Err e)) s d u =
       not_added_until id now level when v w e
       (settled_changes v w (Add id level when now (Err e)) s (added_size id now level when v w e d) d) d u
@@ -223,12 +223,12 @@ module _ {R : Type 0} (firing : Raise R) where
       (settles : (soft : Soft) (budget : ℕ) (answer : Result Ran SoftRefused) (s t : Running C R) →
       interrupts soft budget answer s t → IsSettled firing.view s.cpu → IsSettled firing.view t.cpu) where
     abbrev One : Running C R → CpuCall → Running C R → Type 0
-    One = Does handler firing interrupts
+    One = CpuDoes handler firing interrupts
 
     abbrev Ones : Running C R → CpuCall → Running C R → Type 0
-    Ones = Steps handler firing interrupts
+    Ones = CpuSteps handler firing interrupts
 
-    quiet_grows : (s t : Running C R) (call : CpuCall) → Changes firing s.cpu call t.cpu × (t.calls ≡ s.calls) →
+    quiet_grows : (s t : Running C R) (call : CpuCall) → CpuChanges firing s.cpu call t.cpu × (t.calls ≡ s.calls) →
         s.cpu.size ≤ t.cpu.size
     quiet_grows s t call d = (changes_still firing s.cpu t.cpu call d.0).grows
 
@@ -254,7 +254,7 @@ module _ {R : Type 0} (firing : Raise R) where
     grows s t Resume d = quiet_grows s t Resume d
 
     quiet_settled : (s t : Running C R) (call : CpuCall) → IsSettled firing.view s.cpu → t.cpu.size ≡ s.cpu.size →
-        Changes firing s.cpu call t.cpu × (t.calls ≡ s.calls) → IsSettled firing.view t.cpu
+        CpuChanges firing s.cpu call t.cpu × (t.calls ≡ s.calls) → IsSettled firing.view t.cpu
     quiet_settled s t call h same d = settled_changes s.cpu t.cpu call h same d.0
 
     pub settled_one : (s t : Running C R) (call : CpuCall) → IsSettled firing.view s.cpu → IsNoFire call → t.cpu.size ≡ s.cpu.size

@@ -21,7 +21,7 @@ use Rattle.cyc_cpu.specs.Removal.{calls_at, Leaves}
 use Rattle.cyc_cpu.specs.Cpu.{CpuView, Looked, Asks, Reserves, Widens, Places, size_for, bank_for}
 use Rattle.cyc_cpu.specs.Moving.{Inquires, WhyNotTaken}
 use Rattle.cyc_cpu.specs.Calls.{Suspend, Resume}
-use Rattle.cyc_cpu.specs.Calls.{CpuCall, Changes, Fire, SoftInterrupt, Add, Place, Reprogram, AskPending, AskTotals, AskRoom}
+use Rattle.cyc_cpu.specs.Calls.{CpuCall, CpuChanges, Fire, SoftInterrupt, Add, Place, Reprogram, AskPending, AskTotals, AskRoom}
 use Rattle.cyc_cpu.specs.Calls.{Reserve, Widen, BeginRemove, PollRemove, TakeNow, AskSettled}
 use Rattle.cyc_cpu.specs.Rows.{Cyclic}
 
@@ -223,7 +223,7 @@ module _ {R : Type 0} (firing : Raise R) where
   not_taken_still id v w e d = absurd d
 
   not_added_still : (id now : ℕ) (level : Level) (when : When) (v w : CpuView R) (e : Refusal) →
-      Changes firing v (Add id level when now (Err e)) w → Stills v w
+      CpuChanges firing v (Add id level when now (Err e)) w → Stills v w
   not_added_still id now level when v w why.BadNow d = stills_same v w d.2
   not_added_still id now level when v w e d = stills_looked v w d.2
 
@@ -237,7 +237,7 @@ module _ {R : Type 0} (firing : Raise R) where
   }
 
   -- every call but a fire and a soft interrupt
-  pub changes_still : (v w : CpuView R) (call : CpuCall) → Changes firing v call w → Stills v w
+  pub changes_still : (v w : CpuView R) (call : CpuCall) → CpuChanges firing v call w → Stills v w
   changes_still v w (Add id level when now (Ok done)) (absent, early, a) =
       stills_on v a.reserved w (stills_reserved 1 v a.reserved a.reserves)
       (stills_on a.reserved a.widened w (stills_widened 1 a.reserved a.widened a.widens)

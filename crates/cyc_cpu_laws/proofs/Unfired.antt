@@ -14,10 +14,10 @@ use Rattle.cyc_cpu.specs.FireRefused.{FireRefused}
 use Rattle.cyc_cpu.specs.Rows.{timers}
 use Rattle.cyc_cpu.specs.Shares.{share}
 use Rattle.cyc_cpu.specs.Cpu.{CpuView, Running}
-use Rattle.cyc_cpu.specs.Calls.{CpuCall, Does, Fire, SoftInterrupt, Add, Place, Reprogram, AskPending, AskTotals, AskRoom}
-use Rattle.cyc_cpu.specs.Calls.{Reserve, Widen, BeginRemove, PollRemove, TakeNow, AskSettled, Suspend, Resume, Changes}
+use Rattle.cyc_cpu.specs.Calls.{CpuCall, CpuDoes, Fire, SoftInterrupt, Add, Place, Reprogram, AskPending, AskTotals, AskRoom}
+use Rattle.cyc_cpu.specs.Calls.{Reserve, Widen, BeginRemove, PollRemove, TakeNow, AskSettled, Suspend, Resume, CpuChanges}
 use Rattle.cyc_cpu.proofs.Calling.{LeavesMark, changes_suspended}
-use Rattle.cyc_cpu_laws.specs.Runs.{Steps}
+use Rattle.cyc_cpu_laws.specs.Runs.{CpuSteps}
 use Rattle.cyc_cpu_laws.specs.Accounts.{made_by}
 use Rattle.cyc_cpu_laws.specs.Suspension.{IsNoResume, StandsStill}
 use Rattle.cyc_cpu_laws.proofs.Accounting.{none_made}
@@ -27,13 +27,13 @@ module _ {C R : Type 0} (handler : Calls C) (firing : Raise R)
     (keeps : (soft : Soft) (budget : ℕ) (answer : Result Ran SoftRefused) (s t : Running C R) →
     interrupts soft budget answer s t → t.cpu.suspended ≡ s.cpu.suspended) where
   abbrev One : Running C R → CpuCall → Running C R → Type 0
-  One = Does handler firing interrupts
+  One = CpuDoes handler firing interrupts
 
   abbrev Ones : Running C R → CpuCall → Running C R → Type 0
-  Ones = Steps handler firing interrupts
+  Ones = CpuSteps handler firing interrupts
 
   quiet : (s t : Running C R) (call : CpuCall) → s.cpu.suspended ≡ true → LeavesMark call →
-      Changes firing s.cpu call t.cpu × (t.calls ≡ s.calls) → t.cpu.suspended ≡ true
+      CpuChanges firing s.cpu call t.cpu × (t.calls ≡ s.calls) → t.cpu.suspended ≡ true
   quiet s t call is plain d = changes_suspended firing s.cpu t.cpu call plain d.0 ∙ is
 
   -- a call that doesn't resume the CPU leaves it suspended

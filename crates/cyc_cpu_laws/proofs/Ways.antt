@@ -2,7 +2,7 @@
 use Rattle.std.proofs.Common.{◌≡◌, ℕ, ◌+◌, ◌≤◌, List, [], ◌∷◌, ◌++◌, Some, None, refl, sym, ap, ◌∙◌, arith}
 use Rattle.cyc_types.specs.declared.Raise.{Ghosts as Raise}
 use Rattle.cyc_types.specs.Firing.{FiringView, FiringCall, Admits, Loads, Raises, Marks, Polls, Expands, Looks, Learns}
-use Rattle.cyc_types.specs.Runs.{Goes, Taught, raises_of, losses_of}
+use Rattle.cyc_types.specs.Runs.{Goes, Taught, raises_in_call, losses_in_call}
 use Rattle.cyc_types.specs.declared.firing.Raised.TheVariants.{First, More, Lost}
 use Rattle.cyc_types.proofs.Runs.{goes_on, raised_on, lost_on, lost_few}
 use Rattle.cyc_cpu_laws.specs.Passing.{Passes}
@@ -29,8 +29,8 @@ module _ {R : Type 0} (firing : Raise R) where
   pub passes_none : (e : R) → Passes firing (λ id. 0) (λ id. 0) e e
   passes_none e = record { way = []; goes = refl; raises = λ id. refl; losses = λ id. refl }
 
-  pub passes_one : (e f : R) (call : FiringCall) → Taught firing e call f → Passes firing (λ id. raises_of id call)
-      (λ id. losses_of id call) e f
+  pub passes_one : (e f : R) (call : FiringCall) → Taught firing e call f → Passes firing (λ id. raises_in_call id call)
+      (λ id. losses_in_call id call) e f
   passes_one e f call t = record { way = call ∷ []; goes = (f, t, refl); raises = λ id. omega arith; losses = λ id. omega arith }
 
   pub passes_on : (r l r' l' : ℕ → ℕ) (e f g : R) → Passes firing r l e f → Passes firing r' l' f g →

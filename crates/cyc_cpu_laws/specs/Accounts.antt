@@ -26,29 +26,29 @@ made_by (Fire now (Err e)) cs = take e.expired (expirations now (timers cs))
 made_by call cs = []
 
 -- these counts for their own id, and none for another
-abbrev pub counts_of : ℕ → Sent → ℕ → Sent
-counts_of own counts id = cond (own == id) counts no_counts
+abbrev pub counts_for : ℕ → Sent → ℕ → Sent
+counts_for own counts id = cond (own == id) counts no_counts
 
 -- the counts with which a call put in each id: those that a cyclic carries in
 abbrev pub entered_by : CpuCall → ℕ → Sent
-entered_by (Place own level interval moment carried) id = counts_of own carried id
+entered_by (Place own level interval moment carried) id = counts_for own carried id
 entered_by call id = no_counts
 
 -- the counts with which each id left by a call: those of the receipt, or of what was taken
 abbrev pub left_by : CpuCall → ℕ → Sent
-left_by (BeginRemove own (Ok (Done r))) id = counts_of own (record { sent = r.sent; lost = r.lost }) id
-left_by (PollRemove (Some r)) id = counts_of r.id (record { sent = r.sent; lost = r.lost }) id
-left_by (TakeNow own (Ok taken)) id = counts_of own taken.sent id
+left_by (BeginRemove own (Ok (Done r))) id = counts_for own (record { sent = r.sent; lost = r.lost }) id
+left_by (PollRemove (Some r)) id = counts_for r.id (record { sent = r.sent; lost = r.lost }) id
+left_by (TakeNow own (Ok taken)) id = counts_for own taken.sent id
 left_by call id = no_counts
 
 -- the calls of handlers that a soft interrupt's answer tells
-abbrev pub told : Result Ran SoftRefused → ℕ
-told (Ok ran) = ran.calls
-told (Err refused) = refused.calls
+abbrev pub calls_told : Result Ran SoftRefused → ℕ
+calls_told (Ok ran) = ran.calls
+calls_told (Err refused) = refused.calls
 
 -- those that a call tells at each level
 abbrev pub served_by : CpuCall → Level → ℕ
-served_by (SoftInterrupt soft budget answer) level = cond (same_level level (as_level soft)) (told answer) 0
+served_by (SoftInterrupt soft budget answer) level = cond (same_level level (as_level soft)) (calls_told answer) 0
 served_by call level = 0
 
 -- what calls did: the expirations of each id at each level, the calls that soft interrupts tell at each level, and the counts
@@ -60,8 +60,8 @@ pub record Account : Type 0 where
   pub left : ℕ → Sent
 
 -- no call
-abbrev pub nothing : Account
-nothing = record { fired = λ level id. 0; served = λ level. 0; entered = λ id. no_counts; left = λ id. no_counts }
+abbrev pub no_call_made : Account
+no_call_made = record { fired = λ level id. 0; served = λ level. 0; entered = λ id. no_counts; left = λ id. no_counts }
 
 abbrev pub both_counts : (ℕ → Sent) → (ℕ → Sent) → ℕ → Sent
 both_counts a b id = record { sent = (a id).sent + (b id).sent; lost = (a id).lost + (b id).lost }
@@ -87,7 +87,7 @@ account_of call cs = record {
 -- the calls of a run
 abbrev pub account_in : {C R : Type 0} (D : Running C R → CpuCall → Running C R → Type 0) (s : Running C R) (way : List CpuCall)
     (t : Running C R) → FoldsTo D s way t → Account
-account_in D s [] t run = nothing
+account_in D s [] t run = no_call_made
 account_in D s (call ∷ way) t run = both (account_of call s.cpu.cyclics) (account_in D run.0 way t run.2)
 
 -- the expirations and the losses that a CPU has of an id, 0 where no cyclic has it
@@ -99,8 +99,8 @@ lost_of id cs = sum_by (λ c. cond (c.timer.id == id) c.lost 0) cs
 
 -- what cyclics have of an id's expirations, with what it left with, is what they had, with what it entered with and what the
 -- fires made of it
-abbrev pub AddsUp : Account → List Cyclic → List Cyclic → Type 0
-AddsUp a cs cs' = (id : ℕ) → expired_of id cs' + (a.left id).sent
+abbrev pub AccountsAddUp : Account → List Cyclic → List Cyclic → Type 0
+AccountsAddUp a cs cs' = (id : ℕ) → expired_of id cs' + (a.left id).sent
     ≡ expired_of id cs + (a.entered id).sent + (a.fired Lock id + a.fired Low id + a.fired High id)
 
 -- so do the losses, with those of the raises at the two ends
@@ -125,6 +125,6 @@ pub record Proceeds {C R : Type 0} (count : C → ℕ → ℕ) (firing : Raise R
   pub lock : Passes firing (a.fired Lock) lock_lost s.cpu.lock t.cpu.lock
   pub low : Passes firing (a.fired Low) low_lost s.cpu.low t.cpu.low
   pub called : (id : ℕ) → count t.calls id ≡ count s.calls id + a.fired High id
-  pub expired : AddsUp a s.cpu.cyclics t.cpu.cyclics
+  pub expired : AccountsAddUp a s.cpu.cyclics t.cpu.cyclics
   pub lost : LossesAddUp a lock_lost low_lost s.cpu.cyclics t.cpu.cyclics
   pub limits : KeepsLimits firing.view s.cpu t.cpu

@@ -8,7 +8,7 @@ use Rattle.cyc_types.specs.declared.level.Level.TheVariants.{Low, Lock, High}
 use Rattle.cyc_cpu.specs.Tables.{Tables}
 use Rattle.cyc_cpu.specs.Cpu.{Running}
 use Rattle.cyc_cpu.specs.Soft.{raise_tables, drains, firing_at}
-use Rattle.cyc_cpu_laws.specs.Accounts.{Account, AddsUp, LossesAddUp, KeepsLimits}
+use Rattle.cyc_cpu_laws.specs.Accounts.{Account, AccountsAddUp, LossesAddUp, KeepsLimits}
 
 -- a call of either side of a level, with its answer
 pub data LevelCall : Type 0 where
@@ -54,6 +54,6 @@ pub record CoreProceeds {C : Type 0} (count : C → ℕ → ℕ) (a : Account) (
   pub lock : CorePasses (a.fired Lock) lock_lost lock_made (a.served Lock) s.cpu.lock t.cpu.lock
   pub low : CorePasses (a.fired Low) low_lost low_made (a.served Low) s.cpu.low t.cpu.low
   pub called : (id : ℕ) → count t.calls id ≡ count s.calls id + a.fired High id + lock_made id + low_made id
-  pub expired : AddsUp a s.cpu.cyclics t.cpu.cyclics
+  pub expired : AccountsAddUp a s.cpu.cyclics t.cpu.cyclics
   pub lost : LossesAddUp a lock_lost low_lost s.cpu.cyclics t.cpu.cyclics
   pub limits : KeepsLimits firing_at s.cpu t.cpu

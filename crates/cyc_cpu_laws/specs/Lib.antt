@@ -6,18 +6,3 @@ pub mod Settled
 pub mod Absence
 pub mod Suspension
 pub mod Receipts
-pub use Rattle.cyc_cpu.specs.Cpu
-pub use Rattle.cyc_cpu.specs.Calls
-pub use Rattle.cyc_cpu.specs.Removal
-pub use Rattle.cyc_cpu.specs.Soft
-pub use Rattle.cyc_cpu.specs.Fired
-pub use Rattle.cyc_cpu.specs.FireRefused
-pub use Rattle.cyc_cpu.specs.Laws
-pub use Rattle.cyc_cpu.specs.Losses
-pub use Rattle.cyc_cpu.specs.Acts
-pub use Rattle.cyc_cpu.specs.Made
-pub use Rattle.cyc_cpu.specs.Quiet
-pub use Rattle.cyc_cpu.specs.Moving
-pub use Rattle.cyc_cpu.specs.declared.moving.Taken
-pub use Rattle.cyc_cpu.specs.declared.removing.Removal as CpuRemoval
-pub use Rattle.cyc_cpu.specs.Gone

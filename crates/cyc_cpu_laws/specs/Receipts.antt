@@ -37,15 +37,15 @@ pending_by High v id = 0
 
 -- each expiration of a cyclic of a soft level was lost, or its call is outstanding, or it was made: here, or before the cyclic
 -- was carried in
-abbrev pub IsBalanced : CpuView Tables → Cyclic → Type 0
-IsBalanced v c = c.timer.level ≢ High → (n : ℕ) → HasCalls c.carried n →
+abbrev pub IsBalancedCyclic : CpuView Tables → Cyclic → Type 0
+IsBalancedCyclic v c = c.timer.level ≢ High → (n : ℕ) → HasCalls c.carried n →
     c.timer.expired ≡ c.lost + (n + done_by c.timer.level v c.timer.id) + pending_by c.timer.level v c.timer.id
 
 -- what the call answers of the id: the calls that its cyclic carried in, and those that were done here
 pub record AnswersCalls (id : ℕ) (call : CpuCall) (v : CpuView Tables) : Type 0 where
-  pub place : ℕ
+  pub position : ℕ
   pub cyclic : Cyclic
-  pub here : IsCyclic v.cyclics place cyclic
+  pub here : IsCyclic v.cyclics position cyclic
   pub named : cyclic.timer.id ≡ id
   pub calls : cyclic.timer.level ≢ High → (n : ℕ) → HasCalls cyclic.carried n
       → HasCalls (left_by call id) (n + done_by cyclic.timer.level v id)

@@ -6,8 +6,8 @@ ghost use Rattle.cyc_cpu.specs.Cpu.{Running};
 ghost use Rattle.cyc_cpu.specs.Laws.{IsLawful};
 ghost use Rattle.cyc_cpu.specs.Calls.{CpuCall, no_interrupts};
 ghost use Rattle.cyc_cpu.specs.Gone.{IsOff, PutsNot};
-ghost use Rattle.cyc_cpu_laws.specs.Runs.{Steps};
-ghost use Rattle.cyc_cpu_laws.specs.Absence.{StaysOff};
+ghost use Rattle.cyc_cpu_laws.specs.Runs.{CpuSteps};
+ghost use Rattle.cyc_cpu_laws.specs.Absence.{StaysOff, run_from};
 
 use cyc_types::{Calls, Raise};
 
@@ -18,6 +18,7 @@ use cyc_types::{Calls, Raise};
 pub fn absence_law<C: Calls, R: Raise>()
     ensures { (id : ℕ) (s t : Running C R) (way : List CpuCall) → IsLawful R.view s.cpu
         → IsOff R.view id s.cpu → All (PutsNot id) way
-        → (run : FoldsTo (Steps C.Calls R.Raise no_interrupts) s way t)
-        → StaysOff C.count R.view (Steps C.Calls R.Raise no_interrupts) id s way t run }
+        → (run : FoldsTo (CpuSteps C.Calls R.Raise no_interrupts) s way t)
+        → StaysOff C.count R.view (CpuSteps C.Calls R.Raise no_interrupts) id
+        (run_from (CpuSteps C.Calls R.Raise no_interrupts) s way t run) }
 {}

@@ -2,7 +2,7 @@
 
 ghost use Rattle.std.specs.Prelude.{◌≡◌, ℕ, ◌+◌, ◌≤◌};
 ghost use Rattle.cyc_types.specs.Firing.{FiringCall};
-ghost use Rattle.cyc_types.specs.Runs.{Taught, raises_of, losses_of};
+ghost use Rattle.cyc_types.specs.Runs.{Taught, raises_in_call, losses_in_call};
 ghost use Rattle.cyc_cpu_laws.specs.Passing.{Passes};
 
 use cyc_types::Raise;
@@ -14,7 +14,7 @@ use cyc_types::Raise;
 pub fn passing_law<R: Raise>()
     ensures none { (e : R) → Passes R.Raise (λ id. 0) (λ id. 0) e e }
     ensures one { (e f : R) (call : FiringCall) → Taught R.Raise e call f
-        → Passes R.Raise (λ id. raises_of id call) (λ id. losses_of id call) e f }
+        → Passes R.Raise (λ id. raises_in_call id call) (λ id. losses_in_call id call) e f }
     ensures joined { (raised lost raised' lost' : ℕ → ℕ) (e f g : R) → Passes R.Raise raised lost e f
         → Passes R.Raise raised' lost' f g
         → Passes R.Raise (λ id. raised id + raised' id) (λ id. lost id + lost' id) e g }

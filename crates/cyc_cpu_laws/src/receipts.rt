@@ -6,8 +6,8 @@ ghost use Rattle.cyc_cpu.specs.Lawful.{Lawful};
 ghost use Rattle.cyc_cpu.specs.Cpu.{CpuView};
 ghost use Rattle.cyc_cpu.specs.Laws.{IsLawful};
 ghost use Rattle.cyc_cpu.specs.Soft.{raise_tables, firing_at};
-ghost use Rattle.cyc_cpu.specs.Calls.{CpuCall, Changes};
-ghost use Rattle.cyc_cpu_laws.specs.Receipts.{Releases, AnswersCalls, IsBalanced};
+ghost use Rattle.cyc_cpu.specs.Calls.{CpuCall, CpuChanges};
+ghost use Rattle.cyc_cpu_laws.specs.Receipts.{Releases, AnswersCalls, IsBalancedCyclic};
 
 /// Of a cyclic of a soft level, on a CPU whose levels no other thread uses, a receipt says the calls that were carried in
 /// and those that were done here; and so does what a move takes.
@@ -16,7 +16,7 @@ ghost use Rattle.cyc_cpu_laws.specs.Receipts.{Releases, AnswersCalls, IsBalanced
 pub fn receipt_law()
     ensures { (id : ℕ) (call : CpuCall) (v w : CpuView Tables) → IsLawful firing_at v → Lawful (level_of v.lock)
         → Lawful (level_of v.low)
-        → Releases id call → Changes raise_tables v call w → AnswersCalls id call v }
+        → Releases id call → CpuChanges raise_tables v call w → AnswersCalls id call v }
 {}
 
 /// The same of the counts that the CPU has: each expiration of a cyclic of a soft level was lost, or its call is outstanding or
@@ -25,5 +25,5 @@ pub fn receipt_law()
 /// It does nothing when it runs: its clause is the law.
 pub fn balance_law()
     ensures { (v : CpuView Tables) → IsLawful firing_at v → Lawful (level_of v.lock) → Lawful (level_of v.low)
-        → All (IsBalanced v) v.cyclics }
+        → All (IsBalancedCyclic v) v.cyclics }
 {}

@@ -21,19 +21,19 @@ use Rattle.cyc_timers.specs.Rows.{Cyclic as Timed}
 use Rattle.cyc_timers.specs.Acts.{same_level}
 use Rattle.cyc_cpu.specs.declared.removing.Removal.TheVariants.{Done, Kept}
 use Rattle.cyc_cpu.specs.Cpu.{CpuView, Running, IsCyclic, Asks, Looked, HasRoom, WhyNoRoom, WhyNotReserved, Reserves}
-use Rattle.cyc_cpu.specs.Removal.{HasCyclic, WhyNotBegun, IsReceipt, Waits}
+use Rattle.cyc_cpu.specs.Removal.{HasCyclic, WhyNotBegun, IsReceipt, WaitsHere}
 use Rattle.cyc_cpu.specs.Moving.{WhyNotTaken}
 use Rattle.cyc_cpu_model.specs.Tied.{IsTied}
 use Rattle.cyc_cpu.specs.Soft.{raise_tables, firing_at as seen, Interrupts}
 use Rattle.cyc_cpu.specs.Calls.{Suspend, Resume}
 use Rattle.cyc_cpu.specs.Calls.{CpuCall, Fire, SoftInterrupt, Add, Place, Reprogram, AskPending, AskTotals, AskRoom, Reserve}
-use Rattle.cyc_cpu.specs.Calls.{Widen, BeginRemove, PollRemove, TakeNow, AskSettled, Changes, Does}
+use Rattle.cyc_cpu.specs.Calls.{Widen, BeginRemove, PollRemove, TakeNow, AskSettled, CpuChanges, CpuDoes}
 use Rattle.cyc_model.specs.Cpu.{has_cyclic}
 use Rattle.cyc_model.specs.Questions.{outstanding_here}
 use Rattle.cyc_types.specs.Reasons.{first_refusal, or_else, only_if, when, busy, bad_now}
-use Rattle.cyc_cpu_model.specs.Shown.{shown, shown_cpu}
+use Rattle.cyc_cpu_model.specs.Shown.{shown_cyclic, shown_cpu}
 use Rattle.cyc_cpu_model.specs.Here.{IsStopped, IsInTime}
-use Rattle.cyc_cpu_model.specs.Answers.{IsAnswered, IsRefused, IsReceiptOf, why_no_room, why_not_begun, why_not_taken}
+use Rattle.cyc_cpu_model.specs.Answers.{IsAnswered, IsRefused, IsReceiptFor, why_no_room, why_not_begun, why_not_taken}
 use Rattle.cyc_cpu_model.proofs.Counting.{has_it, has_not, found_as, outstanding_is, loads, marks, ends_at, takes, clears, waits}
 use Rattle.cyc_cpu_model.proofs.Leaving.{level_found}
 use Rattle.cyc_cpu_model.proofs.Levels.{only_looked}
@@ -123,7 +123,7 @@ why_shown : (more : ℕ) (online : Bool) (v w : CpuView Tables) → SameLevels v
     → why_no_room more (shown_cpu online v) ≡ why_in more w
 why_shown more online v w s =
     ap (λ m. reason (nat_lt most_cyclics (m + more)) (nat_lt v.size (m + more)) v.removal
-    (is_followed (level_of v.lock) (level_of v.low))) (length-map v.cyclics shown)
+    (is_followed (level_of v.lock) (level_of v.low))) (length-map v.cyclics shown_cyclic)
     ∙ sym (λ z. reason (nat_lt most_cyclics (length (s.cyclics z) + more)) (nat_lt (s.size z) (length (s.cyclics z) + more))
     (s.removal z) (is_followed (s.lock z) (s.low z)))
 
@@ -185,7 +185,7 @@ pub asked_outstanding : (id n : ℕ) (online : Bool) (v w : CpuView Tables) → 
     → (a : Asks raise_tables id n v w) → n ≡ outstanding_here id (shown_cpu online v)
 asked_outstanding id n online v w law a =
     let x = a.cyclic in
-    outstanding_is id n a.place x online v law a.here a.named a.high
+    outstanding_is id n a.position x online v law a.here a.named a.high
     (λ e. loads (same_level Lock x.timer.level) id n v.lock w.lock a.lock (ap (same_level Lock) e))
     (λ e. loads (same_level Low x.timer.level) id n v.low w.low a.low (ap (same_level Low) e))
 
@@ -232,15 +232,15 @@ not_taken id online (Busy removed) v w law why =
     (has_at id online v why.0) why.1
 not_taken id online Pending v w law (still, some, n, more, asks) =
     let is = asked_outstanding id n online v w law asks in
-    taken_pending _ _ v.removal (has_it id v.cyclics asks.place asks.cyclic asks.here asks.named) still
+    taken_pending _ _ v.removal (has_it id v.cyclics asks.position asks.cyclic asks.here asks.named) still
     (far 0 (outstanding_here id (shown_cpu online v)) (omega (arith, is, more)))
 not_taken id online e v w law why = absurd why
 
 receipt_of : (id k : ℕ) (online : Bool) (receipt : Receipt) (x : Timed) (v : CpuView Tables) → IsTied v
     → IsCyclic v.cyclics k x → x.timer.id ≡ id → IsReceipt receipt x
-    → IsReceiptOf id receipt (shown_cpu online v)
+    → IsReceiptFor id receipt (shown_cpu online v)
 receipt_of id k online receipt x v law is named r =
-    (shown x, found_as id v.cyclics k x law.rising is named, r.0 ∙ named, r.1, r.2)
+    (shown_cyclic x, found_as id v.cyclics k x law.rising is named, r.0 ∙ named, r.1, r.2)
 
 -- nothing is outstanding where its end found nothing
 none_outstanding : (id k : ℕ) (online : Bool) (x : Timed) (v : CpuView Tables) → IsTied v → IsCyclic v.cyclics k x
@@ -264,12 +264,12 @@ some_outstanding id k n online x v law is named soft lock low =
 
 -- ---- polls
 
-waiting : (id : ℕ) (online : Bool) (v w : CpuView Tables) → IsTied v → v.removal ≡ Some id → Waits raise_tables id v w
+waiting : (id : ℕ) (online : Bool) (v w : CpuView Tables) → IsTied v → v.removal ≡ Some id → WaitsHere raise_tables id v w
     → 0 < outstanding_here id (shown_cpu online v)
 waiting id online v w law is_open p = pick p.cyclic.timer.level refl
   where
     soft : p.cyclic.timer.level ≡ High → ⊥
-    soft high = (law.own online).removed id is_open (level_found online p.place id p.cyclic v law.rising p.here p.named ∙ high)
+    soft high = (law.own online).removed id is_open (level_found online p.position id p.cyclic v law.rising p.here p.named ∙ high)
 
     pick : (level : Level) → p.cyclic.timer.level ≡ level → 0 < outstanding_here id (shown_cpu online v)
     pick High at = absurd (soft at)
@@ -282,7 +282,7 @@ waiting id online v w law is_open p = pick p.cyclic.timer.level refl
 
 not_added : (id : ℕ) (level : Level) (series : When) (now : ℕ) (online : Bool) (e : Refusal) (v w : CpuView Tables)
     → now ≤ never
-    → Changes raise_tables v (Add id level series now (Err e)) w
+    → CpuChanges raise_tables v (Add id level series now (Err e)) w
     → IsRefused e (first_refusal (bad_now now ∷ why_no_room 1 (shown_cpu online v) ∷ []))
 not_added id level series now online BadNow v w most d =
     list_of (bad_now now) (why_no_room 1 (shown_cpu online v)) ∙ late now (why_no_room 1 (shown_cpu online v)) d.1
@@ -297,7 +297,7 @@ not_added id level series now online e v w most d =
 
 pub answers : {C : Type 0} (handler : Calls C) (n : ℕ) (online : Bool)
     (call : CpuCall) (s t : Running C Tables) → IsTied s.cpu → IsInTime call → (IsStopped call → ⊥)
-    → Does handler raise_tables (Interrupts handler) s call t
+    → CpuDoes handler raise_tables (Interrupts handler) s call t
     → IsAnswered n call (shown_cpu online s.cpu)
 answers handler n online (Fire now (Ok r)) s t law in_time goes (early_now, kept, expired, next, makes) =
     let f = fires_here (at_level handler.called High) handler.count n now r.lost online s.cpu t.cpu s.calls t.calls makes kept in
@@ -326,11 +326,11 @@ answers handler n online (Reprogram id moment (Err e)) s t law in_time goes ((is
 answers handler n online (Reprogram id moment (Err e)) s t law in_time goes ((is, inr removed, same), calls) =
     (is, inr removed)
 answers handler n online (AskPending id (Some m)) s t law in_time goes (d, calls) =
-    (has_it id s.cpu.cyclics d.0.place d.0.cyclic d.0.here d.0.named, asked_outstanding id m online s.cpu t.cpu law d.0)
+    (has_it id s.cpu.cyclics d.0.position d.0.cyclic d.0.here d.0.named, asked_outstanding id m online s.cpu t.cpu law d.0)
 answers handler n online (AskPending id None) s t law in_time goes (d, calls) = has_not id s.cpu.cyclics d.0
 answers handler n online (AskTotals id (Some totals)) s t law in_time goes ((a, pend, expired, lost, spared), calls) = (
-  shown a.cyclic,
-  found_as id s.cpu.cyclics a.place a.cyclic law.rising a.here a.named,
+  shown_cyclic a.cyclic,
+  found_as id s.cpu.cyclics a.position a.cyclic law.rising a.here a.named,
   expired,
   lost,
   asked_outstanding id totals.pending online s.cpu t.cpu law a,
@@ -347,17 +347,17 @@ answers handler n online (Reserve more (Err e)) s t law in_time goes (d, calls) 
 answers handler n online (Widen more) s t law in_time goes does = tt
 answers handler n online (BeginRemove id (Ok (Done receipt))) s t law in_time goes
     ((still, (x, counts, is, polled, leaves)), calls) = (
-      begun _ s.cpu.removal (has_it id s.cpu.cyclics leaves.place x leaves.here leaves.named) still,
-      none_outstanding id leaves.place online x s.cpu law leaves.here leaves.named
+      begun _ s.cpu.removal (has_it id s.cpu.cyclics leaves.position x leaves.here leaves.named) still,
+      none_outstanding id leaves.position online x s.cpu law leaves.here leaves.named
           (ends_at (same_level Lock x.timer.level) id counts s.cpu.lock t.cpu.lock leaves.goes.0)
           (ends_at (same_level Low x.timer.level) id counts s.cpu.low t.cpu.low leaves.goes.1),
-      receipt_of id leaves.place online receipt x s.cpu law leaves.here leaves.named is,
+      receipt_of id leaves.position online receipt x s.cpu law leaves.here leaves.named is,
     )
 answers handler n online (BeginRemove id (Ok (Kept kept))) s t law in_time goes ((still, opens), calls) =
     let x = opens.cyclic in (
-      begun _ s.cpu.removal (has_it id s.cpu.cyclics opens.place x opens.here opens.named) still,
+      begun _ s.cpu.removal (has_it id s.cpu.cyclics opens.position x opens.here opens.named) still,
       opens.some,
-      some_outstanding id opens.place kept online x s.cpu law opens.here opens.named opens.soft
+      some_outstanding id opens.position kept online x s.cpu law opens.here opens.named opens.soft
           (marks (same_level Lock x.timer.level) id kept s.cpu.lock t.cpu.lock opens.goes.0)
           (marks (same_level Low x.timer.level) id kept s.cpu.low t.cpu.low opens.goes.1),
     )
@@ -367,21 +367,29 @@ answers handler n online (PollRemove (Some receipt)) s t law in_time goes (ends,
     let x = ends.cyclic in
     let l = ends.leaves in (
       ends.was_open,
-      none_outstanding receipt.id l.place online x s.cpu law l.here l.named
+      none_outstanding receipt.id l.position online x s.cpu law l.here l.named
           (clears (same_level Lock x.timer.level) receipt.id ends.counts s.cpu.lock t.cpu.lock l.goes.0)
           (clears (same_level Low x.timer.level) receipt.id ends.counts s.cpu.low t.cpu.low l.goes.1),
-      receipt_of receipt.id l.place online receipt x s.cpu law l.here l.named ends.counted,
+      receipt_of receipt.id l.position online receipt x s.cpu law l.here l.named ends.counted,
     )
 answers handler n online (PollRemove None) s t law in_time goes (inl none, calls) = inl none.0
 answers handler n online (PollRemove None) s t law in_time goes (inr (id, is_open, w), calls) =
     inr (id, is_open, waiting id online s.cpu t.cpu law is_open w)
 answers handler n online (TakeNow id (Ok got)) s t law in_time goes ((still, (x, counts, is, polled, leaves)), calls) =
-    let none = none_outstanding id leaves.place online x s.cpu law leaves.here leaves.named
+    let none = none_outstanding id leaves.position online x s.cpu law leaves.here leaves.named
     (takes (same_level Lock x.timer.level) id counts s.cpu.lock t.cpu.lock leaves.goes.0)
     (takes (same_level Low x.timer.level) id counts s.cpu.low t.cpu.low leaves.goes.1) in (
-      taken_none _ _ s.cpu.removal (has_it id s.cpu.cyclics leaves.place x leaves.here leaves.named) still
+      taken_none _ _ s.cpu.removal (has_it id s.cpu.cyclics leaves.position x leaves.here leaves.named) still
           (near 0 (outstanding_here id (shown_cpu online s.cpu)) (omega (arith, none))),
-      (shown x, found_as id s.cpu.cyclics leaves.place x law.rising leaves.here leaves.named, is.0, is.1, is.2, is.3, is.4),
+      (
+        shown_cyclic x,
+        found_as id s.cpu.cyclics leaves.position x law.rising leaves.here leaves.named,
+        is.0,
+        is.1,
+        is.2,
+        is.3,
+        is.4,
+      ),
     )
 answers handler n online (TakeNow id (Err e)) s t law in_time goes (d, calls) =
     not_taken id online e s.cpu t.cpu law d

@@ -12,14 +12,14 @@ use Rattle.cyc_level.specs.declared.Event.TheVariants.{Admit, Switch}
 use Rattle.cyc_core.specs.Tables.{Tables, level_of}
 use Rattle.cyc_timers.specs.Rows.{Cyclic as Timed}
 use Rattle.cyc_timers.specs.Acts.{same_level}
-use Rattle.cyc_cpu.specs.Cpu.{CpuView, HasRisingIds, Looked, Reserves, Widens, Places, size_for, bank_for, least_bank}
-use Rattle.cyc_cpu.specs.Calls.{Adds}
+use Rattle.cyc_cpu.specs.Cpu.{CpuView, HasRisingCyclics, Looked, Reserves, Widens, Places, size_for, bank_for, least_bank}
+use Rattle.cyc_cpu.specs.Calls.{AddsHere, added_cyclic}
 use Rattle.cyc_cpu.specs.Soft.{raise_tables}
 use Rattle.cyc_model.specs.Cpu.{Cpu, nothing_here}
 use Rattle.cyc_model.specs.Moving.{put_in, place_here, widen_here, enter_here, switch_here, least_bank as model_least}
 use Rattle.cyc_model.specs.Moving.{bank_for as model_bank}
-use Rattle.cyc_model.specs.Add.{new_cyclic}
-use Rattle.cyc_cpu_model.specs.Shown.{shown, shown_cpu}
+use Rattle.cyc_model.specs.Add.{begun_cyclic}
+use Rattle.cyc_cpu_model.specs.Shown.{shown_cyclic, shown_cpu}
 use Rattle.cyc_cpu_model.proofs.Lists.{put_shown}
 use Rattle.cyc_cpu_model.proofs.Levels.{only_looked, admitted_level, grown_level, own_cpu, where_own}
 
@@ -28,7 +28,7 @@ pub shown_same : (online : Bool) (v w : CpuView Tables) → w.cyclics ≡ v.cycl
     → level_of w.lock ≡ level_of v.lock → level_of w.low ≡ level_of v.low → shown_cpu online w ≡ shown_cpu online v
 shown_same online v w cyclics size removal lock low = λ z. record {
   online = online;
-  cyclics = map shown (cyclics z);
+  cyclics = map shown_cyclic (cyclics z);
   size = size z;
   removal = removal z;
   lock = lock z;
@@ -46,10 +46,12 @@ shown_reserved online more v w r = shown_same online v w r.cyclics r.size r.remo
 
 -- ---- a cyclic is put in
 
-pub placed : (n : ℕ) (online : Bool) (x : Timed) (v w : CpuView Tables) → (p : Places raise_tables x v w) → HasRisingIds w.cyclics
-    → shown_cpu online w ≡ (place_here n p.index (shown x) (shown_cpu online v)).cpu
+pub placed : (n : ℕ) (online : Bool) (x : Timed) (v w : CpuView Tables) → (p : Places raise_tables x v w)
+    → HasRisingCyclics w.cyclics
+    → shown_cpu online w ≡ (place_here n p.index (shown_cyclic x) (shown_cpu online v)).cpu
 placed n online x v w p rising =
-    let cyclics = ap (map shown) p.cyclics ∙ put_shown v.cyclics p.place x p.within (subst HasRisingIds p.cyclics rising) in
+    let cyclics = ap (map shown_cyclic) p.cyclics ∙ put_shown v.cyclics p.position x p.within (subst HasRisingCyclics p.cyclics
+    rising) in
     let lock = admitted_level (same_level Lock x.timer.level) x.timer.id p.index v.lock w.lock p.lock in
     let low = admitted_level (same_level Low x.timer.level) x.timer.id p.index v.low w.low p.low in
     (λ z. record {
@@ -61,7 +63,7 @@ placed n online x v w p rising =
       low = low z;
     })
     ∙ sym (own_cpu x.timer.level n (Admit x.timer.id p.index)
-    (record (shown_cpu online v) { cyclics = put_in (shown x) (map shown v.cyclics) }))
+    (record (shown_cpu online v) { cyclics = put_in (shown_cyclic x) (map shown_cyclic v.cyclics) }))
 
 -- ---- the size grows
 
@@ -104,7 +106,7 @@ pub widened : (n more : ℕ) (online : Bool) (v w : CpuView Tables) → Widens r
     → shown_cpu online w ≡ (widen_here n more (shown_cpu online v)).cpu
 widened n more online v w wd =
     let needed = length v.cyclics + more in
-    let long : length (map shown v.cyclics) ≡ length v.cyclics = length-map v.cyclics shown in
+    let long : length (map shown_cyclic v.cyclics) ≡ length v.cyclics = length-map v.cyclics shown_cyclic in
     let grows = nat_lt v.size needed in
     let lock = grown_level grows (bank_for needed) v.lock w.lock (λ no. wd.kept_lock (within_as v.size needed no))
     (λ yes. wd.lock (less_as v.size needed yes)) in
@@ -113,7 +115,7 @@ widened n more online v w wd =
     let size = wd.size ∙ grow_test v.size needed grows refl in
     let done = widened_as grows n (bank_for needed) (shown_cpu online v) (shown_cpu online w) (λ z. record {
       online = online;
-      cyclics = map shown (wd.cyclics z);
+      cyclics = map shown_cyclic (wd.cyclics z);
       size = size z;
       removal = wd.removal z;
       lock = lock z;
@@ -128,11 +130,11 @@ widened n more online v w wd =
 -- ---- an add
 
 pub added : (n id now : ℕ) (online : Bool) (level : Level) (when : When) (v w : CpuView Tables)
-    → (a : Adds raise_tables id level when now v w)
-    → HasRisingIds w.cyclics → shown_cpu online w
-    ≡ (enter_here n a.enters.index (new_cyclic id level when.start when.interval now) (shown_cpu online v)).cpu
+    → (a : AddsHere raise_tables (added_cyclic id level when now) v w)
+    → HasRisingCyclics w.cyclics → shown_cpu online w
+    ≡ (enter_here n a.enters.index (begun_cyclic id level when.start when.interval now) (shown_cpu online v)).cpu
 added n id now online level when v w a rising =
-    let x = new_cyclic id level when.start when.interval now in
+    let x = begun_cyclic id level when.start when.interval now in
     placed n online _ a.widened w a.enters rising
     ∙ ap (λ (c : Cpu). (place_here n a.enters.index x c).cpu) (widened n 1 online a.reserved a.widened a.widens)
     ∙ ap (λ (c : Cpu). (enter_here n a.enters.index x c).cpu) (shown_reserved online 1 v a.reserved a.reserves)

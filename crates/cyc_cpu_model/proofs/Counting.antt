@@ -13,42 +13,43 @@ use Rattle.cyc_types.specs.declared.level.Level.TheVariants.{Low, Lock, High}
 use Rattle.cyc_level.specs.Level.{AdmittedCyclic, count, count_in}
 use Rattle.cyc_core.specs.Tables.{Tables, level_of}
 use Rattle.cyc_timers.specs.Rows.{Cyclic as Timed}
-use Rattle.cyc_cpu.specs.Cpu.{CpuView, IsCyclic, HasNoCyclic, HasRisingIds}
+use Rattle.cyc_cpu.specs.Cpu.{CpuView, IsCyclic, HasNoCyclic, HasRisingCyclics}
 use Rattle.cyc_cpu_model.specs.Tied.{HasOwn, IsTied}
 use Rattle.cyc_cpu.specs.Soft.{raise_tables}
-use Rattle.cyc_model.specs.Cpu.{Cyclic, Cpu, is_of, handler_level_of}
+use Rattle.cyc_model.specs.Cpu.{CyclicState, Cpu, is_of, handler_level_of}
 use Rattle.cyc_model.specs.Serving.{level_at}
 use Rattle.cyc_types.specs.Levels.{as_level}
 use Rattle.cyc_types.specs.declared.level.Soft.{Soft}
 use Rattle.cyc_types.specs.declared.level.Soft.TheVariants as soft
 use Rattle.cyc_model.specs.Questions.{outstanding_here}
-use Rattle.cyc_cpu_model.specs.Shown.{shown, shown_cpu}
+use Rattle.cyc_cpu_model.specs.Shown.{shown_cyclic, shown_cpu}
 use Rattle.cyc_cpu_model.proofs.Lists.{find_shown, named, not_named}
 
 -- ---- whether the CPU has the cyclic
 
-pub has_shown : (cs : List Timed) (k : ℕ) (x : Timed) → IsCyclic cs k x → list_any (is_of x.timer.id) (map shown cs) ≡ true
+pub has_shown : (cs : List Timed) (k : ℕ) (x : Timed) → IsCyclic cs k x → list_any (is_of x.timer.id) (map shown_cyclic cs) ≡ true
 has_shown [] k x is = absurd (let low = is.0 in omega (arith, low))
 has_shown (c ∷ cs) zero x is =
-    ap (λ b. b || list_any (is_of x.timer.id) (map shown cs)) (named x.timer.id c (ap (λ (y : Timed). y.timer.id) is.1))
+    ap (λ b. b || list_any (is_of x.timer.id) (map shown_cyclic cs)) (named x.timer.id c (ap (λ (y : Timed). y.timer.id) is.1))
 has_shown (c ∷ cs) (suc k) x is =
-    ap (λ b. is_of x.timer.id (shown c) || b) (has_shown cs k x (let low = is.0 in omega (arith, low), is.1))
-    ∙ or_right (is_of x.timer.id (shown c)) true refl
+    ap (λ b. is_of x.timer.id (shown_cyclic c) || b) (has_shown cs k x (let low = is.0 in omega (arith, low), is.1))
+    ∙ or_right (is_of x.timer.id (shown_cyclic c)) true refl
 
 pub has_it : (id : ℕ) (cs : List Timed) (k : ℕ) (x : Timed) → IsCyclic cs k x → x.timer.id ≡ id
-    → list_any (is_of id) (map shown cs) ≡ true
-has_it id cs k x is same = subst (λ i. list_any (is_of i) (map shown cs) ≡ true) same (has_shown cs k x is)
+    → list_any (is_of id) (map shown_cyclic cs) ≡ true
+has_it id cs k x is same = subst (λ i. list_any (is_of i) (map shown_cyclic cs) ≡ true) same (has_shown cs k x is)
 
-pub has_not : (id : ℕ) (cs : List Timed) → HasNoCyclic id cs → list_any (is_of id) (map shown cs) ≡ false
+pub has_not : (id : ℕ) (cs : List Timed) → HasNoCyclic id cs → list_any (is_of id) (map shown_cyclic cs) ≡ false
 has_not id [] none = refl
 has_not id (c ∷ cs) none =
-    ap (λ b. b || list_any (is_of id) (map shown cs)) (not_named id c (none 0 c (omega arith)))
+    ap (λ b. b || list_any (is_of id) (map shown_cyclic cs)) (not_named id c (none 0 c (omega arith)))
     ∙ has_not id cs (λ k d low. none (suc k) d (omega (arith, low)))
 
 -- the cyclic of the id is this one
-pub found_as : (id : ℕ) (cs : List Timed) (k : ℕ) (x : Timed) → HasRisingIds cs → IsCyclic cs k x → x.timer.id ≡ id
-    → find (is_of id) (map shown cs) ≡ Some (shown x)
-found_as id cs k x rising is same = subst (λ i. find (is_of i) (map shown cs) ≡ Some (shown x)) same (find_shown cs k x rising is)
+pub found_as : (id : ℕ) (cs : List Timed) (k : ℕ) (x : Timed) → HasRisingCyclics cs → IsCyclic cs k x → x.timer.id ≡ id
+    → find (is_of id) (map shown_cyclic cs) ≡ Some (shown_cyclic x)
+found_as id cs k x rising is same = subst (λ i. find (is_of i) (map shown_cyclic cs) ≡ Some (shown_cyclic x)) same (find_shown
+    cs k x rising is)
 
 -- ---- the calls that are outstanding
 
@@ -72,7 +73,8 @@ pub outstanding_is : (id n k : ℕ) (x : Timed) (online : Bool) (v : CpuView Tab
 outstanding_is id n k x online v tied is same high lock low = pick x.timer.level refl
   where
     found : handler_level_of id (shown_cpu online v) ≡ x.timer.level
-    found = ap (λ (o : Option Cyclic). option_map_or (λ y. y.timer.level) o High) (found_as id v.cyclics k x tied.rising is same)
+    found = ap (λ (o : Option CyclicState). option_map_or (λ y. y.timer.level) o High) (found_as id v.cyclics k x tied.rising
+        is same)
 
     none_lock : (x.timer.level ≡ Lock → ⊥) → count (level_of v.lock) id ≡ 0
     none_lock other = none_here id soft.Lock x.timer.level (shown_cpu online v) (tied.own online) found other

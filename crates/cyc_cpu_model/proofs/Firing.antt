@@ -14,22 +14,22 @@ use Rattle.cyc_types.specs.declared.level.Soft.{Soft}
 use Rattle.cyc_types.specs.declared.level.Soft.TheVariants as soft
 use Rattle.cyc_level.specs.declared.Event.{Event}
 use Rattle.cyc_level.specs.Events.{after as event_after}
-use Rattle.cyc_types.specs.Expirations.{Expiration, expirations, times_of, after, all_after}
+use Rattle.cyc_types.specs.Expirations.{Expiration, expirations, times_of, after_expirations, all_after}
 use Rattle.cyc_types.specs.Timers.{Timer}
 use Rattle.cyc_types.proofs.Laws.{times_others}
 use Rattle.cyc_core.specs.Tables.{Tables, level_of}
 use Rattle.cyc_timers.specs.Rows.{Cyclic as Timed, timers as timed}
-use Rattle.cyc_timers.specs.Acts.{ids_at, is_at, is_of as is_of_level, timer_of, same_level, lost_after}
-use Rattle.cyc_timers.specs.Made.{Makes}
+use Rattle.cyc_timers.specs.Acts.{ids_at, is_at, is_of_level as is_of_level, timer_of, same_level, lost_after, acting}
+use Rattle.cyc_timers.specs.Made.{Makes, fire_state}
 use Rattle.cyc_cpu.specs.Cpu.{CpuView, SameCpu}
 use Rattle.cyc_cpu.specs.Soft.{raise_tables}
-use Rattle.cyc_model.specs.Acts.{Act, At, Call, call_of, calls_of, losses_of, losses_in}
-use Rattle.cyc_model.specs.Cpu.{Cyclic, Cpu, Here, happen, here, then_here, acts_first, timers, is_of, handler_level_of}
-use Rattle.cyc_model.specs.Firing.{raised, expiry, expire_all, due_here, fired, fire_these, fire_here}
+use Rattle.cyc_model.specs.Acts.{Act, At, Call, call_in, calls_of, losses_of, all_losses}
+use Rattle.cyc_model.specs.Cpu.{CyclicState, Cpu, Here, happen, here, then_here, acts_first, timers_on, is_of, handler_level_of}
+use Rattle.cyc_model.specs.Firing.{raised, expiry, expire_all, due_here, fired_cyclic, fire_these, fire_here}
 use Rattle.cyc_model.specs.Serving.{level_after}
 use Rattle.cyc_model.proofs.Events.{level_append, calls_append, zero_first}
 use Rattle.cyc_model.proofs.Whole.{losses_append}
-use Rattle.cyc_cpu_model.specs.Shown.{shown, shown_cpu}
+use Rattle.cyc_cpu_model.specs.Shown.{shown_cyclic, shown_cpu}
 use Rattle.cyc_cpu_model.proofs.Raising.{expiries, lost_of, lost_all, lost_of_append, lost_all_append, expired}
 
 -- ---- acts of one level
@@ -51,39 +51,39 @@ pub events_lose : (n id : ℕ) (soft : Soft) (es : List Event) → losses_of id 
 events_lose n id soft [] = refl
 events_lose n id soft (e ∷ es) = let r = events_lose n id soft es in omega (arith, r)
 
-pub events_lose_all : (n : ℕ) (soft : Soft) (es : List Event) → losses_in (map (At n soft) es) ≡ lost_all es
+pub events_lose_all : (n : ℕ) (soft : Soft) (es : List Event) → all_losses (map (At n soft) es) ≡ lost_all es
 events_lose_all n soft [] = refl
 events_lose_all n soft (e ∷ es) = let r = events_lose_all n soft es in omega (arith, r)
 
-losses_in_append : (xs ys : List Act) → losses_in (xs ++ ys) ≡ losses_in xs + losses_in ys
-losses_in_append [] ys = zero_first (losses_in ys)
+losses_in_append : (xs ys : List Act) → all_losses (xs ++ ys) ≡ all_losses xs + all_losses ys
+losses_in_append [] ys = zero_first (all_losses ys)
 losses_in_append (At m s e ∷ xs) ys = let r = losses_in_append xs ys in omega (arith, r)
 losses_in_append (Call j ∷ xs) ys = let r = losses_in_append xs ys in omega (arith, r)
 
 -- ---- the level of an expiration
 
 -- each of these is of a cyclic of the CPU
-abbrev pub AllHere : List Expiration → List Cyclic → Type 0
+abbrev pub AllHere : List Expiration → List CyclicState → Type 0
 AllHere [] cs = ⊤
 AllHere (p ∷ ps) cs = IsSome (find (is_of p.id) cs) × AllHere ps cs
 
-find_timer_at : (x : Cyclic) (o : Option Cyclic) (b : Bool)
+find_timer_at : (x : CyclicState) (o : Option CyclicState) (b : Bool)
     → cond b (Some x.timer) (option_map (λ y. y.timer) o) ≡ option_map (λ y. y.timer) (cond b (Some x) o)
 find_timer_at x o true = refl
 find_timer_at x o false = refl
 
-find_timer : (id : ℕ) (cs : List Cyclic) → timer_of id (timers cs) ≡ option_map (λ y. y.timer) (find (is_of id) cs)
+find_timer : (id : ℕ) (cs : List CyclicState) → timer_of id (timers_on cs) ≡ option_map (λ y. y.timer) (find (is_of id) cs)
 find_timer id [] = refl
 find_timer id (x ∷ cs) = ap (cond (x.timer.id == id) (Some x.timer)) (find_timer id cs)
     ∙ find_timer_at x (find (is_of id) cs) (x.timer.id == id)
 
-of_level_at : (level : Level) (o : Option Cyclic) → IsSome o → is_of_level level (option_map (λ y. y.timer) o)
+of_level_at : (level : Level) (o : Option CyclicState) → IsSome o → is_of_level level (option_map (λ y. y.timer) o)
     ≡ same_level level (option_map_or (λ y. y.timer.level) o High)
 of_level_at level None some = absurd (let no : false ≡ true = some in cc)
 of_level_at level (Some x) some = refl
 
 of_level : (level : Level) (p : Expiration) (c : Cpu) → IsSome (find (is_of p.id) c.cyclics)
-    → is_at level (timers c.cyclics) p ≡ same_level level (handler_level_of p.id c)
+    → is_at level (timers_on c.cyclics) p ≡ same_level level (handler_level_of p.id c)
 of_level level p c some = ap (is_of_level level) (find_timer p.id c.cyclics)
     ∙ of_level_at level (find (is_of p.id) c.cyclics) some
 
@@ -101,7 +101,7 @@ ids_as level p ps ts b is = ap (λ x. map (λ (q : Expiration). q.id)
 -- ---- all expirations of a fire
 
 abbrev pub at : Level → List Expiration → Cpu → List ℕ
-at level ps c = ids_at level (timers c.cyclics) ps
+at level ps c = ids_at level (timers_on c.cyclics) ps
 
 -- what these expirations do on the CPU: each level's in order, and the handlers' calls
 pub record Does (ps : List Expiration) (c : Cpu) (d : Here) : Type 0 where
@@ -111,7 +111,7 @@ pub record Does (ps : List Expiration) (c : Cpu) (d : Here) : Type 0 where
   }
   pub each : (id : ℕ) → losses_of id d.acts ≡ lost_of id (expiries (at Lock ps c) c.lock) + lost_of id
       (expiries (at Low ps c) c.low)
-  pub lost : losses_in d.acts ≡ lost_all (expiries (at Lock ps c) c.lock) + lost_all (expiries (at Low ps c) c.low)
+  pub lost : all_losses d.acts ≡ lost_all (expiries (at Lock ps c) c.lock) + lost_all (expiries (at Low ps c) c.low)
   pub calls : (id : ℕ) → calls_of id d.acts ≡ times id (at High ps c)
 
 -- one expiration before others
@@ -131,11 +131,11 @@ at_lock n p ps c d some is r =
     let es = raised p.id c.lock in
     let l = level_after es c.lock in
     let locks : at Lock (p ∷ ps) c ≡ p.id ∷ at Lock ps c =
-    ids_as Lock p ps (timers c.cyclics) true (of_level Lock p c some ∙ ap (same_level Lock) is) in
+    ids_as Lock p ps (timers_on c.cyclics) true (of_level Lock p c some ∙ ap (same_level Lock) is) in
     let lows : at Low (p ∷ ps) c ≡ at Low ps c =
-    ids_as Low p ps (timers c.cyclics) false (of_level Low p c some ∙ ap (same_level Low) is) in
+    ids_as Low p ps (timers_on c.cyclics) false (of_level Low p c some ∙ ap (same_level Low) is) in
     let highs : at High (p ∷ ps) c ≡ at High ps c =
-    ids_as High p ps (timers c.cyclics) false (of_level High p c some ∙ ap (same_level High) is) in
+    ids_as High p ps (timers_on c.cyclics) false (of_level High p c some ∙ ap (same_level High) is) in
     let all : expiries (at Lock (p ∷ ps) c) c.lock ≡ es ++ expiries (at Lock ps c) l = ap (λ ids. expiries ids c.lock) locks in
     let same : expiries (at Low (p ∷ ps) c) c.low ≡ expiries (at Low ps c) c.low = ap (λ ids. expiries ids c.low) lows in
     let lock : level_after (expiries (at Lock ps c) l) l ≡ level_after (expiries (at Lock (p ∷ ps) c) c.lock) c.lock =
@@ -176,11 +176,11 @@ at_low n p ps c d some is r =
     let es = raised p.id c.low in
     let l = level_after es c.low in
     let locks : at Lock (p ∷ ps) c ≡ at Lock ps c =
-    ids_as Lock p ps (timers c.cyclics) false (of_level Lock p c some ∙ ap (same_level Lock) is) in
+    ids_as Lock p ps (timers_on c.cyclics) false (of_level Lock p c some ∙ ap (same_level Lock) is) in
     let lows : at Low (p ∷ ps) c ≡ p.id ∷ at Low ps c =
-    ids_as Low p ps (timers c.cyclics) true (of_level Low p c some ∙ ap (same_level Low) is) in
+    ids_as Low p ps (timers_on c.cyclics) true (of_level Low p c some ∙ ap (same_level Low) is) in
     let highs : at High (p ∷ ps) c ≡ at High ps c =
-    ids_as High p ps (timers c.cyclics) false (of_level High p c some ∙ ap (same_level High) is) in
+    ids_as High p ps (timers_on c.cyclics) false (of_level High p c some ∙ ap (same_level High) is) in
     let all : expiries (at Low (p ∷ ps) c) c.low ≡ es ++ expiries (at Low ps c) l = ap (λ ids. expiries ids c.low) lows in
     let same : expiries (at Lock (p ∷ ps) c) c.lock ≡ expiries (at Lock ps c) c.lock = ap (λ ids. expiries ids c.lock) locks in
     let low : level_after (expiries (at Low ps c) l) l ≡ level_after (expiries (at Low (p ∷ ps) c) c.low) c.low =
@@ -213,7 +213,7 @@ at_low n p ps c d some is r =
           omega (arith, whole, first, rest, a);
     }
 
-times_more : (id j : ℕ) (ids : List ℕ) → times id (j ∷ ids) ≡ call_of id (Call j) + times id ids
+times_more : (id j : ℕ) (ids : List ℕ) → times id (j ∷ ids) ≡ call_in id (Call j) + times id ids
 times_more id j ids = let whole = sum_by-append (λ (c : ℕ). cond (c == id) 1 0) (j ∷ []) ids in omega (arith, whole)
 
 at_high : (n : ℕ) (p : Expiration) (ps : List Expiration) (c : Cpu) (d : Here) → IsSome (find (is_of p.id) c.cyclics)
@@ -221,11 +221,11 @@ at_high : (n : ℕ) (p : Expiration) (ps : List Expiration) (c : Cpu) (d : Here)
     → Does ps c d → Does (p ∷ ps) c (acts_first (Call p.id ∷ []) d)
 at_high n p ps c d some is r =
     let locks : at Lock (p ∷ ps) c ≡ at Lock ps c =
-    ids_as Lock p ps (timers c.cyclics) false (of_level Lock p c some ∙ ap (same_level Lock) is) in
+    ids_as Lock p ps (timers_on c.cyclics) false (of_level Lock p c some ∙ ap (same_level Lock) is) in
     let lows : at Low (p ∷ ps) c ≡ at Low ps c =
-    ids_as Low p ps (timers c.cyclics) false (of_level Low p c some ∙ ap (same_level Low) is) in
+    ids_as Low p ps (timers_on c.cyclics) false (of_level Low p c some ∙ ap (same_level Low) is) in
     let highs : at High (p ∷ ps) c ≡ p.id ∷ at High ps c =
-    ids_as High p ps (timers c.cyclics) true (of_level High p c some ∙ ap (same_level High) is) in
+    ids_as High p ps (timers_on c.cyclics) true (of_level High p c some ∙ ap (same_level High) is) in
     let a : expiries (at Lock ps c) c.lock ≡ expiries (at Lock (p ∷ ps) c) c.lock = ap (λ ids. expiries ids c.lock) (sym locks) in
     let b : expiries (at Low ps c) c.low ≡ expiries (at Low (p ∷ ps) c) c.low = ap (λ ids. expiries ids c.low) (sym lows) in
     record {
@@ -265,12 +265,12 @@ none_more id t ts ne none zero d low = ne
 none_more id t ts ne none (suc k) d low = none k d (omega (arith, low))
 
 not_first : (id : ℕ) (c : Timed) (cs : List Timed) (b : Bool) → (c.timer.id == id) ≡ b
-    → (find (is_of id) (map shown cs) ≡ None → NoneOf id (timed cs))
-    → cond b (Some (shown c)) (find (is_of id) (map shown cs)) ≡ None → NoneOf id (timed (c ∷ cs))
-not_first id c cs true is rest e = absurd (let no : Some (shown c) ≡ None = e in cc)
+    → (find (is_of id) (map shown_cyclic cs) ≡ None → NoneOf id (timed cs))
+    → cond b (Some (shown_cyclic c)) (find (is_of id) (map shown_cyclic cs)) ≡ None → NoneOf id (timed (c ∷ cs))
+not_first id c cs true is rest e = absurd (let no : Some (shown_cyclic c) ≡ None = e in cc)
 not_first id c cs false is rest e = none_more id c.timer (timed cs) (not_same c.timer.id id is) (rest e)
 
-not_found : (id : ℕ) (cs : List Timed) → find (is_of id) (map shown cs) ≡ None → NoneOf id (timed cs)
+not_found : (id : ℕ) (cs : List Timed) → find (is_of id) (map shown_cyclic cs) ≡ None → NoneOf id (timed cs)
 not_found id [] none k d low = absurd (omega (arith, low))
 not_found id (c ∷ cs) none k d low = not_first id c cs (c.timer.id == id) refl (not_found id cs) none k d low
 
@@ -284,7 +284,7 @@ some_or_none : {A : Type 0} (o : Option A) → (o ≡ None → ⊥) → IsSome o
 some_or_none None h = absurd (h refl)
 some_or_none (Some x) h = refl
 
-pub all_here : (ps : List Expiration) (cs : List Cyclic) → ((id : ℕ) → find (is_of id) cs ≡ None → times_of id ps ≡ 0)
+pub all_here : (ps : List Expiration) (cs : List CyclicState) → ((id : ℕ) → find (is_of id) cs ≡ None → times_of id ps ≡ 0)
     → AllHere ps cs
 all_here [] cs none = tt
 all_here (p ∷ ps) cs none = (
@@ -293,8 +293,8 @@ all_here (p ∷ ps) cs none = (
   all_here ps cs (λ id e. let zero_times = none id e in let first = first_times id p ps in omega (arith, zero_times, first)),
 )
 
-pub due_are_here : (now : ℕ) (cs : List Timed) → AllHere (expirations now (timed cs)) (map shown cs)
-due_are_here now cs = all_here (expirations now (timed cs)) (map shown cs)
+pub due_are_here : (now : ℕ) (cs : List Timed) → AllHere (expirations now (timed cs)) (map shown_cyclic cs)
+due_are_here now cs = all_here (expirations now (timed cs)) (map shown_cyclic cs)
     (λ id e. times_others now id (timed cs) (not_found id cs e))
 
 -- ---- the cyclics after it
@@ -303,13 +303,13 @@ fired_shown : (now : ℕ) (made : List Expiration) (acts : List Act) (lock_way l
     → timed ds ≡ all_after now made (timed cs)
     → map (λ (c : Timed). c.lost) ds ≡ map (λ (c : Timed). lost_after lock_way low_way c.timer.id c.lost) cs
     → ((id : ℕ) → losses_of id acts ≡ lost_by id lock_way + lost_by id low_way)
-    → map shown ds ≡ map (fired now made acts) (map shown cs)
+    → map shown_cyclic ds ≡ map (fired_cyclic now made acts) (map shown_cyclic cs)
 unfolding all_after
 fired_shown now made acts lock_way low_way [] [] moved lost each = refl
 fired_shown now made acts lock_way low_way [] (d ∷ ds) moved lost each = absurd (let no = ap length moved in omega (arith, no))
 fired_shown now made acts lock_way low_way (c ∷ cs) [] moved lost each = absurd (let no = ap length moved in omega (arith, no))
 fired_shown now made acts lock_way low_way (c ∷ cs) (d ∷ ds) moved lost each =
-    let timer : d.timer ≡ after now made c.timer = ap (λ xs. get_or xs 0 d.timer) moved in
+    let timer : d.timer ≡ after_expirations now made c.timer = ap (λ xs. get_or xs 0 d.timer) moved in
     let more : d.lost ≡ lost_after lock_way low_way c.timer.id c.lost = ap (λ xs. get_or xs 0 d.lost) lost in
     let a = each c.timer.id in
     let all : d.lost ≡ c.lost + losses_of c.timer.id acts = omega (arith, more, a) in
@@ -322,20 +322,20 @@ fired_shown now made acts lock_way low_way (c ∷ cs) (d ∷ ds) moved lost each
 
 -- ---- the whole fire
 
-pub same_timers : (cs : List Timed) → timers (map shown cs) ≡ timed cs
+pub same_timers : (cs : List Timed) → timers_on (map shown_cyclic cs) ≡ timed cs
 same_timers [] = refl
 same_timers (c ∷ cs) = ap (λ ts. c.timer ∷ ts) (same_timers cs)
 
 -- expirations of its cyclics that were made are made there
 pub fires_these : {C : Type 0} (called : C → ℕ → C → Type 0) (count : C → ℕ
     → ℕ) (n now lost : ℕ) (online : Bool) (made : List Expiration) (v w : CpuView Tables) (t u : C)
-    → AllHere made (map shown v.cyclics)
-    → Makes called count raise_tables now made v.cyclics w.cyclics (record { calls = t; lock = v.lock; low = v.low })
-    (record { calls = u; lock = w.lock; low = w.low }) lost
+    → AllHere made (map shown_cyclic v.cyclics)
+    → Makes (acting called count raise_tables) now made (fire_state v.cyclics (record { calls = t; lock = v.lock; low = v.low }))
+    (fire_state w.cyclics (record { calls = u; lock = w.lock; low = w.low })) lost
     → SameCpu v w
     → (shown_cpu online w ≡ (fire_these n now made (shown_cpu online v)).cpu)
     × ((id : ℕ) → count u id ≡ count t id + calls_of id (fire_these n now made (shown_cpu online v)).acts)
-    × (lost ≡ losses_in (fire_these n now made (shown_cpu online v)).acts)
+    × (lost ≡ all_losses (fire_these n now made (shown_cpu online v)).acts)
 fires_these called count n now lost online made v w t u here m same =
     let c = shown_cpu online v in
     let ts = same_timers v.cyclics in
@@ -353,9 +353,9 @@ fires_these called count n now lost online made v w t u here m same =
     let x = lock.each id in
     let y = low.each id in
     omega (arith, whole, a, b, x, y) in
-    let cyclics : map shown w.cyclics ≡ map (fired now made d.acts) d.cpu.cyclics =
+    let cyclics : map shown_cyclic w.cyclics ≡ map (fired_cyclic now made d.acts) d.cpu.cyclics =
     fired_shown now made d.acts m.acts.lock_way m.acts.low_way v.cyclics w.cyclics m.timers_are m.losses_are each
-    ∙ ap (λ (x : Cpu). map (fired now made d.acts) x.cyclics) (sym does.cpu) in
+    ∙ ap (λ (x : Cpu). map (fired_cyclic now made d.acts) x.cyclics) (sym does.cpu) in
     let at_lock_level : level_of w.lock ≡ d.cpu.lock = lock.level
     ∙ ap (λ ids. level_after (expiries ids c.lock) c.lock) (sym locks) ∙ ap (λ (x : Cpu). x.lock) (sym does.cpu) in
     let at_low_level : level_of w.low ≡ d.cpu.low = low.level ∙ ap (λ ids. level_after (expiries ids c.low) c.low) (sym lows)
@@ -388,13 +388,17 @@ fires_these called count n now lost online made v w t u here m same =
 
 pub fires_here : {C : Type 0} (called : C → ℕ → C → Type 0) (count : C → ℕ
     → ℕ) (n now lost : ℕ) (online : Bool) (v w : CpuView Tables) (t u : C)
-    → Makes called count raise_tables now (expirations now (timed v.cyclics)) v.cyclics w.cyclics
-    (record { calls = t; lock = v.lock; low = v.low })
-    (record { calls = u; lock = w.lock; low = w.low }) lost
+    → Makes (acting called count raise_tables) now (expirations now (timed v.cyclics)) (fire_state v.cyclics (record {
+      calls =
+          t;
+      lock = v.lock;
+      low = v.low;
+    }))
+    (fire_state w.cyclics (record { calls = u; lock = w.lock; low = w.low })) lost
     → SameCpu v w
     → (shown_cpu online w ≡ (fire_here n now (shown_cpu online v)).cpu)
     × ((id : ℕ) → count u id ≡ count t id + calls_of id (fire_here n now (shown_cpu online v)).acts)
-    × (lost ≡ losses_in (fire_here n now (shown_cpu online v)).acts)
+    × (lost ≡ all_losses (fire_here n now (shown_cpu online v)).acts)
 fires_here called count n now lost online v w t u m same =
     let c = shown_cpu online v in
     let dues : due_here now c ≡ expirations now (timed v.cyclics) = ap (expirations now) (same_timers v.cyclics) in
@@ -402,5 +406,5 @@ fires_here called count n now lost online v w t u m same =
     (due_are_here now v.cyclics) m same in (
       r.0 ∙ ap (λ ps. (fire_these n now ps c).cpu) (sym dues),
       λ id. r.1 id ∙ ap (λ ps. count t id + calls_of id (fire_these n now ps c).acts) (sym dues),
-      r.2 ∙ ap (λ ps. losses_in (fire_these n now ps c).acts) (sym dues),
+      r.2 ∙ ap (λ ps. all_losses (fire_these n now ps c).acts) (sym dues),
     )

@@ -18,7 +18,7 @@ use Rattle.cyc_core.specs.Tables.{Tables, level_of}
 use Rattle.cyc_timers.specs.Rows.{Cyclic as Timed}
 use Rattle.cyc_timers.specs.Acts.{same_level}
 use Rattle.cyc_cpu.specs.Cpu.{CpuView, Places}
-use Rattle.cyc_cpu.specs.Calls.{Adds}
+use Rattle.cyc_cpu.specs.Calls.{AddsHere, added_cyclic}
 use Rattle.cyc_cpu.specs.Soft.{raise_tables}
 use Rattle.cyc_model.specs.Acts.{Act, At, Call, at_own, same_soft, events_at}
 use Rattle.cyc_model.specs.Cpu.{Cpu, nothing_here, then_here, handler_level_of}
@@ -26,11 +26,11 @@ use Rattle.cyc_model.specs.Firing.{raised, expiry, expire_here, expire_all, due_
 use Rattle.cyc_model.specs.Serving.{level_after, level_at, looks, look, Interrupt, after_look, serve, serve_here}
 use Rattle.cyc_model.specs.Moving.{bank_for, must_grow, switch_here, widen_here, place_here, enter_here, take_here, mark_here}
 use Rattle.cyc_model.specs.Moving.{clear_here}
-use Rattle.cyc_model.specs.Add.{new_cyclic}
+use Rattle.cyc_model.specs.Add.{begun_cyclic}
 use Rattle.cyc_model.specs.Free.{CanBeAdmitted, AllCanBeAdmitted}
 use Rattle.cyc_model.proofs.Events.{events_append}
 use Rattle.cyc_model.proofs.Local.{local_widen}
-use Rattle.cyc_cpu_model.specs.Shown.{shown, shown_cpu}
+use Rattle.cyc_cpu_model.specs.Shown.{shown_cyclic, shown_cpu}
 use Rattle.cyc_cpu_model.proofs.Coming.{shown_reserved, widened}
 
 -- ---- acts that put nothing in
@@ -195,7 +195,7 @@ own_can n id index Low soft.Low c lock low =
     (low refl, tt)
 
 pub place_free : (n : ℕ) (online : Bool) (x : Timed) (soft : Soft) (v w : CpuView Tables) (p : Places raise_tables x v w)
-    → AllCanBeAdmitted (events_at n soft (place_here n p.index (shown x) (shown_cpu online v)).acts)
+    → AllCanBeAdmitted (events_at n soft (place_here n p.index (shown_cyclic x) (shown_cpu online v)).acts)
     (level_at soft (shown_cpu online v))
 place_free n online x soft v w p =
     own_can n x.timer.id p.index x.timer.level soft (shown_cpu online v)
@@ -203,12 +203,12 @@ place_free n online x soft v w p =
     (λ e. enabled_at (same_level Low x.timer.level) x.timer.id p.index v.low w.low p.low (ap (same_level Low) e))
 
 pub add_free : (n id now : ℕ) (online : Bool) (level : Level) (series : When) (soft : Soft) (v w : CpuView Tables)
-    (a : Adds raise_tables id level series now v w)
-    → AllCanBeAdmitted (events_at n soft (enter_here n a.enters.index (new_cyclic id level series.start series.interval now)
+    (a : AddsHere raise_tables (added_cyclic id level series now) v w)
+    → AllCanBeAdmitted (events_at n soft (enter_here n a.enters.index (begun_cyclic id level series.start series.interval now)
     (shown_cpu online v)).acts) (level_at soft (shown_cpu online v))
 add_free n id now online level series soft v w a =
     let c = shown_cpu online v in
-    let x = new_cyclic id level series.start series.interval now in
+    let x = begun_cyclic id level series.start series.interval now in
     let wide = widen_here n 1 c in
     let is : shown_cpu online a.widened ≡ wide.cpu =
     widened n 1 online a.reserved a.widened a.widens

@@ -23,12 +23,12 @@ use Rattle.cyc_core.specs.DrainingSide.{Drains, take_events, finished_at, is_mar
 use Rattle.cyc_cpu.specs.Cpu.{CpuView}
 use Rattle.cyc_cpu.specs.Soft.{drain_tables, held_at, end_at, SoftKept}
 use Rattle.cyc_soft.specs.Serving.{Served, Serves, ids, way_of, last_look, hand_left, soft_side}
-use Rattle.cyc_model.specs.Acts.{Act, At, Call, call_of, calls_of, calls_in}
+use Rattle.cyc_model.specs.Acts.{Act, At, Call, call_in, calls_of, handler_calls}
 use Rattle.cyc_model.specs.Cpu.{Cpu, cpu_after, happen}
 use Rattle.cyc_model.specs.Serving.{level_after, level_at, looks, look, Interrupt, calling, found_nothing, serve, interrupt_here}
 use Rattle.cyc_model.specs.Serving.{serve_here}
 use Rattle.cyc_model.proofs.Events.{calls_append, zero_first}
-use Rattle.cyc_cpu_model.specs.Shown.{shown, shown_cpu}
+use Rattle.cyc_cpu_model.specs.Shown.{shown_cyclic, shown_cpu}
 use Rattle.cyc_cpu_model.proofs.Raising.{folds}
 use Rattle.cyc_cpu_model.proofs.Firing.{lock_events, low_events, events_call_none}
 
@@ -52,11 +52,11 @@ happen_append : (xs ys : List Act) (c : Cpu) → happen (xs ++ ys) c ≡ happen 
 happen_append [] ys c = refl
 happen_append (x ∷ xs) ys c = happen_append xs ys (cpu_after x c)
 
-calls_in_append : (xs ys : List Act) → calls_in (xs ++ ys) ≡ calls_in xs + calls_in ys
-calls_in_append [] ys = zero_first (calls_in ys)
+calls_in_append : (xs ys : List Act) → handler_calls (xs ++ ys) ≡ handler_calls xs + handler_calls ys
+calls_in_append [] ys = zero_first (handler_calls ys)
 calls_in_append (x ∷ xs) ys = let r = calls_in_append xs ys in omega (arith, r)
 
-events_call_nothing : (n : ℕ) (soft : Soft) (es : List Event) → calls_in (map (At n soft) es) ≡ 0
+events_call_nothing : (n : ℕ) (soft : Soft) (es : List Event) → handler_calls (map (At n soft) es) ≡ 0
 events_call_nothing n soft [] = refl
 events_call_nothing n soft (e ∷ es) = let r = events_call_nothing n soft es in omega (arith, r)
 
@@ -116,7 +116,7 @@ took l m answer free (happened, is) =
 pub record Interrupts (n : ℕ) (soft : Soft) (budget : ℕ) (called : List ℕ) (idle : Bool) (l m : SoftLevel) : Type 0 where
   pub stopped : (serve n soft budget l).idle ≡ idle
   pub calls : (q : ℕ) → calls_of q (serve n soft budget l).acts ≡ times q called
-  pub many : calls_in (serve n soft budget l).acts ≡ length called
+  pub many : handler_calls (serve n soft budget l).acts ≡ length called
   pub cpu : (c : Cpu) → happen (serve n soft budget l).acts (with_level soft l c) ≡ with_level soft m c
 
 -- the budget that fits so many calls
@@ -138,12 +138,12 @@ stops n soft budget l m is free =
     record {
       stopped = ap (λ (x : Interrupt). x.idle) so;
       calls = λ q. ap (λ (x : Interrupt). calls_of q x.acts) so ∙ events_call_none n q soft (look l);
-      many = ap (λ (x : Interrupt). calls_in x.acts) so ∙ events_call_nothing n soft (look l);
+      many = ap (λ (x : Interrupt). handler_calls x.acts) so ∙ events_call_nothing n soft (look l);
       cpu = λ c. ap (λ (x : Interrupt). happen x.acts (with_level soft l c)) so ∙ events_cpu soft n (look l) l c
           ∙ ap (λ x. with_level soft x c) (sym is);
     }
 
-times_first : (id j : ℕ) (xs : List ℕ) → times id (j ∷ xs) ≡ call_of id (Call j) + times id xs
+times_first : (id j : ℕ) (xs : List ℕ) → times id (j ∷ xs) ≡ call_in id (Call j) + times id xs
 times_first id j xs = let whole = sum_by-append (λ (c : ℕ). cond (c == id) 1 0) (j ∷ []) xs in omega (arith, whole)
 
 goes_on : (n : ℕ) (soft : Soft) (budget : ℕ) (called : List ℕ) (id : ℕ) (idle : Bool) (l m k e : SoftLevel)
@@ -168,7 +168,7 @@ goes_on n soft budget called id idle l m k e is held done rest =
           let first = times_first q id called in
           omega (arith, whole, split, none, later, first);
       many =
-          (let whole = ap (λ (x : Interrupt). calls_in x.acts) so in
+          (let whole = ap (λ (x : Interrupt). handler_calls x.acts) so in
           let split = calls_in_append looked (Call id ∷ At n soft Finish ∷ more.acts) in
           let none = events_call_nothing n soft (look l) in
           let later = rest.many in
@@ -242,7 +242,7 @@ shown_at : (soft : Soft) (online : Bool) (v w : CpuView Tables) → SoftKept sof
     → shown_cpu online w ≡ with_level soft (level_of (end_at soft w)) (shown_cpu online v)
 shown_at Low online v w kept = λ z. record {
   online = online;
-  cyclics = map shown (kept.cyclics z);
+  cyclics = map shown_cyclic (kept.cyclics z);
   size =
       kept.kept.size z;
   removal = kept.kept.removal z;
@@ -251,7 +251,7 @@ shown_at Low online v w kept = λ z. record {
 }
 shown_at Lock online v w kept = λ z. record {
   online = online;
-  cyclics = map shown (kept.cyclics z);
+  cyclics = map shown_cyclic (kept.cyclics z);
   size =
       kept.kept.size z;
   removal = kept.kept.removal z;
@@ -275,7 +275,7 @@ pub serves_here : {C : Type 0} (handler : Handler C) (soft : Soft) (n budget cal
     → SoftKept soft v w
     → (shown_cpu online w ≡ (serve_here n soft budget (shown_cpu online v)).cpu)
     × ((q : ℕ) → handler.count u q ≡ handler.count t q + calls_of q (serve_here n soft budget (shown_cpu online v)).acts)
-    × (calls ≡ calls_in (interrupt_here n soft budget (shown_cpu online v)).acts)
+    × (calls ≡ handler_calls (interrupt_here n soft budget (shown_cpu online v)).acts)
     × (idle ≡ (interrupt_here n soft budget (shown_cpu online v)).idle)
 serves_here handler soft n budget calls idle online v w t u ran long serves left most exactly kept =
     let c = shown_cpu online v in
@@ -296,7 +296,7 @@ serves_here handler soft n budget calls idle online v w t u ran long serves left
           let a = ap (λ (x : Interrupt). calls_of q x.acts) same in
           omega (arith, counted, all, a),
       (let all = i.many in
-          let a = ap (λ (x : Interrupt). calls_in x.acts) same in
+          let a = ap (λ (x : Interrupt). handler_calls x.acts) same in
           let m = length-map ran (λ (s : Served). s.id) in
           omega (arith, all, a, m, long)),
       sym i.stopped ∙ ap (λ (x : Interrupt). x.idle) (sym same),

@@ -14,19 +14,19 @@ use Rattle.cyc_core.specs.Tables.{Tables, level_of}
 use Rattle.cyc_timers.specs.Acts.{same_level}
 use Rattle.cyc_timers.specs.Quiet.{LoadsThenLooks}
 use Rattle.cyc_cpu.specs.declared.removing.Removal.TheVariants.{Done, Kept}
-use Rattle.cyc_cpu.specs.Cpu.{CpuView, Running, HasRisingIds, Asks}
-use Rattle.cyc_cpu.specs.Removal.{Waits}
+use Rattle.cyc_cpu.specs.Cpu.{CpuView, Running, HasRisingCyclics, Asks}
+use Rattle.cyc_cpu.specs.Removal.{WaitsHere}
 use Rattle.cyc_cpu.specs.Moving.{Inquires, WhyNotTaken}
 use Rattle.cyc_cpu.specs.Soft.{raise_tables, Interrupts}
 use Rattle.cyc_cpu.specs.Calls.{CpuCall, Fire, SoftInterrupt, Add, Place, Reprogram, AskPending, AskTotals, AskRoom, Reserve}
-use Rattle.cyc_cpu.specs.Calls.{Widen, BeginRemove, PollRemove, TakeNow, AskSettled, Suspend, Resume, Changes, Does}
+use Rattle.cyc_cpu.specs.Calls.{Widen, BeginRemove, PollRemove, TakeNow, AskSettled, Suspend, Resume, CpuChanges, CpuDoes}
 use Rattle.cyc_model.specs.Acts.{at_own, calls_of}
-use Rattle.cyc_model.specs.Cpu.{Cyclic, Cpu, here, nothing_here, then_here, handler_level_of}
+use Rattle.cyc_model.specs.Cpu.{CyclicState, Cpu, here, nothing_here, then_here, handler_level_of}
 use Rattle.cyc_model.specs.Moving.{bank_for, must_grow, switch_here, widen_here, place_here, enter_here, take_here, mark_here}
 use Rattle.cyc_model.specs.Moving.{clear_here}
 use Rattle.cyc_model.specs.Firing.{fire_here}
 use Rattle.cyc_model.specs.Serving.{serve_here, level_at}
-use Rattle.cyc_model.specs.Add.{new_cyclic}
+use Rattle.cyc_model.specs.Add.{begun_cyclic}
 use Rattle.cyc_model.proofs.Events.{calls_append}
 use Rattle.cyc_cpu_model.specs.Shown.{shown_cpu}
 use Rattle.cyc_cpu_model.specs.Here.{IsStopped, IsHere}
@@ -52,7 +52,7 @@ inquired : (online : Bool) (v w : CpuView Tables) → Inquires raise_tables v w 
 inquired online v w i = shown_same online v w i.cyclics i.kept.size i.kept.removal
     (loads_then_looks v.lock w.lock i.lock) (loads_then_looks v.low w.low i.low)
 
-waited : (online : Bool) (id : ℕ) (v w : CpuView Tables) → Waits raise_tables id v w → shown_cpu online w ≡ shown_cpu online v
+waited : (online : Bool) (id : ℕ) (v w : CpuView Tables) → WaitsHere raise_tables id v w → shown_cpu online w ≡ shown_cpu online v
 waited online id v w p = shown_same online v w p.cyclics p.kept.size p.kept.removal
     (waiting_level (same_level Lock p.cyclic.timer.level) id v.lock w.lock p.goes.0)
     (waiting_level (same_level Low p.cyclic.timer.level) id v.low w.low p.goes.1)
@@ -64,7 +64,7 @@ same : (online : Bool) (v w : CpuView Tables) → w ≡ v → shown_cpu online w
 same online v w is = ap (shown_cpu online) is
 
 not_added : (online : Bool) (id : ℕ) (level : Level) (when : When) (now : ℕ) (e : Refusal) (v w : CpuView Tables)
-    → Changes raise_tables v (Add id level when now (Err e)) w → shown_cpu online w ≡ shown_cpu online v
+    → CpuChanges raise_tables v (Add id level when now (Err e)) w → shown_cpu online w ≡ shown_cpu online v
 not_added online id level when now BadNow v w d = same online v w d.2
 not_added online id level when now e v w d = shown_looked online v w d.2
 
@@ -84,7 +84,7 @@ widen_calls q n more c = pick (must_grow more c)
     pick true = refl
     pick false = refl
 
-enter_calls : (q n index : ℕ) (x : Cyclic) (c : Cpu) → calls_of q (enter_here n index x c).acts ≡ 0
+enter_calls : (q n index : ℕ) (x : CyclicState) (c : Cpu) → calls_of q (enter_here n index x c).acts ≡ 0
 enter_calls q n index x c =
     let whole = calls_append q (widen_here n 1 c).acts (place_here n index x (widen_here n 1 c).cpu).acts in
     let first = widen_calls q n 1 c in
@@ -117,8 +117,9 @@ nothing count t u q is = quiet count t u q 0 is refl
 -- ---- each call
 
 pub is_here : {C : Type 0} (handler : Calls C) (n : ℕ) (online : Bool)
-    (call : CpuCall) (s t : Running C Tables) → HasRisingIds s.cpu.cyclics → HasRisingIds t.cpu.cyclics → (IsStopped call → ⊥)
-    → Does handler raise_tables (Interrupts handler) s call t → IsHere handler.count n online call s t
+    (call : CpuCall) (s t : Running C Tables) → HasRisingCyclics s.cpu.cyclics → HasRisingCyclics t.cpu.cyclics
+    → (IsStopped call → ⊥)
+    → CpuDoes handler raise_tables (Interrupts handler) s call t → IsHere handler.count n online call s t
 is_here handler n online (Fire now (Ok r)) s t rising rises goes (early, kept, expired, next, makes) =
     let f = fires_here (at_level handler.called High) handler.count n now r.lost online s.cpu t.cpu s.calls t.calls makes kept in
     record {
@@ -148,7 +149,7 @@ is_here handler n online (Add id level series now (Ok done)) s t rising rises go
   cpu = added n id now online level series s.cpu t.cpu adds rises;
   free = λ soft. add_free n id now online level series soft s.cpu t.cpu adds;
   called = λ q. quiet handler.count s.calls t.calls q _ calls
-      (enter_calls q n adds.enters.index (new_cyclic id level series.start series.interval now) (shown_cpu online s.cpu));
+      (enter_calls q n adds.enters.index (begun_cyclic id level series.start series.interval now) (shown_cpu online s.cpu));
 }
 is_here handler n online (Add id level series now (Err e)) s t rising rises goes (d, calls) = record {
   index = 0;

@@ -5,7 +5,7 @@ use Rattle.std.specs.List.{FoldsTo}
 use Rattle.std.proofs.lemmas.Bool.Decides.{nat_tests}
 use Rattle.cyc_types.specs.Counting.{one_at}
 use Rattle.cyc_types.specs.Firing.{FiringCall, Admits, Loads, Raises, Marks, Polls, Expands, Looks}
-use Rattle.cyc_types.specs.Runs.{Goes, lost_by, losses_of as lost_in}
+use Rattle.cyc_types.specs.Runs.{Goes, lost_by, losses_in_call as lost_in}
 use Rattle.cyc_types.specs.declared.firing.Raised.{Raised}
 use Rattle.cyc_types.specs.declared.firing.Raised.TheVariants.{First, More, Lost}
 use Rattle.cyc_level.specs.declared.Event.{Event}
@@ -14,7 +14,7 @@ use Rattle.cyc_level.specs.Level.{SoftLevel, count, count_in}
 use Rattle.cyc_level.specs.Events.{hand_after_expire}
 use Rattle.cyc_level.proofs.Maps.{some_and, not_none}
 use Rattle.cyc_core.specs.Reached.{Happens}
-use Rattle.cyc_core.specs.FiringSide.{Fires, raise_events}
+use Rattle.cyc_core.specs.FiringSide.{FiringDoes, events_of_raise}
 use Rattle.cyc_core.specs.Tables.{Tables, level_of}
 use Rattle.cyc_timers.specs.Acts.{AreRaises, loss_in, way_losses as losses_in_way}
 use Rattle.cyc_cpu.specs.Soft.{raise_tables, fires}
@@ -70,7 +70,7 @@ more_found zero id hand none = absurd (cc)
 more_found (suc n) id hand none = ap (λ b. cond b First More) (sym (ne_eqb (suc n) 0 (λ e. absurd (omega arith))))
 
 -- the answer is what the level shows
-fires_found : (id : ℕ) (a : Raised) (l m : SoftLevel) → Fires l (Raises id a) m → a ≡ found id l
+fires_found : (id : ℕ) (a : Raised) (l m : SoftLevel) → FiringDoes l (Raises id a) m → a ≡ found id l
 unfolding found found_at
 fires_found id Lost l m ((j, (on, is), last), free) =
     let (c, isc, (full, room)) = some_and _ (l.cyclics id) on.2 in
@@ -88,31 +88,31 @@ fires_found id More l m ((j, (on, is), last), free) =
     more_found (count l id) id l.firer_hand (ap (λ (x : SoftLevel). x.firer_hand) (sym is)
     ∙ (ap (λ (x : SoftLevel). x.firer_hand) last ∙ free)) ∙ sym (below_found (count l id) l.ceiling few)
 
-events_as : (full none : Bool) (id : ℕ) → raise_events id (cond full Lost (cond none First More))
+events_as : (full none : Bool) (id : ℕ) → events_of_raise id (cond full Lost (cond none First More))
     ≡ cond full (Lose id ∷ []) (cond none (Expire id ∷ Publish ∷ []) (Expire id ∷ []))
 events_as true none id = refl
 events_as false true id = refl
 events_as false false id = refl
 
 -- its events are those of the definition
-raise_as : (id : ℕ) (a : Raised) (l m : SoftLevel) → Fires l (Raises id a) m → raise_events id a ≡ raised id l
+raise_as : (id : ℕ) (a : Raised) (l m : SoftLevel) → FiringDoes l (Raises id a) m → events_of_raise id a ≡ raised id l
 unfolding found found_at
 raise_as id a l m fires =
-    ap (raise_events id) (fires_found id a l m fires) ∙ events_as (count l id == l.ceiling) (count l id == 0) id
+    ap (events_of_raise id) (fires_found id a l m fires) ∙ events_as (count l id == l.ceiling) (count l id == 0) id
 
 pub folds : (es : List Event) (l m : SoftLevel) → FoldsTo Happens l es m → m ≡ level_after es l
 folds [] l m is = sym is
 folds (e ∷ es) l m (j, (on, is), rest) = folds es j m rest ∙ ap (level_after es) is
 
-raise_level : (id : ℕ) (a : Raised) (l m : SoftLevel) → Fires l (Raises id a) m → m ≡ level_after (raised id l) l
-raise_level id a l m fires = folds (raise_events id a) l m fires.0 ∙ ap (λ es. level_after es l) (raise_as id a l m fires)
+raise_level : (id : ℕ) (a : Raised) (l m : SoftLevel) → FiringDoes l (Raises id a) m → m ≡ level_after (raised id l) l
+raise_level id a l m fires = folds (events_of_raise id a) l m fires.0 ∙ ap (λ es. level_after es l) (raise_as id a l m fires)
 
-all_as : (a : Raised) (id : ℕ) → lost_all (raise_events id a) ≡ loss_in (Raises id a)
+all_as : (a : Raised) (id : ℕ) → lost_all (events_of_raise id a) ≡ loss_in (Raises id a)
 all_as First id = refl
 all_as More id = refl
 all_as Lost id = refl
 
-each_as : (a : Raised) (id j : ℕ) → lost_of j (raise_events id a) ≡ lost_in j (Raises id a)
+each_as : (a : Raised) (id j : ℕ) → lost_of j (events_of_raise id a) ≡ lost_in j (Raises id a)
 each_as First id j = refl
 each_as More id j = refl
 each_as Lost id j = swapped id j
@@ -140,7 +140,7 @@ expired [] (call ∷ way) d e goes are = absurd are
 expired (id ∷ ids) [] d e goes are = absurd are
 expired (id ∷ ids) (Raises j a ∷ way) d e (x, (step, learns), rest) (same, more) =
     let l = level_of d in
-    let fired = subst (λ (k : ℕ). Fires l (Raises k a) (level_of x)) same step in
+    let fired = subst (λ (k : ℕ). FiringDoes l (Raises k a) (level_of x)) same step in
     let at : level_of x ≡ level_after (raised id l) l = raise_level id a l (level_of x) fired in
     let m = level_after (raised id l) l in
     let on = subst (λ (k : SoftLevel). Expired ids way k (level_of e)) at (expired ids way x e rest more) in

@@ -2,16 +2,16 @@
 use Rattle.std.proofs.Common.{◌≡◌, ℕ, zero, suc, ◌<◌, List, [], ◌∷◌, length, map, get_or, refl, ap, sym, ◌∙◌, arith}
 use Rattle.std.specs.Prelude.{remove, slice_set}
 use Rattle.std.proofs.lemmas.List.{length-map, get_or-map}
-use Rattle.cyc_types.specs.Expirations.{Expiration, after, all_after}
+use Rattle.cyc_types.specs.Expirations.{Expiration, after_expirations, all_after}
 use Rattle.cyc_types.specs.Timers.{Timer}
 use Rattle.cyc_timers.specs.Rows.{Cyclic, timers}
-use Rattle.cyc_cpu.specs.Cpu.{HasRisingIds, IsCyclic, with_moment}
+use Rattle.cyc_cpu.specs.Cpu.{HasRisingCyclics, IsCyclic, with_moment}
 
 abbrev ids : List Cyclic → List ℕ
 ids cs = map (λ c. c.timer.id) cs
 
 -- the same ids rise as well
-same_ids : (cs ds : List Cyclic) → ids ds ≡ ids cs → HasRisingIds cs → HasRisingIds ds
+same_ids : (cs ds : List Cyclic) → ids ds ≡ ids cs → HasRisingCyclics cs → HasRisingCyclics ds
 same_ids cs ds same rising i j d less low =
     let long : length ds ≡ length cs = sym (length-map ds (λ (c : Cyclic). c.timer.id)) ∙ ap length same
     ∙ length-map cs (λ (c : Cyclic). c.timer.id) in
@@ -32,12 +32,12 @@ timer_ids (c ∷ cs) = ap (λ xs. c.timer.id ∷ xs) (timer_ids cs)
 
 after_ids : (now : ℕ) (made : List Expiration) (ts : List Timer)
     → map (λ (t : Timer). t.id) (all_after now made ts) ≡ map (λ (t : Timer). t.id) ts
-unfolding all_after after
+unfolding all_after after_expirations
 after_ids now made [] = refl
 after_ids now made (t ∷ ts) = ap (λ xs. t.id ∷ xs) (after_ids now made ts)
 
 pub rises_fired : (now : ℕ) (made : List Expiration) (cs ds : List Cyclic) → timers ds ≡ all_after now made (timers cs)
-    → HasRisingIds cs → HasRisingIds ds
+    → HasRisingCyclics cs → HasRisingCyclics ds
 rises_fired now made cs ds is rising =
     same_ids cs ds (sym (timer_ids ds) ∙ ap (map (λ (t : Timer). t.id)) is ∙ after_ids now made (timers cs) ∙ timer_ids cs) rising
 
@@ -48,8 +48,8 @@ moved_ids (x ∷ cs) zero moment c is = ap (λ (y : Cyclic). y.timer.id ∷ ids 
 moved_ids (x ∷ cs) (suc k) moment c is =
     ap (λ xs. x.timer.id ∷ xs) (moved_ids cs k moment c (let low = is.0 in omega (arith, low), is.1))
 
-pub rises_moved : (cs : List Cyclic) (k moment : ℕ) (c : Cyclic) → IsCyclic cs k c → HasRisingIds cs
-    → HasRisingIds (slice_set cs k (with_moment moment c))
+pub rises_moved : (cs : List Cyclic) (k moment : ℕ) (c : Cyclic) → IsCyclic cs k c → HasRisingCyclics cs
+    → HasRisingCyclics (slice_set cs k (with_moment moment c))
 rises_moved cs k moment c is rising = same_ids cs (slice_set cs k (with_moment moment c)) (moved_ids cs k moment c is) rising
 
 -- ---- one less
@@ -65,18 +65,18 @@ above_less m (c ∷ cs) (suc k) above zero d low = above 0 d (omega arith)
 above_less m (c ∷ cs) (suc k) above (suc j) d low =
     above_less m cs k (λ i e less. above (suc i) e (omega (arith, less))) j d (omega (arith, low))
 
-first_above : (c : Cyclic) (cs : List Cyclic) → HasRisingIds (c ∷ cs) → AllAbove c.timer.id cs
+first_above : (c : Cyclic) (cs : List Cyclic) → HasRisingCyclics (c ∷ cs) → AllAbove c.timer.id cs
 first_above c cs rising j d low = rising 0 (suc j) d (omega arith) (omega (arith, low))
 
-rest_rising : (c : Cyclic) (cs : List Cyclic) → HasRisingIds (c ∷ cs) → HasRisingIds cs
+rest_rising : (c : Cyclic) (cs : List Cyclic) → HasRisingCyclics (c ∷ cs) → HasRisingCyclics cs
 rest_rising c cs rising i j d less low = rising (suc i) (suc j) d (omega (arith, less)) (omega (arith, low))
 
-put_first : (c : Cyclic) (cs : List Cyclic) → AllAbove c.timer.id cs → HasRisingIds cs → HasRisingIds (c ∷ cs)
+put_first : (c : Cyclic) (cs : List Cyclic) → AllAbove c.timer.id cs → HasRisingCyclics cs → HasRisingCyclics (c ∷ cs)
 put_first c cs above rising i zero d less low = absurd (omega (arith, less))
 put_first c cs above rising zero (suc j) d less low = above j d (omega (arith, low))
 put_first c cs above rising (suc i) (suc j) d less low = rising i j d (omega (arith, less)) (omega (arith, low))
 
-pub rises_left : (cs : List Cyclic) (k : ℕ) → HasRisingIds cs → HasRisingIds (remove cs k)
+pub rises_left : (cs : List Cyclic) (k : ℕ) → HasRisingCyclics cs → HasRisingCyclics (remove cs k)
 rises_left [] zero rising = rising
 rises_left [] (suc k) rising = rising
 rises_left (c ∷ cs) zero rising = rest_rising c cs rising

@@ -19,12 +19,12 @@ use Rattle.cyc_core.specs.Reached.{Happens}
 use Rattle.cyc_types.specs.Expirations.{Expiration}
 use Rattle.cyc_timers.specs.declared.fire.FireRefused.{FireRefused}
 use Rattle.cyc_soft.specs.declared.SoftRefused.{SoftRefused}
-use Rattle.cyc_cpu.specs.Cpu.{CpuView, Running, HasRisingIds}
+use Rattle.cyc_cpu.specs.Cpu.{CpuView, Running, HasRisingCyclics}
 use Rattle.cyc_cpu.specs.Soft.{raise_tables, drain_tables, end_at, SoftKept, Interrupts}
-use Rattle.cyc_cpu.specs.Calls.{CpuCall, Fire, SoftInterrupt, Does}
-use Rattle.cyc_model.specs.Cpu.{Cyclic}
+use Rattle.cyc_cpu.specs.Calls.{CpuCall, Fire, SoftInterrupt, CpuDoes}
+use Rattle.cyc_model.specs.Cpu.{CyclicState}
 use Rattle.cyc_model.specs.Serving.{level_at}
-use Rattle.cyc_cpu_model.specs.Shown.{shown, shown_cpu}
+use Rattle.cyc_cpu_model.specs.Shown.{shown_cyclic, shown_cpu}
 use Rattle.cyc_cpu_model.specs.Tied.{HasOwn, IsTied}
 use Rattle.cyc_cpu_model.proofs.Firing.{AllHere, due_are_here, fires_these}
 use Rattle.cyc_cpu_model.proofs.Rising.{rises_fired}
@@ -34,20 +34,20 @@ use Rattle.cyc_cpu_model.proofs.Tied.{tied}
 
 -- ---- a fire
 
-first_here : (made rest : List Expiration) (cs : List Cyclic) → AllHere (made ++ rest) cs → AllHere made cs
+first_here : (made rest : List Expiration) (cs : List CyclicState) → AllHere (made ++ rest) cs → AllHere made cs
 first_here [] rest cs all = tt
 first_here (p ∷ made) rest cs all = (all.0, first_here made rest cs all.1)
 
 module _ {C : Type 0} (handler : Calls C) where
   fire_stopped : (now : ℕ) (e : FireRefused) (s t : Running C Tables)
-      → Does handler raise_tables (Interrupts handler) s (Fire now (Err e)) t → IsTied s.cpu
+      → CpuDoes handler raise_tables (Interrupts handler) s (Fire now (Err e)) t → IsTied s.cpu
       → IsTied t.cpu
   fire_stopped now e s t (inl (late, why, same)) h = subst (λ (x : Running C Tables). IsTied x.cpu) (sym same) h
   fire_stopped now e s t (inr (early, kept_cpu, stopped)) h = record {
     rising = rises_fired now stopped.made s.cpu.cyclics t.cpu.cyclics stopped.makes.timers_are h.rising;
     own = λ online.
-        let here = first_here stopped.made (stopped.last ∷ stopped.rest) (map shown s.cpu.cyclics)
-        (subst (λ ps. AllHere ps (map shown s.cpu.cyclics)) stopped.listed (due_are_here now s.cpu.cyclics)) in
+        let here = first_here stopped.made (stopped.last ∷ stopped.rest) (map shown_cyclic s.cpu.cyclics)
+        (subst (λ ps. AllHere ps (map shown_cyclic s.cpu.cyclics)) stopped.listed (due_are_here now s.cpu.cyclics)) in
         let is = fires_these (at_level handler.called High) handler.count 0 now e.lost online stopped.made s.cpu t.cpu s.calls
         stopped.at here
         stopped.makes kept_cpu in
@@ -96,14 +96,14 @@ fewer Lock Lock online v w q kept_it less is = less is
 
 module _ {C : Type 0} (handler : Calls C) where
   soft_stopped : (level : Soft) (budget : ℕ) (e : SoftRefused) (s t : Running C Tables)
-      → Does handler raise_tables (Interrupts handler) s (SoftInterrupt level budget (Err e)) t
+      → CpuDoes handler raise_tables (Interrupts handler) s (SoftInterrupt level budget (Err e)) t
       → IsTied s.cpu → IsTied t.cpu
   soft_stopped level budget e s t (did, kept_it) h =
       let (ran, at, long, less, serves, may, counted, held) = did.refused in
       record {
-        rising = subst HasRisingIds (sym kept_it.cyclics) h.rising;
+        rising = subst HasRisingCyclics (sym kept_it.cyclics) h.rising;
         own = λ online. kept (shown_cpu online s.cpu) (shown_cpu online t.cpu)
-            (same_cyclics (shown_cpu online s.cpu) (shown_cpu online t.cpu) (ap (map shown) kept_it.cyclics))
+            (same_cyclics (shown_cpu online s.cpu) (shown_cpu online t.cpu) (ap (map shown_cyclic) kept_it.cyclics))
             (λ soft q is. fewer level soft online s.cpu t.cpu q kept_it
             (way_has _ (end_at level s.cpu) (end_at level t.cpu) q serves.way) is)
             (λ id is. sym kept_it.kept.removal ∙ is) (h.own online);
@@ -111,7 +111,7 @@ module _ {C : Type 0} (handler : Calls C) where
 
   -- every call does
   pub tied_always : (call : CpuCall) (s t : Running C Tables)
-      → Does handler raise_tables (Interrupts handler) s call t → IsTied s.cpu → IsTied t.cpu
+      → CpuDoes handler raise_tables (Interrupts handler) s call t → IsTied s.cpu → IsTied t.cpu
   tied_always (Fire now (Err e)) s t did h = fire_stopped handler now e s t did h
   tied_always (SoftInterrupt level budget (Err e)) s t did h = soft_stopped level budget e s t did h
   tied_always call s t did h = tied handler call s t (λ stopped. absurd stopped) did h

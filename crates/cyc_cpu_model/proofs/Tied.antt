@@ -22,16 +22,16 @@ use Rattle.cyc_types.specs.Expirations.{expirations}
 use Rattle.cyc_core.specs.Tables.{Tables, level_of}
 use Rattle.cyc_timers.specs.Rows.{Cyclic as Timed, timers as timed}
 use Rattle.cyc_cpu.specs.declared.removing.Removal.TheVariants.{Done, Kept}
-use Rattle.cyc_cpu.specs.Cpu.{CpuView, Running, HasNoCyclic, HasRisingIds, AreAdmitted, with_moment}
+use Rattle.cyc_cpu.specs.Cpu.{CpuView, Running, HasNoCyclic, HasRisingCyclics, AreAdmitted, with_moment}
 use Rattle.cyc_cpu.specs.Laws.{IsLawful}
 use Rattle.cyc_cpu.specs.Soft.{raise_tables, firing_at as seen, Interrupts}
 use Rattle.cyc_cpu.specs.Calls.{Suspend, Resume}
 use Rattle.cyc_cpu.specs.Calls.{CpuCall, Fire, SoftInterrupt, Add, Place, Reprogram, AskPending, AskTotals, AskRoom, Reserve}
-use Rattle.cyc_cpu.specs.Calls.{Widen, BeginRemove, PollRemove, TakeNow, AskSettled, Changes, Does}
+use Rattle.cyc_cpu.specs.Calls.{Widen, BeginRemove, PollRemove, TakeNow, AskSettled, CpuChanges, CpuDoes}
 use Rattle.cyc_model.specs.Cpu.{is_of, handler_level_of}
 use Rattle.cyc_model.specs.Moving.{widen_here, mark_here}
-use Rattle.cyc_model.specs.Add.{new_cyclic}
-use Rattle.cyc_cpu_model.specs.Shown.{shown, shown_cpu}
+use Rattle.cyc_model.specs.Add.{begun_cyclic}
+use Rattle.cyc_cpu_model.specs.Shown.{shown_cyclic, shown_cpu}
 use Rattle.cyc_cpu_model.specs.Here.{here_of, IsStopped}
 use Rattle.cyc_cpu_model.specs.Tied.{HasOwn, IsTied}
 use Rattle.cyc_cpu_model.proofs.Lists.{not_named}
@@ -43,27 +43,27 @@ use Rattle.cyc_cpu_model.proofs.Rising.{rises_fired, rises_moved, rises_left}
 
 -- ---- the ids rise
 
-same_cyclics : (v w : CpuView Tables) → w.cyclics ≡ v.cyclics → HasRisingIds v.cyclics → HasRisingIds w.cyclics
-same_cyclics v w same rising = subst HasRisingIds (sym same) rising
+same_cyclics : (v w : CpuView Tables) → w.cyclics ≡ v.cyclics → HasRisingCyclics v.cyclics → HasRisingCyclics w.cyclics
+same_cyclics v w same rising = subst HasRisingCyclics (sym same) rising
 
-same_cpu : (v w : CpuView Tables) → w ≡ v → HasRisingIds v.cyclics → HasRisingIds w.cyclics
+same_cpu : (v w : CpuView Tables) → w ≡ v → HasRisingCyclics v.cyclics → HasRisingCyclics w.cyclics
 same_cpu v w same rising = same_cyclics v w (ap (λ (x : CpuView Tables). x.cyclics) same) rising
 
 not_added : (id : ℕ) (level : Level) (series : When) (now : ℕ) (e : Refusal) (v w : CpuView Tables)
-    → Changes raise_tables v (Add id level series now (Err e)) w → HasRisingIds v.cyclics → HasRisingIds w.cyclics
+    → CpuChanges raise_tables v (Add id level series now (Err e)) w → HasRisingCyclics v.cyclics → HasRisingCyclics w.cyclics
 not_added id level series now BadNow v w d rising = same_cpu v w d.2 rising
 not_added id level series now e v w d rising = same_cyclics v w d.2.cyclics rising
 
-not_taken : (id : ℕ) (e : Refusal) (v w : CpuView Tables) → WhyNotTaken raise_tables id v e w → HasRisingIds v.cyclics
-    → HasRisingIds w.cyclics
+not_taken : (id : ℕ) (e : Refusal) (v w : CpuView Tables) → WhyNotTaken raise_tables id v e w → HasRisingCyclics v.cyclics
+    → HasRisingCyclics w.cyclics
 not_taken id NoCyclic v w d rising = same_cpu v w d.1 rising
 not_taken id (Busy removed) v w d rising = same_cpu v w d.2 rising
 not_taken id Pending v w (still, some, n, more, asks) rising = same_cyclics v w asks.cyclics rising
 not_taken id e v w d rising = absurd d
 
 pub rises : {C : Type 0} (handler : Calls C) (call : CpuCall) (s t : Running C Tables)
-    → (IsStopped call → ⊥) → Does handler raise_tables (Interrupts handler) s call t
-    → HasRisingIds s.cpu.cyclics → HasRisingIds t.cpu.cyclics
+    → (IsStopped call → ⊥) → CpuDoes handler raise_tables (Interrupts handler) s call t
+    → HasRisingCyclics s.cpu.cyclics → HasRisingCyclics t.cpu.cyclics
 rises handler (Fire now (Ok r)) s t goes (early, kept, expired, next, makes) rising =
     rises_fired now (expirations now (timed s.cpu.cyclics)) s.cpu.cyclics t.cpu.cyclics makes.timers_are rising
 rises handler (Fire now (Err e)) s t goes does rising = absurd (goes tt)
@@ -90,17 +90,17 @@ rises handler (Reserve more (Ok done)) s t goes (d, calls) rising = same_cyclics
 rises handler (Reserve more (Err e)) s t goes (d, calls) rising = same_cyclics s.cpu t.cpu d.0.cyclics rising
 rises handler (Widen more) s t goes (d, calls) rising = same_cyclics s.cpu t.cpu d.1.cyclics rising
 rises handler (BeginRemove id (Ok (Done receipt))) s t goes ((still, (x, counts, is, polled, leaves)), calls) rising =
-    subst HasRisingIds (sym leaves.cyclics) (rises_left s.cpu.cyclics leaves.place rising)
+    subst HasRisingCyclics (sym leaves.cyclics) (rises_left s.cpu.cyclics leaves.position rising)
 rises handler (BeginRemove id (Ok (Kept kept))) s t goes ((still, opens), calls) rising =
-    subst HasRisingIds (sym opens.cyclics) (rises_moved s.cpu.cyclics opens.place never opens.cyclic opens.here rising)
+    subst HasRisingCyclics (sym opens.cyclics) (rises_moved s.cpu.cyclics opens.position never opens.cyclic opens.here rising)
 rises handler (BeginRemove id (Err e)) s t goes (d, calls) rising = same_cpu s.cpu t.cpu d.1 rising
 rises handler (PollRemove (Some receipt)) s t goes (ends, calls) rising =
-    subst HasRisingIds (sym ends.leaves.cyclics) (rises_left s.cpu.cyclics ends.leaves.place rising)
+    subst HasRisingCyclics (sym ends.leaves.cyclics) (rises_left s.cpu.cyclics ends.leaves.position rising)
 rises handler (PollRemove None) s t goes (inl none, calls) rising = same_cpu s.cpu t.cpu none.1 rising
 rises handler (PollRemove None) s t goes (inr (id, is_open, waits), calls) rising =
     same_cyclics s.cpu t.cpu waits.cyclics rising
 rises handler (TakeNow id (Ok got)) s t goes ((still, (x, counts, is, polled, leaves)), calls) rising =
-    subst HasRisingIds (sym leaves.cyclics) (rises_left s.cpu.cyclics leaves.place rising)
+    subst HasRisingCyclics (sym leaves.cyclics) (rises_left s.cpu.cyclics leaves.position rising)
 rises handler (TakeNow id (Err e)) s t goes (d, calls) rising = not_taken id e s.cpu t.cpu d rising
 rises handler Suspend s t goes (d, calls) rising = same_cyclics s.cpu t.cpu (ap (λ (x : CpuView Tables). x.cyclics) d) rising
 rises handler Resume s t goes (d, calls) rising = same_cyclics s.cpu t.cpu (ap (λ (x : CpuView Tables). x.cyclics) d) rising
@@ -109,15 +109,15 @@ rises handler (AskSettled false) s t goes (d, calls) rising = same_cyclics s.cpu
 
 -- ---- the levels know their own
 
-none_found : (id : ℕ) (cs : List Timed) → HasNoCyclic id cs → find (is_of id) (map shown cs) ≡ None
+none_found : (id : ℕ) (cs : List Timed) → HasNoCyclic id cs → find (is_of id) (map shown_cyclic cs) ≡ None
 none_found id [] none = refl
 none_found id (c ∷ cs) none =
-    ap (λ b. cond b (Some (shown c)) (find (is_of id) (map shown cs))) (not_named id c (none 0 c (omega arith)))
+    ap (λ b. cond b (Some (shown_cyclic c)) (find (is_of id) (map shown_cyclic cs))) (not_named id c (none 0 c (omega arith)))
     ∙ none_found id cs (λ k d low. none (suc k) d (omega (arith, low)))
 
 pub owns : {C : Type 0} (handler : Calls C) (n index : ℕ) (online : Bool) (call : CpuCall) (s t : Running C Tables)
-    → HasRisingIds s.cpu.cyclics → (IsStopped call → ⊥)
-    → Does handler raise_tables (Interrupts handler) s call t
+    → HasRisingCyclics s.cpu.cyclics → (IsStopped call → ⊥)
+    → CpuDoes handler raise_tables (Interrupts handler) s call t
     → HasOwn (shown_cpu online s.cpu) → HasOwn (here_of n index call (shown_cpu online s.cpu)).cpu
 owns handler n index online (Fire now (Ok r)) s t rising goes does h = fire_ties n now (shown_cpu online s.cpu) h
 owns handler n index online (Fire now (Err e)) s t rising goes does h = absurd (goes tt)
@@ -126,7 +126,7 @@ owns handler n index online (SoftInterrupt level budget (Ok r)) s t rising goes 
 owns handler n index online (SoftInterrupt level budget (Err e)) s t rising goes does h = absurd (goes tt)
 owns handler n index online (Add id level series now (Ok done)) s t rising goes ((absent, early, adds), calls) h =
     let c = shown_cpu online s.cpu in
-    place_ties n index (new_cyclic id level series.start series.interval now) (widen_here n 1 c).cpu
+    place_ties n index (begun_cyclic id level series.start series.interval now) (widen_here n 1 c).cpu
     (ap (find (is_of id)) (widen_keep n 1 c).0 ∙ none_found id s.cpu.cyclics absent) (widen_ties n 1 c h)
 owns handler n index online (Add id level series now (Err e)) s t rising goes d h = h
 owns handler n index online (Place id level interval moment carried) s t rising goes ((may, places), calls) h =
@@ -147,7 +147,8 @@ owns handler n index online (BeginRemove id (Ok (Done receipt))) s t rising goes
     clear_ties n id (mark_here n id (shown_cpu online s.cpu)).cpu (mark_known n id (shown_cpu online s.cpu) h.known)
 owns handler n index online (BeginRemove id (Ok (Kept kept))) s t rising goes ((still, opens), calls) h =
     mark_ties n id (shown_cpu online s.cpu)
-    (λ high. opens.soft (sym (level_found online opens.place id opens.cyclic s.cpu rising opens.here opens.named) ∙ high)) h.known
+    (λ high. opens.soft (sym (level_found online opens.position id opens.cyclic s.cpu rising opens.here opens.named)
+    ∙ high)) h.known
 owns handler n index online (BeginRemove id (Err e)) s t rising goes d h = h
 owns handler n index online (PollRemove (Some receipt)) s t rising goes d h =
     clear_ties n receipt.id (shown_cpu online s.cpu) h.known
@@ -160,7 +161,7 @@ owns handler n index online Suspend s t rising goes d h = h
 owns handler n index online Resume s t rising goes d h = h
 
 pub tied : {C : Type 0} (handler : Calls C) (call : CpuCall) (s t : Running C Tables)
-    → (IsStopped call → ⊥) → Does handler raise_tables (Interrupts handler) s call t
+    → (IsStopped call → ⊥) → CpuDoes handler raise_tables (Interrupts handler) s call t
     → IsTied s.cpu → IsTied t.cpu
 tied handler call s t goes does h =
     let rising = rises handler call s t goes does h.rising in

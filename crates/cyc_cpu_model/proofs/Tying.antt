@@ -17,11 +17,11 @@ use Rattle.cyc_level.specs.Level.{AdmittedCyclic, Cyclics, SoftLevel}
 use Rattle.cyc_level.specs.Events.{after, after_finish, admitted_cyclic, changed_at, cyclic_after_expire, cyclic_after_lose}
 use Rattle.cyc_level.specs.Events.{cyclic_after_finish}
 use Rattle.cyc_level.proofs.Maps.{at_same, at_other, not_none}
-use Rattle.cyc_types.specs.Expirations.{Expiration, after as timer_after}
+use Rattle.cyc_types.specs.Expirations.{Expiration, after_expirations as timer_after}
 use Rattle.cyc_timers.specs.Acts.{same_level}
 use Rattle.cyc_model.specs.Acts.{Act, At, Call, same_soft, events_at}
-use Rattle.cyc_model.specs.Cpu.{Cyclic, Cpu, happen, nothing_here, is_of, handler_level_of, others, with_moment}
-use Rattle.cyc_model.specs.Firing.{expiry, expire_all, fired, fire_these, fire_here, due_here}
+use Rattle.cyc_model.specs.Cpu.{CyclicState, Cpu, happen, nothing_here, is_of, handler_level_of, others, cyclic_at}
+use Rattle.cyc_model.specs.Firing.{expiry, expire_all, fired_cyclic, fire_these, fire_here, due_here}
 use Rattle.cyc_model.specs.Serving.{level_after, level_at, serve_here}
 use Rattle.cyc_model.specs.Moving.{put_in, must_grow, bank_for, switch_here, moment_at, widen_here, place_here, take_here}
 use Rattle.cyc_model.specs.Moving.{mark_here, clear_here, reprogram_here}
@@ -89,36 +89,37 @@ acts_have (Call id ∷ acts) n soft l q none is = acts_have acts n soft l q none
 -- ---- the levels of cyclics
 
 -- a change that keeps ids and levels
-abbrev KeepsLevels : (Cyclic → Cyclic) → Type 0
-KeepsLevels f = (x : Cyclic) → ((f x).timer.id ≡ x.timer.id) × ((f x).timer.level ≡ x.timer.level)
+abbrev KeepsLevels : (CyclicState → CyclicState) → Type 0
+KeepsLevels f = (x : CyclicState) → ((f x).timer.id ≡ x.timer.id) × ((f x).timer.level ≡ x.timer.level)
 
-mapped_at : (f : Cyclic → Cyclic) (q : ℕ) (x : Cyclic) (o o' : Option Cyclic) (b : Bool)
+mapped_at : (f : CyclicState → CyclicState) (q : ℕ) (x : CyclicState) (o o' : Option CyclicState) (b : Bool)
     → (f x).timer.level ≡ x.timer.level → level_in o ≡ level_in o'
     → level_in (cond b (Some (f x)) o) ≡ level_in (cond b (Some x) o')
 mapped_at f q x o o' true same rest = same
 mapped_at f q x o o' false same rest = rest
 
-mapped_level : (f : Cyclic → Cyclic) (q : ℕ) → KeepsLevels f → (ys : List Cyclic)
+mapped_level : (f : CyclicState → CyclicState) (q : ℕ) → KeepsLevels f → (ys : List CyclicState)
     → level_in (find (is_of q) (map f ys)) ≡ level_in (find (is_of q) ys)
 mapped_level f q keeps [] = refl
 mapped_level f q keeps (x ∷ ys) =
     ap (λ i. level_in (cond (i == q) (Some (f x)) (find (is_of q) (map f ys)))) (keeps x).0
     ∙ mapped_at f q x _ _ (x.timer.id == q) (keeps x).1 (mapped_level f q keeps ys)
 
-fired_keeps : (now : ℕ) (made : List Expiration) (acts : List Act) → KeepsLevels (fired now made acts)
+fired_keeps : (now : ℕ) (made : List Expiration) (acts : List Act) → KeepsLevels (fired_cyclic now made acts)
 unfolding timer_after
 fired_keeps now made acts x = (refl, refl)
 
 moment_keeps : (id moment : ℕ) → KeepsLevels (moment_at id moment)
 moment_keeps id moment x = pick (is_of id x)
   where
-    pick : (b : Bool) → ((cond b (with_moment moment x) x).timer.id ≡ x.timer.id)
-        × ((cond b (with_moment moment x) x).timer.level ≡ x.timer.level)
+    pick : (b : Bool) → ((cond b (cyclic_at moment x) x).timer.id ≡ x.timer.id)
+        × ((cond b (cyclic_at moment x) x).timer.level ≡ x.timer.level)
     pick true = (refl, refl)
     pick false = (refl, refl)
 
 -- the cyclics of other ids
-other_level : (id q : ℕ) (ys : List Cyclic) → q ≢ id → level_in (find (is_of q) (others id ys)) ≡ level_in (find (is_of q) ys)
+other_level : (id q : ℕ) (ys : List CyclicState) → q ≢ id → level_in (find (is_of q) (others id ys)) ≡ level_in (find (is_of q)
+    ys)
 other_level id q [] ne = refl
 other_level id q (x ∷ ys) ne = dite (ℕ_discrete x.timer.id id)
     (λ e. ap (λ b. level_in (find (is_of q) (cond (not b) (x ∷ others id ys) (others id ys)))) (same x.timer.id id e)
@@ -145,7 +146,7 @@ own_id a = grind (arith, nat_tests)
 other_id : (a b : ℕ) → a ≢ b → (a == b) ≡ false
 other_id a b isnt = grind (arith, nat_tests)
 
-put_at : (x y : Cyclic) (ys : List Cyclic) (b first : Bool) → is_of x.timer.id y ≡ first
+put_at : (x y : CyclicState) (ys : List CyclicState) (b first : Bool) → is_of x.timer.id y ≡ first
     → cond first (Some y) (find (is_of x.timer.id) ys) ≡ None
     → (find (is_of x.timer.id) ys ≡ None → level_in (find (is_of x.timer.id) (put_in x ys)) ≡ x.timer.level)
     → level_in (find (is_of x.timer.id) (cond b (x ∷ y ∷ ys) (y ∷ put_in x ys))) ≡ x.timer.level
@@ -153,24 +154,24 @@ put_at x y ys b true at e rest = absurd (let isnt : Some y ≡ None = e in cc)
 put_at x y ys true false at e rest = ap (λ c. level_in (cond c (Some x) (find (is_of x.timer.id) (y ∷ ys)))) (own_id x.timer.id)
 put_at x y ys false false at e rest = ap (λ c. level_in (cond c (Some y) (find (is_of x.timer.id) (put_in x ys)))) at ∙ rest e
 
-put_own : (x : Cyclic) (ys : List Cyclic) → find (is_of x.timer.id) ys ≡ None
+put_own : (x : CyclicState) (ys : List CyclicState) → find (is_of x.timer.id) ys ≡ None
     → level_in (find (is_of x.timer.id) (put_in x ys)) ≡ x.timer.level
 put_own x [] none = ap (λ b. level_in (cond b (Some x) None)) (own_id x.timer.id)
 put_own x (y ∷ ys) none = put_at x y ys (nat_lt x.timer.id y.timer.id) (is_of x.timer.id y) refl none (put_own x ys)
 
-next_level : (y : Cyclic) (o o' : Option Cyclic) (b : Bool) → level_in o ≡ level_in o'
+next_level : (y : CyclicState) (o o' : Option CyclicState) (b : Bool) → level_in o ≡ level_in o'
     → level_in (cond b (Some y) o) ≡ level_in (cond b (Some y) o')
 next_level y o o' true rest = refl
 next_level y o o' false rest = rest
 
-put_beside : (x y : Cyclic) (ys : List Cyclic) (q : ℕ) (b : Bool) → q ≢ x.timer.id
+put_beside : (x y : CyclicState) (ys : List CyclicState) (q : ℕ) (b : Bool) → q ≢ x.timer.id
     → level_in (find (is_of q) (put_in x ys)) ≡ level_in (find (is_of q) ys)
     → level_in (find (is_of q) (cond b (x ∷ y ∷ ys) (y ∷ put_in x ys))) ≡ level_in (find (is_of q) (y ∷ ys))
 put_beside x y ys q true ne rest = ap (λ c. level_in (cond c (Some x) (find (is_of q) (y ∷ ys))))
     (other_id x.timer.id q (λ e. ne (sym e)))
 put_beside x y ys q false ne rest = next_level y _ _ (is_of q y) rest
 
-put_other : (x : Cyclic) (ys : List Cyclic) (q : ℕ) → q ≢ x.timer.id
+put_other : (x : CyclicState) (ys : List CyclicState) (q : ℕ) → q ≢ x.timer.id
     → level_in (find (is_of q) (put_in x ys)) ≡ level_in (find (is_of q) ys)
 put_other x [] q ne = ap (λ b. level_in (cond b (Some x) None)) (other_id x.timer.id q (λ e. ne (sym e)))
 put_other x (y ∷ ys) q ne = put_beside x y ys q (nat_lt x.timer.id y.timer.id) ne (put_other x ys q ne)
@@ -216,7 +217,7 @@ these_ties n now made c =
     let d = expire_all n made c in
     let k = expire_keep n made c in
     kept c (fire_these n now made c).cpu
-    (λ q. mapped_level (fired now made d.acts) q (fired_keeps now made d.acts) d.cpu.cyclics
+    (λ q. mapped_level (fired_cyclic now made d.acts) q (fired_keeps now made d.acts) d.cpu.cyclics
     ∙ ap (λ ys. level_in (find (is_of q) ys)) k.0)
     (λ soft q is. acts_have d.acts n soft (level_at soft c) q (expire_none n made c)
     (subst (Has q) (fired_level n now made c soft ∙ (local_expire_all n made c).levels soft) is))
@@ -285,7 +286,7 @@ own_of Lock High is = absurd (let isnt : false ≡ true = is in cc)
 own_of High Low is = absurd (let isnt : false ≡ true = is in cc)
 own_of High Lock is = absurd (let isnt : false ≡ true = is in cc)
 
-pub place_ties : (n index : ℕ) (x : Cyclic) (c : Cpu) → find (is_of x.timer.id) c.cyclics ≡ None → HasOwn c
+pub place_ties : (n index : ℕ) (x : CyclicState) (c : Cpu) → find (is_of x.timer.id) c.cyclics ≡ None → HasOwn c
     → HasOwn (place_here n index x c).cpu
 place_ties n index x c none h = subst HasOwn
     (sym (own_cpu x.timer.level n (Admit x.timer.id index) (record c { cyclics = put_in x c.cyclics }))) (record {

@@ -12,7 +12,7 @@ use Rattle.cyc_model.specs.Firing.{fire_here}
 use Rattle.cyc_model.specs.Serving.{serve_here, level_at}
 use Rattle.cyc_model.specs.Free.{AllCanBeAdmitted}
 use Rattle.cyc_model.specs.Moving.{widen_here, place_here, enter_here, take_here, mark_here, clear_here, reprogram_here}
-use Rattle.cyc_model.specs.Add.{cyclic_with, new_cyclic}
+use Rattle.cyc_model.specs.Add.{cyclic_that_expired, begun_cyclic}
 use Rattle.cyc_cpu_model.specs.Shown.{shown_cpu}
 
 -- what the call does on the CPU of this number, where a cyclic that it puts in gets this index. A call that asks, reserves
@@ -20,9 +20,9 @@ use Rattle.cyc_cpu_model.specs.Shown.{shown_cpu}
 abbrev pub here_of : ℕ → ℕ → CpuCall → Cpu → Here
 here_of n index (Fire now (Ok fired)) c = fire_here n now c
 here_of n index (SoftInterrupt level budget (Ok ran)) c = serve_here n level budget c
-here_of n index (Add id level when now (Ok done)) c = enter_here n index (new_cyclic id level when.start when.interval now) c
+here_of n index (Add id level when now (Ok done)) c = enter_here n index (begun_cyclic id level when.start when.interval now) c
 here_of n index (Place id level interval moment carried) c =
-    place_here n index (cyclic_with id level interval moment carried.sent carried.lost) c
+    place_here n index (cyclic_that_expired id level interval moment carried.sent carried.lost) c
 here_of n index (Reprogram id moment (Ok done)) c = reprogram_here id moment c
 here_of n index (Widen more) c = widen_here n more c
 here_of n index (BeginRemove id (Ok (Done receipt))) c = then_here (mark_here n id c) (clear_here n id)

@@ -3,7 +3,7 @@ use Rattle.std.specs.Prelude.{◌≡◌, ◌≢◌, ℕ, Bool, Some, IsSome}
 use Rattle.cyc_types.specs.declared.level.Soft.{Soft}
 use Rattle.cyc_types.specs.declared.level.Level.TheVariants.{High}
 use Rattle.cyc_core.specs.Tables.{Tables}
-use Rattle.cyc_cpu.specs.Cpu.{CpuView, HasRisingIds}
+use Rattle.cyc_cpu.specs.Cpu.{CpuView, HasRisingCyclics}
 use Rattle.cyc_model.specs.Cpu.{Cpu, handler_level_of}
 use Rattle.cyc_model.specs.Serving.{level_at}
 use Rattle.cyc_types.specs.Levels.{as_level}
@@ -16,5 +16,5 @@ pub record HasOwn (c : Cpu) : Type 0 where
 
 -- the same of a CPU, whose ids rise
 pub record IsTied (v : CpuView Tables) : Type 0 where
-  pub rising : HasRisingIds v.cyclics
+  pub rising : HasRisingCyclics v.cyclics
   pub own : (online : Bool) → HasOwn (shown_cpu online v)

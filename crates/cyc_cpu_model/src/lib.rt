@@ -7,7 +7,7 @@ ghost use Rattle.cyc_core.specs.Tables.{Tables};
 ghost use Rattle.cyc_cpu.specs.Cpu.{CpuView, Running};
 ghost use Rattle.cyc_cpu.specs.Laws.{IsLawful};
 ghost use Rattle.cyc_cpu.specs.Soft.{raise_tables, firing_at, Interrupts};
-ghost use Rattle.cyc_cpu.specs.Calls.{CpuCall, Does};
+ghost use Rattle.cyc_cpu.specs.Calls.{CpuCall, CpuDoes};
 ghost use Rattle.cyc_cpu_model.specs.Shown.{shown_cpu};
 ghost use Rattle.cyc_cpu_model.specs.Here.{IsHere, IsInTime, IsStopped};
 ghost use Rattle.cyc_cpu_model.specs.Answers.{IsAnswered};
@@ -21,7 +21,7 @@ use cyc_types::Calls;
 /// It does nothing when it runs: its clause is the law.
 pub fn here_law<C: Calls>()
     ensures { (n : ℕ) (online : Bool) (call : CpuCall) (s t : Running C Tables) → IsTied s.cpu
-        → (IsStopped call → ⊥) → Does C.Calls raise_tables (Interrupts C.Calls) s call t
+        → (IsStopped call → ⊥) → CpuDoes C.Calls raise_tables (Interrupts C.Calls) s call t
         → IsHere C.count n online call s t }
 {}
 
@@ -30,7 +30,7 @@ pub fn here_law<C: Calls>()
 /// It does nothing when it runs: its clause is the law.
 pub fn answers_law<C: Calls>()
     ensures { (n : ℕ) (online : Bool) (call : CpuCall) (s t : Running C Tables) → IsTied s.cpu → IsInTime call
-        → (IsStopped call → ⊥) → Does C.Calls raise_tables (Interrupts C.Calls) s call t
+        → (IsStopped call → ⊥) → CpuDoes C.Calls raise_tables (Interrupts C.Calls) s call t
         → IsAnswered n call (shown_cpu online s.cpu) }
 {}
 
@@ -41,6 +41,6 @@ pub fn answers_law<C: Calls>()
 pub fn tied_law<C: Calls>()
     ensures lawful { (v : CpuView Tables) → IsLawful firing_at v → IsTied v }
     ensures kept { (call : CpuCall) (s t : Running C Tables)
-        → Does C.Calls raise_tables (Interrupts C.Calls) s call t → IsTied s.cpu
+        → CpuDoes C.Calls raise_tables (Interrupts C.Calls) s call t → IsTied s.cpu
         → IsTied t.cpu }
 {}

@@ -6,10 +6,10 @@ ghost use Rattle.cyc_ring.specs.Ends.{IsRaiseSeatOf, IsDrainSeatOf, raise_trail,
 ghost use Rattle.cyc_cpu.specs.Cpu.{IsFresh};
 
 use cyc_core::LevelCore;
-use cyc_cpu::{Fired, Hard};
-use cyc_ring::{DrainEnd, DrainSeat, RaiseEnd, RaiseSeat, Ring};
-use cyc_ring_soft::softint;
+use cyc_cpu::Hard;
+use cyc_ring::{DrainEnd, DrainSeat, RaiseEnd, RaiseSeat, Ring, softint};
 use cyc_soft::Ran;
+use cyc_timers::Fired;
 use cyc_types::{Ceiling, CyclicId, Level, Moment, Raise, Soft, Tally, When};
 use std::alloc::Global;
 use std::fmt::Debug;

@@ -6,8 +6,9 @@ ghost use Rattle.cyc_core.specs.FiringSide.{firing_view};
 ghost use Rattle.cyc_cpu.specs.Cpu.{IsFresh};
 
 use cyc_core::LevelCore;
-use cyc_cpu::{FireRefused, Fired, Hard, Removal, Taken, Totals};
+use cyc_cpu::{Hard, Removal, Taken, Totals};
 use cyc_soft::{Ran, SoftRefused};
+use cyc_timers::{FireRefused, Fired};
 use cyc_types::{Ceiling, CyclicId, Level, Moment, Receipt, Refusal, Sent, Soft, When};
 use std::alloc::Global;
 use std::process::Abort;

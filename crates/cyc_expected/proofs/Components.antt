@@ -7,18 +7,18 @@ use Rattle.std.proofs.lemmas.List.{get_or-set_same, get_or-set_other, length-set
 use mathlib.Core.Logic.{dite}
 use native.Mathlib.Decide.{ℕ_discrete}
 use Rattle.cyc_level.proofs.Maps.{some_same, some_of}
-use Rattle.cyc_model.specs.Cpu.{Cyclic, Cpu, Here, nothing_here, cyclic_of}
+use Rattle.cyc_model.specs.Cpu.{CyclicState, Cpu, Here, nothing_here, cyclic_with_id}
 use Rattle.cyc_model.specs.Moving.{must_grow, bank_for, switch_here, widen_here, put_in, place_here, enter_here, moment_at}
 use Rattle.cyc_model.specs.Moving.{reprogram_here, take_here}
-use Rattle.cyc_model.specs.State.{State, Everywhere, Placement, Placed, On, OnAll, absent, cpu_of, on, each}
-use Rattle.cyc_model.specs.Places.{placement_of, is_leaving, without_ended, keep_counts}
-use Rattle.cyc_model.specs.Offline.{ids_on, retire, retire_all, go_offline, any_pending, last_part, leaving, offline}
+use Rattle.cyc_model.specs.State.{State, Everywhere, Placement, Placed, On, OnAll, absent, cpu_of, on_number, each}
+use Rattle.cyc_model.specs.Places.{placement_of, is_being_removed, without_ended, keep_counts}
+use Rattle.cyc_model.specs.Offline.{ids_of_cpu, retire, retire_all, go_offline, any_pending, last_part, leaving, offline}
 use Rattle.cyc_model.specs.Questions.{plain}
-use Rattle.cyc_model.specs.Juggle.{juggled, single_ids}
+use Rattle.cyc_model.specs.Juggle.{juggled, single_ids_of}
 use Rattle.std.specs.Prelude.{filter}
 use Rattle.cyc_model.specs.Add.{enter}
 use Rattle.cyc_model.specs.Omni.{component}
-use Rattle.cyc_model.specs.Online.{is_on_all, staying, again, return_at, return_of, go_online, online}
+use Rattle.cyc_model.specs.Online.{is_on_all, staying_omni, again, return_here, return_of, go_online, online}
 use Rattle.cyc_model.specs.Laws.{RiseTo}
 use Rattle.cyc_model.proofs.Agreement.{moment_same}
 use Rattle.cyc_model.proofs.Rising.{found, found_map, found_id, put_same, put_other}
@@ -27,7 +27,7 @@ use Rattle.cyc_model.proofs.Whole.{same_happen}
 use Rattle.cyc_model.proofs.Numbers.{Has, RiseFrom, has_above}
 use Rattle.cyc_model.proofs.Spread.{Good, has_number}
 use Rattle.cyc_model.proofs.Staying.{Each, each_above, entry_filter, staying_rise, entry_here, entry_past}
-use Rattle.cyc_expected.specs.Course.{component_first}
+use Rattle.cyc_expected.specs.Course.{component_begins_at}
 use Rattle.cyc_expected.proofs.Seen.{seen, seen_at, on_same, removal_of, same_leaving, cpu_counts}
 use Rattle.cyc_expected.proofs.Counts.{cyclics_entered}
 use Rattle.cyc_expected.proofs.Running.{found_in}
@@ -35,13 +35,13 @@ use Rattle.cyc_expected.proofs.Spread.{series_of, series_on, with_interval, Spre
 
 -- ---- what is done on one CPU
 
-pub on_there : (n : ℕ) (f : Cpu → Here) (s : State) → n < length s.cpus → cpu_of n (on n f s).state ≡ (f (cpu_of n s)).cpu
+pub on_there : (n : ℕ) (f : Cpu → Here) (s : State) → n < length s.cpus → cpu_of n (on_number n f s).state ≡ (f (cpu_of n s)).cpu
 on_there n f s within = get_or-set_same s.cpus n (f (cpu_of n s)).cpu absent within
 
-pub on_elsewhere : (n m : ℕ) (f : Cpu → Here) (s : State) → m ≢ n → cpu_of m (on n f s).state ≡ cpu_of m s
+pub on_elsewhere : (n m : ℕ) (f : Cpu → Here) (s : State) → m ≢ n → cpu_of m (on_number n f s).state ≡ cpu_of m s
 on_elsewhere n m f s far = get_or-set_other s.cpus n m (f (cpu_of n s)).cpu absent far
 
-pub on_long : (n : ℕ) (f : Cpu → Here) (s : State) → length (on n f s).state.cpus ≡ length s.cpus
+pub on_long : (n : ℕ) (f : Cpu → Here) (s : State) → length (on_number n f s).state.cpus ≡ length s.cpus
 on_long n f s = length-set s.cpus n (f (cpu_of n s)).cpu
 
 -- ---- omni: each online CPU in turn
@@ -58,7 +58,7 @@ module _ (indexes : ℕ → ℕ) (id : ℕ) (e : Everywhere) where
 
   pub enters_there : (low m : ℕ) (ns : List ℕ) (s : State) → RiseFrom low ns → Has m ns → m < length s.cpus
       → found id (cpu_of m s).cyclics ≡ None
-      → series_on id (cpu_of m (enters ns s)) ≡ Some (component_first m e s.clock, e.interval)
+      → series_on id (cpu_of m (enters ns s)) ≡ Some (component_begins_at m e s.clock, e.interval)
   enters_there low m [] s rise has within none = absurd has
   enters_there low m (n ∷ ns) s rise has within none =
       let k = indexes s.admissions in
@@ -79,8 +79,8 @@ module _ (indexes : ℕ → ℕ) (id : ℕ) (e : Everywhere) where
 
 -- ---- reprogram: one component is set
 
-pub set_there : (id n moment : ℕ) (s : State) (x : Cyclic) → found id (cpu_of n s).cyclics ≡ Some x
-    → series_on id (cpu_of n (on n (reprogram_here id moment) s).state) ≡ Some (moment, x.timer.interval)
+pub set_there : (id n moment : ℕ) (s : State) (x : CyclicState) → found id (cpu_of n s).cyclics ≡ Some x
+    → series_on id (cpu_of n (on_number n (reprogram_here id moment) s).state) ≡ Some (moment, x.timer.interval)
 set_there id n moment s x is =
     let c = cpu_of n s in
     ap (series_on id) (on_there n (reprogram_here id moment) s (has_number s n id (ap is_some is)))
@@ -91,9 +91,9 @@ set_there id n moment s x is =
 
 pub spread_set : (id : ℕ) (e : Everywhere) (moments : List (Option ℕ)) (n moment : ℕ) (s : State) → Spread id e moments s
     → IsSome (found id (cpu_of n s).cyclics)
-    → Spread id e (slice_set moments n (Some moment)) (on n (reprogram_here id moment) s).state
+    → Spread id e (slice_set moments n (Some moment)) (on_number n (reprogram_here id moment) s).state
 spread_set id e moments n moment s h some =
-    let t = (on n (reprogram_here id moment) s).state in
+    let t = (on_number n (reprogram_here id moment) s).state in
     let it = some_of (found id (cpu_of n s).cyclics) some in
     spread_one id e moments s h n (Some moment) t (has_number s n id some) (on_long n (reprogram_here id moment) s)
     (same_leaving id s t (on_same removal_of n (reprogram_here id moment) s refl) ∙ h.stays) refl
@@ -119,10 +119,10 @@ module _ (indexes : ℕ → ℕ) (n : ℕ) where
   abbrev pub returns : List Placed → State → State
   returns ps s = (each (return_of indexes n) ps s).state
 
-  placed_cyclics : (index : ℕ) (x : Cyclic) (c : Cpu) → (place_here n index x c).cpu.cyclics ≡ put_in x c.cyclics
+  placed_cyclics : (index : ℕ) (x : CyclicState) (c : Cpu) → (place_here n index x c).cpu.cyclics ≡ put_in x c.cyclics
   placed_cyclics index x c = (same_happen (place_here n index x c).acts (record c { cyclics = put_in x c.cyclics })).cyclics
 
-  return_elsewhere : (j m : ℕ) (p : Placement) (s : State) → m ≢ n → cpu_of m (return_at indexes n j p s).state ≡ cpu_of m s
+  return_elsewhere : (j m : ℕ) (p : Placement) (s : State) → m ≢ n → cpu_of m (return_here indexes n j p s).state ≡ cpu_of m s
   return_elsewhere j m (On k bound) s far = refl
   return_elsewhere j m (OnAll e) s far = on_elsewhere n m
       (place_here n (indexes s.admissions) (again j n e (s.ended j n) s.clock)) (without_ended n j s) far
@@ -130,10 +130,10 @@ module _ (indexes : ℕ → ℕ) (n : ℕ) where
   pub returns_elsewhere : (m : ℕ) (ps : List Placed) (s : State) → m ≢ n → cpu_of m (returns ps s) ≡ cpu_of m s
   returns_elsewhere m [] s far = refl
   returns_elsewhere m (p ∷ ps) s far = returns_elsewhere m ps (return_of indexes n p s).state far
-      ∙ return_elsewhere p.id m p.place s far
+      ∙ return_elsewhere p.id m p.placement s far
 
   return_clock : (j : ℕ) (p : Placement) (s : State)
-      → ((return_at indexes n j p s).state.clock ≡ s.clock) × (length (return_at indexes n j p s).state.cpus ≡ length s.cpus)
+      → ((return_here indexes n j p s).state.clock ≡ s.clock) × (length (return_here indexes n j p s).state.cpus ≡ length s.cpus)
   return_clock j (On k bound) s = (refl, refl)
   return_clock j (OnAll e) s = (
     refl,
@@ -142,7 +142,7 @@ module _ (indexes : ℕ → ℕ) (n : ℕ) where
 
 module _ (indexes : ℕ → ℕ) (n id : ℕ) where
   return_other : (j : ℕ) (p : Placement) (s : State) → j ≢ id
-      → seen (found_in id) (return_at indexes n j p s).state ≡ seen (found_in id) s
+      → seen (found_in id) (return_here indexes n j p s).state ≡ seen (found_in id) s
   return_other j (On k bound) s ne = refl
   return_other j (OnAll e) s ne =
       let x = again j n e (s.ended j n) s.clock in
@@ -153,11 +153,11 @@ module _ (indexes : ℕ → ℕ) (n id : ℕ) where
       → seen (found_in id) (returns indexes n ps s) ≡ seen (found_in id) s
   returns_others [] s above = refl
   returns_others (p ∷ ps) s above = returns_others ps (return_of indexes n p s).state above.1
-      ∙ return_other p.id p.place s (λ same. let a = above.0 in absurd (omega (arith, a, same)))
+      ∙ return_other p.id p.placement s (λ same. let a = above.0 in absurd (omega (arith, a, same)))
 
   returns_there : (e : Everywhere) (p : Placed) (low high : ℕ) (ps : List Placed) (s : State) → RiseTo low ps high
-      → n < length s.cpus → found id (cpu_of n s).cyclics ≡ None → entry id ps ≡ Some p → p.place ≡ OnAll e
-      → series_on id (cpu_of n (returns indexes n ps s)) ≡ Some (component_first n e s.clock, e.interval)
+      → n < length s.cpus → found id (cpu_of n s).cyclics ≡ None → entry id ps ≡ Some p → p.placement ≡ OnAll e
+      → series_on id (cpu_of n (returns indexes n ps s)) ≡ Some (component_begins_at n e s.clock, e.interval)
   returns_there e p low high [] s rise within none is all = absurd (cc)
   returns_there e p low high (q ∷ qs) s rise within none is all = dite (ℕ_discrete q.id id)
       (λ same.
@@ -166,8 +166,8 @@ module _ (indexes : ℕ → ℕ) (n id : ℕ) where
       let x = again q.id n e (s.ended q.id n) s.clock in
       let r = without_ended n q.id s in
       let place = place_here n (indexes s.admissions) x in
-      let back : t ≡ (return_at indexes n q.id (OnAll e) s).state =
-      ap (λ place. (return_at indexes n q.id place s).state) (ap (λ (z : Placed). z.place) mine ∙ all) in
+      let back : t ≡ (return_here indexes n q.id (OnAll e) s).state =
+      ap (λ place. (return_here indexes n q.id place s).state) (ap (λ (z : Placed). z.placement) mine ∙ all) in
       let above = subst (λ k. Each (λ z. k < z.id) qs) same (each_above q.id high qs rise.1) in
       ap (option_map series_of) (seen_at (found_in id) t (returns indexes n qs t) (returns_others qs t above) n)
       ∙ (ap (λ u. series_on id (cpu_of n u)) back
@@ -176,29 +176,30 @@ module _ (indexes : ℕ → ℕ) (n id : ℕ) where
       ∙ put_same id x (cpu_of n s).cyclics same none))))
       (λ far.
       let t = (return_of indexes n q s).state in
-      let kept = return_clock indexes n q.id q.place s in
+      let kept = return_clock indexes n q.id q.placement s in
       returns_there e p q.id high qs t rise.1 (subst (λ k. n < k) (sym kept.1) within)
-      (seen_at (found_in id) s t (return_other q.id q.place s far) n ∙ none) (sym (entry_past id q qs far) ∙ is) all
-      ∙ ap (λ now. Some (component_first n e now, e.interval)) kept.0)
+      (seen_at (found_in id) s t (return_other q.id q.placement s far) n ∙ none) (sym (entry_past id q qs far) ∙ is) all
+      ∙ ap (λ now. Some (component_begins_at n e now, e.interval)) kept.0)
 
 -- the entry of an omnipresent cyclic whose removal isn't open is among those that stay
-stays_entry : (id : ℕ) (e : Everywhere) (s : State) → placement_of id s ≡ Some (OnAll e) → is_leaving id s ≡ false
-    → (p : Placed) × (entry id (staying s) ≡ Some p) × (p.place ≡ OnAll e)
+stays_entry : (id : ℕ) (e : Everywhere) (s : State) → placement_of id s ≡ Some (OnAll e) → is_being_removed id s ≡ false
+    → (p : Placed) × (entry id (staying_omni s) ≡ Some p) × (p.placement ≡ OnAll e)
 stays_entry id e s is shut = by (entry id s.placed) refl is
   where
-    by : (o : Option Placed) → entry id s.placed ≡ o → option_map (λ (p : Placed). p.place) o ≡ Some (OnAll e)
-        → (p : Placed) × (entry id (staying s) ≡ Some p) × (p.place ≡ OnAll e)
+    by : (o : Option Placed) → entry id s.placed ≡ o → option_map (λ (p : Placed). p.placement) o ≡ Some (OnAll e)
+        → (p : Placed) × (entry id (staying_omni s) ≡ Some p) × (p.placement ≡ OnAll e)
     by None at h = absurd (cc)
     by (Some p) at h =
-        let place : p.place ≡ OnAll e = some_same p.place (OnAll e) h in
-        let one = entry_filter (λ q. not (is_leaving q.id s)) id p s.placed at
-        (ap (λ (k : ℕ). not (is_leaving k s)) (entry_id id p s.placed at) ∙ ap not shut) in (
+        let place : p.placement ≡ OnAll e = some_same p.placement (OnAll e) h in
+        let one = entry_filter (λ q. not (is_being_removed q.id s)) id p s.placed at
+        (ap (λ (k : ℕ). not (is_being_removed k s)) (entry_id id p s.placed at) ∙ ap not shut) in (
           p,
-          entry_filter (λ q. is_on_all q.place) id p (filter (λ q. not (is_leaving q.id s)) s.placed) one (ap is_on_all place),
+          entry_filter (λ q. is_on_all q.placement) id p (filter (λ q. not (is_being_removed q.id s)) s.placed) one (ap is_on_all
+              place),
           place,
         )
 
-placed_return : (indexes : ℕ → ℕ) (n id : ℕ) (p : Placement) (s : State) → (return_at indexes n id p s).state.placed ≡ s.placed
+placed_return : (indexes : ℕ → ℕ) (n id : ℕ) (p : Placement) (s : State) → (return_here indexes n id p s).state.placed ≡ s.placed
 placed_return indexes n id (On k bound) s = refl
 placed_return indexes n id (OnAll e) s = refl
 
@@ -206,28 +207,29 @@ pub placed_returns : (indexes : ℕ → ℕ) (n : ℕ) (ps : List Placed) (s : S
     → (each (return_of indexes n) ps s).state.placed ≡ s.placed
 placed_returns indexes n [] s = refl
 placed_returns indexes n (p ∷ ps) s =
-    placed_returns indexes n ps (return_of indexes n p s).state ∙ placed_return indexes n p.id p.place s
+    placed_returns indexes n ps (return_of indexes n p s).state ∙ placed_return indexes n p.id p.placement s
 
 long_returns : (indexes : ℕ → ℕ) (n : ℕ) (ps : List Placed) (s : State)
     → length (each (return_of indexes n) ps s).state.cpus ≡ length s.cpus
 long_returns indexes n [] s = refl
 long_returns indexes n (p ∷ ps) s =
-    long_returns indexes n ps (return_of indexes n p s).state ∙ (return_clock indexes n p.id p.place s).1
+    long_returns indexes n ps (return_of indexes n p s).state ∙ (return_clock indexes n p.id p.placement s).1
 
 module _ (indexes : ℕ → ℕ) (step n : ℕ) (s : State) where
   abbrev pub widens : State
-  widens = (on n (widen_here n (length (staying s))) s).state
+  widens = (on_number n (widen_here n (length (staying_omni s))) s).state
 
   abbrev back : State
-  back = (each (return_of indexes n) (staying s) (on n (widen_here n (length (staying s))) s).state).state
+  back = (each (return_of indexes n) (staying_omni s) (on_number n (widen_here n (length (staying_omni s))) s).state).state
 
   pub online_elsewhere : (m : ℕ) → m ≢ n → cpu_of m (online indexes step n s).state ≡ cpu_of m s
   online_elsewhere m far =
       on_elsewhere n m (λ c. nothing_here (go_online c)) back far
-      ∙ (returns_elsewhere indexes n m (staying s) widens far ∙ on_elsewhere n m (widen_here n (length (staying s))) s far)
+      ∙ (returns_elsewhere indexes n m (staying_omni s) widens far
+      ∙ on_elsewhere n m (widen_here n (length (staying_omni s))) s far)
 
   long_back : length back.cpus ≡ length s.cpus
-  long_back = long_returns indexes n (staying s) widens ∙ on_long n (widen_here n (length (staying s))) s
+  long_back = long_returns indexes n (staying_omni s) widens ∙ on_long n (widen_here n (length (staying_omni s))) s
 
   pub online_long : length (online indexes step n s).state.cpus ≡ length s.cpus
   online_long = on_long n (λ c. nothing_here (go_online c)) back ∙ long_back
@@ -236,54 +238,54 @@ module _ (indexes : ℕ → ℕ) (step n : ℕ) (s : State) where
   online_there within = on_there n (λ c. nothing_here (go_online c)) back (subst (λ k. n < k) (sym long_back) within)
 
   pub online_component : (id : ℕ) (e : Everywhere) → Good s → n < length s.cpus → placement_of id s ≡ Some (OnAll e)
-      → is_leaving id s ≡ false → found id (cpu_of n s).cyclics ≡ None
-      → series_on id (cpu_of n (online indexes step n s).state) ≡ Some (component_first n e s.clock, e.interval)
+      → is_being_removed id s ≡ false → found id (cpu_of n s).cyclics ≡ None
+      → series_on id (cpu_of n (online indexes step n s).state) ≡ Some (component_begins_at n e s.clock, e.interval)
   online_component id e g within place shut none =
       let p = stays_entry id e s place shut in
       ap (series_on id) (online_there within)
-      ∙ returns_there indexes n id e p.0 0 s.last_id (staying s) widens (staying_rise s g)
-      (subst (λ k. n < k) (sym (on_long n (widen_here n (length (staying s))) s)) within)
+      ∙ returns_there indexes n id e p.0 0 s.last_id (staying_omni s) widens (staying_rise s g)
+      (subst (λ k. n < k) (sym (on_long n (widen_here n (length (staying_omni s))) s)) within)
       (seen_at (found_in id) s widens
-      (on_same (found_in id) n (widen_here n (length (staying s))) s
-      (ap (found id) (widened_same n (length (staying s)) (cpu_of n s)))) n ∙ none) p.1 p.2
+      (on_same (found_in id) n (widen_here n (length (staying_omni s))) s
+      (ap (found id) (widened_same n (length (staying_omni s)) (cpu_of n s)))) n ∙ none) p.1 p.2
 
 -- ---- offline: the components of one CPU end
 
 pub retires_elsewhere : (n m : ℕ) (ids : List ℕ) (s : State) → m ≢ n → cpu_of m (each (retire n) ids s).state ≡ cpu_of m s
 retires_elsewhere n m [] s far = refl
 retires_elsewhere n m (j ∷ ids) s far =
-    let o = cyclic_of j (cpu_of n s) in
+    let o = cyclic_with_id j (cpu_of n s) in
     retires_elsewhere n m ids (retire n j s).state far
     ∙ (on_elsewhere n m (take_here n j) (keep_counts n o s) far ∙ cpu_counts n m o s)
 
-placed_counts : (n : ℕ) (o : Option Cyclic) (s : State) → (keep_counts n o s).placed ≡ s.placed
+placed_counts : (n : ℕ) (o : Option CyclicState) (s : State) → (keep_counts n o s).placed ≡ s.placed
 placed_counts n None s = refl
 placed_counts n (Some x) s = refl
 
 pub placed_retires : (n : ℕ) (ids : List ℕ) (s : State) → (each (retire n) ids s).state.placed ≡ s.placed
 placed_retires n [] s = refl
 placed_retires n (j ∷ ids) s =
-    placed_retires n ids (retire n j s).state ∙ placed_counts n (cyclic_of j (cpu_of n s)) s
+    placed_retires n ids (retire n j s).state ∙ placed_counts n (cyclic_with_id j (cpu_of n s)) s
 
-long_counts : (n : ℕ) (o : Option Cyclic) (s : State) → length (keep_counts n o s).cpus ≡ length s.cpus
+long_counts : (n : ℕ) (o : Option CyclicState) (s : State) → length (keep_counts n o s).cpus ≡ length s.cpus
 long_counts n None s = refl
 long_counts n (Some x) s = refl
 
 pub long_retires : (n : ℕ) (ids : List ℕ) (s : State) → length (each (retire n) ids s).state.cpus ≡ length s.cpus
 long_retires n [] s = refl
 long_retires n (j ∷ ids) s =
-    let o = cyclic_of j (cpu_of n s) in
+    let o = cyclic_with_id j (cpu_of n s) in
     long_retires n ids (retire n j s).state ∙ (on_long n (take_here n j) (keep_counts n o s) ∙ long_counts n o s)
 
 retired_elsewhere : (n m : ℕ) (s : State) → m ≢ n → cpu_of m (retire_all n s).state ≡ cpu_of m s
 retired_elsewhere n m s far =
-    on_elsewhere n m (λ c. nothing_here (go_offline c)) (each (retire n) (ids_on n s) s).state far
-    ∙ retires_elsewhere n m (ids_on n s) s far
+    on_elsewhere n m (λ c. nothing_here (go_offline c)) (each (retire n) (ids_of_cpu n s) s).state far
+    ∙ retires_elsewhere n m (ids_of_cpu n s) s far
 
 -- what becomes of the others, whether the CPU went offline or not
 pub offline_elsewhere : (indexes : ℕ → ℕ) (step n : ℕ) (s : State) (m : ℕ) → m ≢ n
     → cpu_of m (offline plain indexes step n s).state ≡ cpu_of m (juggled plain indexes n s).outcome.state
-offline_elsewhere indexes step n s m far = by (single_ids n (juggled plain indexes n s).outcome.state)
+offline_elsewhere indexes step n s m far = by (single_ids_of n (juggled plain indexes n s).outcome.state)
   where
     last : (b : Bool) → cpu_of m (last_part b step n (juggled plain indexes n s).outcome).state
         ≡ cpu_of m (juggled plain indexes n s).outcome.state
@@ -293,5 +295,5 @@ offline_elsewhere indexes step n s m far = by (single_ids n (juggled plain index
     by : (ids : List ℕ) → cpu_of m (leaving plain step n ids (juggled plain indexes n s)).state
         ≡ cpu_of m (juggled plain indexes n s).outcome.state
     by (j ∷ ids) = refl
-    by [] = last (any_pending plain n (ids_on n (juggled plain indexes n s).outcome.state)
+    by [] = last (any_pending plain n (ids_of_cpu n (juggled plain indexes n s).outcome.state)
         (juggled plain indexes n s).outcome.state)

@@ -7,13 +7,13 @@ use Rattle.cyc_text.specs.declared.lines.Counts.{Counts}
 use Rattle.cyc_script.specs.declared.step.Step.{Step}
 use Rattle.cyc_script.specs.declared.step.Step.TheVariants.{Add, Omni, Bind, Unbind, Reprogram, Remove, Advance, Softint, Juggle}
 use Rattle.cyc_script.specs.declared.step.Step.TheVariants.{Offline, Online, Suspend, Resume}
-use Rattle.cyc_model.specs.Cpu.{Cyclic, Cpu, Here}
+use Rattle.cyc_model.specs.Cpu.{CyclicState, Cpu, Here}
 use Rattle.cyc_model.specs.Moving.{put_in, widen_here, place_here, enter_here}
 use Rattle.cyc_model.specs.Moving.{reprogram_here}
 use Rattle.cyc_model.specs.Serving.{serve_here}
 use Rattle.cyc_model.specs.Questions.{plain}
-use Rattle.cyc_model.specs.State.{State, On, OnAll, Everywhere, absent, cpu_of, on, each, online_cpus}
-use Rattle.cyc_model.specs.Places.{id_of, destination, given}
+use Rattle.cyc_model.specs.State.{State, On, OnAll, Everywhere, absent, cpu_of, on_number, each, cpus_online}
+use Rattle.cyc_model.specs.Places.{id_of, destination_of, given}
 use Rattle.cyc_model.specs.Refusals.{magnitude}
 use Rattle.cyc_model.specs.Add.{added, enter}
 use Rattle.cyc_model.specs.Omni.{component, everywhere}
@@ -39,20 +39,20 @@ sum_set_same g (c ∷ cs) (suc n) d e =
     let r = sum_set_same g cs n d e in omega (arith, a, b, r)
 
 expired_on_same : (id n : ℕ) (f : Cpu → Here) (s : State) → expired_here id (f (cpu_of n s)).cpu ≡ expired_here id (cpu_of n s)
-    → expired_in id (on n f s).state ≡ expired_in id s
+    → expired_in id (on_number n f s).state ≡ expired_in id s
 expired_on_same id n f s e =
     let u = ap (λ ns. sum_by (λ m. (s.ended id m).expired) ns) (all_set 0 s.cpus n (f (cpu_of n s)).cpu) in
     let r = sum_set_same (expired_here id) s.cpus n (f (cpu_of n s)).cpu e in omega (arith, u, r)
 
 -- ---- a new cyclic
 
-pub cyclics_entered : (n index : ℕ) (x : Cyclic) (c : Cpu) → (enter_here n index x c).cpu.cyclics ≡ put_in x c.cyclics
+pub cyclics_entered : (n index : ℕ) (x : CyclicState) (c : Cpu) → (enter_here n index x c).cpu.cyclics ≡ put_in x c.cyclics
 cyclics_entered n index x c =
     let d = (widen_here n 1 c).cpu in
     (same_happen (place_here n index x d).acts (record d { cyclics = put_in x d.cyclics })).cyclics
     ∙ ap (put_in x) (widened_same n c)
 
-entered_same : (indexes : ℕ → ℕ) (id n : ℕ) (x : Cyclic) (s : State) → x.timer.expired ≡ 0
+entered_same : (indexes : ℕ → ℕ) (id n : ℕ) (x : CyclicState) (s : State) → x.timer.expired ≡ 0
     → expired_in id (enter indexes n x s).state ≡ expired_in id s
 entered_same indexes id n x s none =
     let k = indexes s.admissions in
@@ -76,9 +76,9 @@ module _ (texts : List (List ℕ)) (f : ℕ → ℕ) (step : ℕ) (s : State) (g
   pub calm_expired : (x : Step) → IsNoAdvance x → refusal_of plain x s ≡ None
       → expired_in id (does plain texts f step x s).state ≡ expired_in id s
   calm_expired (Add a) is why =
-      let n = destination None s in entered_same f id n (added a s) (given a.name (On n false) s) refl
+      let n = destination_of None s in entered_same f id n (added a s) (given a.name (On n false) s) refl
   calm_expired (Omni a) is why =
-      let t = given a.name (OnAll (everywhere a)) s in enters_same f id (s.last_id + 1) (everywhere a) (online_cpus t) t
+      let t = given a.name (OnAll (everywhere a)) s in enters_same f id (s.last_id + 1) (everywhere a) (cpus_online t) t
   calm_expired (Bind b) is why = ap (λ (c : Counts). c.expired) ((safe_does texts f step (Bind b) s tt g why).counts id)
   calm_expired (Unbind name) is why = refl
   calm_expired (Reprogram r) is why =

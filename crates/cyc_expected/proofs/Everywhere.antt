@@ -13,13 +13,13 @@ use Rattle.cyc_script.specs.declared.step.Step.TheVariants.{Offline, Online, Sus
 use Rattle.cyc_model.specs.Cpu.{Cpu, nothing_here}
 use Rattle.cyc_model.specs.Firing.{fire_here}
 use Rattle.cyc_model.specs.Questions.{plain}
-use Rattle.cyc_model.specs.State.{State, Everywhere, OnAll, Placed, cpu_of, on, each, online_cpus, absent}
-use Rattle.cyc_model.specs.Places.{placement_of, is_omnipresent, is_everywhere, given}
+use Rattle.cyc_model.specs.State.{State, Everywhere, OnAll, Placed, cpu_of, on_number, each, cpus_online, absent}
+use Rattle.cyc_model.specs.Places.{placement_of, is_omni, is_placed_everywhere, given}
 use Rattle.cyc_types.specs.Reasons.{busy, bad_now}
-use Rattle.cyc_model.specs.Refusals.{no_cpu, offline_cpu, last_cpu, magnitude}
-use Rattle.cyc_model.specs.Juggle.{juggled, single_ids}
-use Rattle.cyc_model.specs.Offline.{ids_on, any_pending, last_part, leaving, retire, retire_all, go_offline}
-use Rattle.cyc_model.specs.Online.{staying, online_cpu, no_room_for_all}
+use Rattle.cyc_model.specs.Refusals.{is_no_cpu, cpu_is_offline, is_last_online, magnitude}
+use Rattle.cyc_model.specs.Juggle.{juggled, single_ids_of}
+use Rattle.cyc_model.specs.Offline.{ids_of_cpu, any_pending, last_part, leaving, retire, retire_all, go_offline}
+use Rattle.cyc_model.specs.Online.{staying_omni, is_online_already, no_room_for_all}
 use Rattle.cyc_model.specs.Omni.{everywhere}
 use Rattle.cyc_model.specs.Script.{refusal_of, does}
 use Rattle.cyc_model.proofs.Rising.{found, due_of_found}
@@ -33,7 +33,7 @@ use Rattle.cyc_model.proofs.Juggling.{juggling}
 use Rattle.cyc_model.proofs.Staying.{not_open}
 use Rattle.cyc_model.proofs.Calm.{good_clock}
 use Rattle.cyc_model.proofs.Reaching.{well_does}
-use Rattle.cyc_expected.specs.Course.{OnEach, component_first, components_from, due_of}
+use Rattle.cyc_expected.specs.Course.{OnEach, component_begins_at, components_from, due_everywhere}
 use Rattle.cyc_expected.proofs.Seen.{same_leaving, seen_at, removal_of, removal_alike, keeps_offline, keeps_online}
 use Rattle.cyc_expected.proofs.Seen.{keeps_enters}
 use Rattle.cyc_expected.proofs.Fires.{all_fired, due_at, Fired, Later}
@@ -57,8 +57,8 @@ module _ (texts : List (List ℕ)) (f : ℕ → ℕ) (step id : ℕ) (e : Everyw
   abbrev after : Step → State
   after x = (does plain texts f step x s).state
 
-  all : is_omnipresent id s ≡ true
-  all = ap is_everywhere h.place
+  all : is_omni id s ≡ true
+  all = ap is_placed_everywhere h.placement
 
   long : (x : Step) → refusal_of plain x s ≡ None → length (after x).cpus ≡ length s.cpus
   long x why = (well_does texts f step x s g why).0.tells.as_many
@@ -88,21 +88,21 @@ module _ (texts : List (List ℕ)) (f : ℕ → ℕ) (step id : ℕ) (e : Everyw
   -- ---- a CPU goes offline, or does not, or comes back
 
   placed_same : (t u : State) → u.placed ≡ t.placed → placement_of id u ≡ placement_of id t
-  placed_same t u same = ap (λ ps. option_map (λ (p : Placed). p.place) (entry id ps)) same
+  placed_same t u same = ap (λ ps. option_map (λ (p : Placed). p.placement) (entry id ps)) same
 
   abbrev moved : ℕ → State
   moved n = (juggled plain f n s).outcome.state
 
   place_offline : (n : ℕ) → placement_of id (after (Offline n)) ≡ placement_of id (moved n)
-  place_offline n = by (single_ids n (moved n))
+  place_offline n = by (single_ids_of n (moved n))
     where
       last : (b : Bool) → placement_of id (last_part b step n (juggled plain f n s).outcome).state ≡ placement_of id (moved n)
       last true = refl
-      last false = placed_same (moved n) (retire_all n (moved n)).state (placed_retires n (ids_on n (moved n)) (moved n))
+      last false = placed_same (moved n) (retire_all n (moved n)).state (placed_retires n (ids_of_cpu n (moved n)) (moved n))
 
       by : (ids : List ℕ) → placement_of id (leaving plain step n ids (juggled plain f n s)).state ≡ placement_of id (moved n)
       by (j ∷ ids) = refl
-      by [] = last (any_pending plain n (ids_on n (moved n)) (moved n))
+      by [] = last (any_pending plain n (ids_of_cpu n (moved n)) (moved n))
 
   -- its component there has ended
   pub spread_offline : (n : ℕ) → refusal_of plain (Offline n) s ≡ None → (cpu_of n (after (Offline n))).online ≡ false
@@ -110,9 +110,9 @@ module _ (texts : List (List ℕ)) (f : ℕ → ℕ) (step id : ℕ) (e : Everyw
   spread_offline n why off =
       let t = after (Offline n) in
       let left = left_juggled id f n s all in
-      let one = none_first (no_cpu n s) (offline_cpu n s ∷ last_cpu n s ∷ busy (cpu_of n s).removal ∷ []) why in
+      let one = none_first (is_no_cpu n s) (cpu_is_offline n s ∷ is_last_online n s ∷ busy (cpu_of n s).removal ∷ []) why in
       spread_one id e moments s h n None t (is_cpu n s one.0) (long (Offline n) why)
-      (same_leaving id s t (keeps_offline f step n s) ∙ h.stays) (place_offline n ∙ left.place)
+      (same_leaving id s t (keeps_offline f step n s) ∙ h.stays) (place_offline n ∙ left.placement)
       (λ m far. ap (λ (c : Cpu). found id c.cyclics) (offline_elsewhere f step n s m far)
       ∙ seen_at (found_in id) s (moved n) left.found_ m)
       (ap (option_map series_of) (offline_empty id n t (well_does texts f step (Offline n) s g why).1 off))
@@ -120,7 +120,7 @@ module _ (texts : List (List ℕ)) (f : ℕ → ℕ) (step id : ℕ) (e : Everyw
   -- it stands as it was, where cyclics or calls were left on the CPU
   pub spread_remained : (n : ℕ) → refusal_of plain (Offline n) s ≡ None → (cpu_of n (after (Offline n))).online ≡ true
       → Spread id e moments (after (Offline n))
-  spread_remained n why = by (single_ids n (moved n))
+  spread_remained n why = by (single_ids_of n (moved n))
     where
       long_moved : length (moved n).cpus ≡ length s.cpus
       long_moved = (juggling f n s g why).7.tells.as_many
@@ -133,8 +133,8 @@ module _ (texts : List (List ℕ)) (f : ℕ → ℕ) (step id : ℕ) (e : Everyw
       last true on_ = moved_spread
       last false on_ =
           let r = moved n in
-          let u = (each (retire n) (ids_on n r) r).state in
-          let within : n < length u.cpus = subst (λ k. n < k) (sym (long_retires n (ids_on n r) r ∙ long_moved))
+          let u = (each (retire n) (ids_of_cpu n r) r).state in
+          let within : n < length u.cpus = subst (λ k. n < k) (sym (long_retires n (ids_of_cpu n r) r ∙ long_moved))
           (juggling f n s g why).5 in
           let off = ap (λ (c : Cpu). c.online) (on_there n (λ c. nothing_here (go_offline c)) u within) in
           absurd (let wrong : true ≡ false = sym on_ ∙ off in cc)
@@ -142,36 +142,36 @@ module _ (texts : List (List ℕ)) (f : ℕ → ℕ) (step id : ℕ) (e : Everyw
       by : (ids : List ℕ) → (cpu_of n (leaving plain step n ids (juggled plain f n s)).state).online ≡ true
           → Spread id e moments (leaving plain step n ids (juggled plain f n s)).state
       by (j ∷ ids) on_ = moved_spread
-      by [] on_ = last (any_pending plain n (ids_on n (moved n)) (moved n)) on_
+      by [] on_ = last (any_pending plain n (ids_of_cpu n (moved n)) (moved n)) on_
 
   -- its component there has begun anew
   pub spread_online : (n : ℕ) → refusal_of plain (Online n) s ≡ None
-      → Spread id e (slice_set moments n (Some (component_first n e s.clock))) (after (Online n))
+      → Spread id e (slice_set moments n (Some (component_begins_at n e s.clock))) (after (Online n))
   spread_online n why =
       let t = after (Online n) in
-      let room = no_room_for_all plain n (length (staying s)) (cpu_of n s) in
-      let one = none_first (no_cpu n s) (online_cpu n s ∷ bad_now s.clock ∷ room ∷ []) why in
-      let two = none_first (online_cpu n s) (bad_now s.clock ∷ room ∷ []) one.1 in
+      let room = no_room_for_all plain n (length (staying_omni s)) (cpu_of n s) in
+      let one = none_first (is_no_cpu n s) (is_online_already n s ∷ bad_now s.clock ∷ room ∷ []) why in
+      let two = none_first (is_online_already n s) (bad_now s.clock ∷ room ∷ []) one.1 in
       let within = is_cpu n s one.0 in
-      spread_one id e moments s h n (Some (component_first n e s.clock)) t within (long (Online n) why)
+      spread_one id e moments s h n (Some (component_begins_at n e s.clock)) t within (long (Online n) why)
       (same_leaving id s t (keeps_online f step n s) ∙ h.stays)
-      (placed_same s t (placed_returns f n (staying s) (widens f step n s)))
+      (placed_same s t (placed_returns f n (staying_omni s) (widens f step n s)))
       (λ m far. ap (λ (c : Cpu). found id c.cyclics) (online_elsewhere f step n s m far))
-      (online_component f step n s id e g within h.place h.stays
+      (online_component f step n s id e g within h.placement h.stays
       (offline_empty id n s g (not_when (cpu_of n s).online OnlineRefusal two.0)))
 
   -- ---- every online CPU fires
 
   abbrev fires : ℕ → State
-  fires now = (each (λ n. on n (fire_here n now)) (online_cpus s) (record s { clock = now })).state
+  fires now = (each (λ n. on_number n (fire_here n now)) (cpus_online s) (record s { clock = now })).state
 
   pub spread_fired : (now : ℕ) → now < never → length (fires now).cpus ≡ length s.cpus
       → Spread id e (map (next_then e.interval now) moments) (fires now)
-      × (expired_in id (fires now) ≡ expired_in id s + due_of now (OnEach e moments))
+      × (expired_in id (fires now) ≡ expired_in id s + due_everywhere now (OnEach e moments))
   spread_fired now before as_many = (
     record {
       stays = not_open id (fires now) (λ m is. not_leaving id s h.stays m (sym (fired.removal m) ∙ is));
-      place = place_fires id now (online_cpus s) (record s { clock = now }) ∙ h.place;
+      placement = place_fires id now (cpus_online s) (record s { clock = now }) ∙ h.placement;
       long = length-map moments (next_then e.interval now) ∙ (h.long ∙ sym as_many);
       here = λ m. next_there e.interval now (found id (cpu_of m s).cyclics) (found id (cpu_of m (fires now)).cyclics)
           (slice_index_or moments m None) (h.here m) (later m)
@@ -180,12 +180,12 @@ module _ (texts : List (List ℕ)) (f : ℕ → ℕ) (step id : ℕ) (e : Everyw
     fired.expired ∙ ap (λ k. expired_in id s + k) sum,
   )
     where
-      fired : Fired id now before (online_cpus s) (record s { clock = now }) (fires now)
-      fired = all_fired id now before 0 (online_cpus s) (record s { clock = now }) (good_clock now s g)
+      fired : Fired id now before (cpus_online s) (record s { clock = now }) (fires now)
+      fired = all_fired id now before 0 (cpus_online s) (record s { clock = now }) (good_clock now s g)
           (numbers_rise (λ (c : Cpu). c.online) 0 s.cpus) (λ m has. (numbers_pass (λ (c : Cpu). c.online) m s has).0)
 
       -- a CPU that does not fire is offline, and so it has no component
-      quiet : (m : ℕ) → (Has m (online_cpus s) → ⊥) → found id (cpu_of m s).cyclics ≡ None
+      quiet : (m : ℕ) → (Has m (cpus_online s) → ⊥) → found id (cpu_of m s).cyclics ≡ None
       quiet m idle = ⊎_elim
           (λ some. absurd (idle (pass_numbers (λ (c : Cpu). c.online) m s (has_number s m id some) (g.spread.there m id some))))
           (λ none. none) (found_or_not id (cpu_of m s))
@@ -193,7 +193,7 @@ module _ (texts : List (List ℕ)) (f : ℕ → ℕ) (step id : ℕ) (e : Everyw
       later : (m : ℕ) → Later now (found id (cpu_of m s).cyclics) (found id (cpu_of m (fires now)).cyclics)
       later m = ⊎_elim (λ has. fired.later m has)
           (λ idle. subst (λ o. Later now o (found id (cpu_of m (fires now)).cyclics)) (sym (quiet m idle))
-          (ap (λ (c : Cpu). found id c.cyclics) (fired.others m idle) ∙ quiet m idle)) (has_or_not m (online_cpus s))
+          (ap (λ (c : Cpu). found id c.cyclics) (fired.others m idle) ∙ quiet m idle)) (has_or_not m (cpus_online s))
 
       one : (m : ℕ) → cond (cpu_of m s).online (due_at id now before (record s { clock = now }) (0 + m)) 0
           ≡ due_then e.interval now (slice_index_or moments m None)
@@ -211,7 +211,7 @@ module _ (texts : List (List ℕ)) (f : ℕ → ℕ) (step id : ℕ) (e : Everyw
           by true is = ap (λ k. due_of_found now (found id (cpu_of k s).cyclics)) (none_plus m) ∙ same
           by false is = sym (ap (due_of_found now) (offline_empty id m s g is)) ∙ same
 
-      sum : sum_by (due_at id now before (record s { clock = now })) (online_cpus s) ≡ due_of now (OnEach e moments)
+      sum : sum_by (due_at id now before (record s { clock = now })) (cpus_online s) ≡ due_everywhere now (OnEach e moments)
       sum = sum_numbers (λ (c : Cpu). c.online) (due_at id now before (record s { clock = now })) (due_then e.interval now) 0
           s.cpus moments h.long one
 
@@ -238,26 +238,26 @@ module _ (texts : List (List ℕ)) (f : ℕ → ℕ) (step : ℕ) (a : OmniStep)
 
   -- the component that a CPU begins with
   abbrev begins_with : Bool → ℕ → Option ℕ
-  begins_with on_ m = cond on_ (Some (component_first m (everywhere a) s.clock)) None
+  begins_with on_ m = cond on_ (Some (component_begins_at m (everywhere a) s.clock)) None
 
   begun_here : (m : ℕ) (b : Bool) → (cpu_of m s).online ≡ b
       → series_on new (cpu_of m began) ≡ with_interval (magnitude a.interval) (begins_with b m)
   begun_here m true is =
       let within = online_within m s is in
-      enters_there f new (everywhere a) 0 m (online_cpus known) known (numbers_rise (λ (c : Cpu). c.online) 0 s.cpus)
+      enters_there f new (everywhere a) 0 m (cpus_online known) known (numbers_rise (λ (c : Cpu). c.online) 0 s.cpus)
       (pass_numbers (λ (c : Cpu). c.online) m s within is) within (gone_away None s g.base new (place_new s g.base.rise) m)
   begun_here m false is =
-      let idle : Has m (online_cpus known) → ⊥ = λ has.
+      let idle : Has m (cpus_online known) → ⊥ = λ has.
       let wrong : true ≡ false = sym (numbers_pass (λ (c : Cpu). c.online) m s has).1 ∙ is in absurd (cc) in
-      ap (series_on new) (enters_elsewhere f new (everywhere a) m (online_cpus known) known idle)
+      ap (series_on new) (enters_elsewhere f new (everywhere a) m (cpus_online known) known idle)
       ∙ ap (option_map series_of) (offline_empty new m s g is)
 
   pub spread_begun : length began.cpus ≡ length s.cpus
       → Spread new (everywhere a) (components_from 0 (everywhere a) s.clock ups) began
   spread_begun long = record {
     stays = same_leaving new s began
-        (keeps_enters removal_of removal_alike f new (everywhere a) (online_cpus known) known) ∙ new_shut s g;
-    place = place_enters new f new (everywhere a) (online_cpus known) known
+        (keeps_enters removal_of removal_alike f new (everywhere a) (cpus_online known) known) ∙ new_shut s g;
+    placement = place_enters new f new (everywhere a) (cpus_online known) known
         ∙ place_given_new a.name (OnAll (everywhere a)) s g.base.rise;
     long = components_long 0 (everywhere a) s.clock ups ∙ (as_many ∙ sym long);
     here = λ m. begun_here m (cpu_of m s).online refl ∙ ap (with_interval (magnitude a.interval))

@@ -6,11 +6,11 @@ use Rattle.std.proofs.lemmas.List.Sums.{sum_by-cons}
 use mathlib.Core.Logic.{dite}
 use native.Mathlib.Decide.{ℕ_discrete}
 use Rattle.cyc_types.specs.Series.{never, due, next}
-use Rattle.cyc_types.specs.Expirations.{Expiration, times_of, after}
+use Rattle.cyc_types.specs.Expirations.{Expiration, times_of, after_expirations}
 use Rattle.cyc_types.proofs.Laws.{moment_next}
-use Rattle.cyc_model.specs.Cpu.{Cyclic, Cpu}
-use Rattle.cyc_model.specs.Firing.{due_here, fire_here, fired}
-use Rattle.cyc_model.specs.State.{State, cpu_of, on, each}
+use Rattle.cyc_model.specs.Cpu.{CyclicState, Cpu}
+use Rattle.cyc_model.specs.Firing.{due_here, fire_here, fired_cyclic}
+use Rattle.cyc_model.specs.State.{State, cpu_of, on_number, each}
 use Rattle.cyc_model.proofs.Agreement.{fired_same}
 use Rattle.cyc_model.proofs.Rising.{found, found_map, found_id, times_found, due_of_found}
 use Rattle.cyc_model.proofs.Totals.{expired_in}
@@ -22,18 +22,19 @@ use Rattle.cyc_model.proofs.Spread.{Good}
 use Rattle.cyc_model.proofs.Calm.{well_fire}
 
 -- the cyclic of the id is at its next expiration, where there is one
-abbrev pub Later : ℕ → Option Cyclic → Option Cyclic → Type 0
+abbrev pub Later : ℕ → Option CyclicState → Option CyclicState → Type 0
 Later now None p = p ≡ None
-Later now (Some x) p = (y : Cyclic) × (p ≡ Some y) × (y.timer.moment ≡ next x.timer.moment x.timer.interval now)
+Later now (Some x) p = (y : CyclicState) × (p ≡ Some y) × (y.timer.moment ≡ next x.timer.moment x.timer.interval now)
     × (y.timer.interval ≡ x.timer.interval)
 
-same_interval : (now : ℕ) (made : List Expiration) (x : Cyclic) → (after now made x.timer).interval ≡ x.timer.interval
-unfolding after
+same_interval : (now : ℕ) (made : List Expiration) (x : CyclicState)
+    → (after_expirations now made x.timer).interval ≡ x.timer.interval
+unfolding after_expirations
 same_interval now made x = refl
 
 module _ (id now : ℕ) (before : now < never) where
   fired_later : (n : ℕ) (s : State) → Good s → n < length s.cpus
-      → Later now (found id (cpu_of n s).cyclics) (found id (cpu_of n (on n (fire_here n now) s).state).cyclics)
+      → Later now (found id (cpu_of n s).cyclics) (found id (cpu_of n (on_number n (fire_here n now) s).state).cyclics)
   fired_later n s g within =
       let c = cpu_of n s in
       let w = g.base.whole n in
@@ -42,18 +43,18 @@ module _ (id now : ℕ) (before : now < never) where
       let done = done_fire n now c w before in
       let is = ap (λ (d : Cpu). found id d.cyclics) (cpu_there n (fire_here n now) (λ j. times_of j made) s within done)
       ∙ (ap (found id) (fired_cyclics n now c w before)
-      ∙ found_map (fired now made acts) (λ x. (fired_same now made acts x).0) id c.cyclics) in
+      ∙ found_map (fired_cyclic now made acts) (λ x. (fired_same now made acts x).0) id c.cyclics) in
       subst (λ p. Later now (found id c.cyclics) p) (sym is) (by (found id c.cyclics) refl)
     where
-      by : (o : Option Cyclic) → found id (cpu_of n s).cyclics ≡ o
-          → Later now o (option_map (fired now (due_here now (cpu_of n s)) (fire_here n now (cpu_of n s)).acts) o)
+      by : (o : Option CyclicState) → found id (cpu_of n s).cyclics ≡ o
+          → Later now o (option_map (fired_cyclic now (due_here now (cpu_of n s)) (fire_here n now (cpu_of n s)).acts) o)
       by None e = refl
       by (Some x) e =
           let made = due_here now (cpu_of n s) in
           let times : times_of x.timer.id made ≡ due x.timer.moment x.timer.interval now =
           ap (λ k. times_of k made) (found_id id x (cpu_of n s).cyclics e)
           ∙ (times_found now 0 id (cpu_of n s).cyclics (g.base.whole n).rising ∙ ap (due_of_found now) e) in (
-            fired now made (fire_here n now (cpu_of n s)).acts x,
+            fired_cyclic now made (fire_here n now (cpu_of n s)).acts x,
             refl,
             moment_next now made x.timer times,
             same_interval now
@@ -61,7 +62,7 @@ module _ (id now : ℕ) (before : now < never) where
           )
 
   fired_expired : (n : ℕ) (s : State) → Good s → n < length s.cpus
-      → expired_in id (on n (fire_here n now) s).state ≡ expired_in id s + due_of_found now (found id (cpu_of n s).cyclics)
+      → expired_in id (on_number n (fire_here n now) s).state ≡ expired_in id s + due_of_found now (found id (cpu_of n s).cyclics)
   fired_expired n s g within =
       let w = g.base.whole n in let done = done_fire n now (cpu_of n s) w before in
       let e = expired_on n (fire_here n now) (λ j. times_of j (due_here now (cpu_of n s))) s within done None None g.base
@@ -86,7 +87,7 @@ module _ (id now : ℕ) (before : now < never) where
       let r = sum_alike f h ns (λ m has. e m (inr has)) in omega (arith, a, b, c, r)
 
   pub all_fired : (low : ℕ) (ns : List ℕ) (s : State) → Good s → RiseFrom low ns → ((m : ℕ) → Has m ns → m < length s.cpus)
-      → Fired ns s (each (λ n. on n (fire_here n now)) ns s).state
+      → Fired ns s (each (λ n. on_number n (fire_here n now)) ns s).state
   all_fired low [] s g rise within = record {
     expired = plus_none (expired_in id s);
     later = λ m has. absurd has;
@@ -101,8 +102,8 @@ module _ (id now : ℕ) (before : now < never) where
       let c = cpu_of n s in
       let here = within n (inl refl) in
       let one = well_fire n now s g here before in
-      let t = (on n (fire_here n now) s).state in
-      let u = (each (λ m. on m (fire_here m now)) ns t).state in
+      let t = (on_number n (fire_here n now) s).state in
+      let u = (each (λ m. on_number m (fire_here m now)) ns t).state in
       let w = g.base.whole n in
       let done = done_fire n now c w before in
       let rest = all_fired (n + 1) ns t one.1 rise.1

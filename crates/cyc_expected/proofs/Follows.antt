@@ -13,14 +13,14 @@ use Rattle.cyc_script.specs.declared.step.Reprogram.{Reprogram as ReprogramStep}
 use Rattle.cyc_model.specs.Cpu.{Cpu, has_cyclic}
 use Rattle.cyc_model.specs.Moving.{reprogram_here}
 use Rattle.cyc_model.specs.Questions.{plain}
-use Rattle.cyc_model.specs.State.{State, OnAll, cpu_of, on, online_cpus, cpus_with}
-use Rattle.cyc_model.specs.Places.{id_of, placement_of, is_unknown, is_omnipresent, is_everywhere, given}
+use Rattle.cyc_model.specs.State.{State, OnAll, cpu_of, on_number, cpus_online, cpus_having}
+use Rattle.cyc_model.specs.Places.{id_of, placement_of, is_no_cyclic, is_omni, is_placed_everywhere, given}
 use Rattle.cyc_types.specs.Reasons.{when, first_refusal}
-use Rattle.cyc_model.specs.Refusals.{magnitude, no_cpu, offline_cpu, after_refusal}
-use Rattle.cyc_model.specs.Bind.{no_cyclic, omnipresent}
+use Rattle.cyc_model.specs.Refusals.{magnitude, is_no_cpu, cpu_is_offline, after_refusal}
+use Rattle.cyc_model.specs.Bind.{cyclic_is_absent, cyclic_is_omni}
 use Rattle.cyc_model.specs.Omni.{everywhere}
-use Rattle.cyc_model.specs.Remove.{busy_on_each}
-use Rattle.cyc_model.specs.Reprogram.{cpu_refusals, no_component, cpu_meant}
+use Rattle.cyc_model.specs.Remove.{busy_on_any}
+use Rattle.cyc_model.specs.Reprogram.{cpu_refusals, has_no_component, cpu_meant}
 use Rattle.cyc_model.specs.Script.{refusal_of, does, text_in}
 use Rattle.cyc_model.proofs.Rising.{found, any_found}
 use Rattle.cyc_model.proofs.Placing.{place_known}
@@ -32,7 +32,14 @@ use Rattle.cyc_model.proofs.Calm.{good_clock}
 use Rattle.cyc_model.proofs.Still.{still_bind, still_fires, still_enters, still_juggle, still_offline, still_online}
 use Rattle.cyc_model.proofs.Still.{still_remove, still_softint}
 use Rattle.cyc_expected.specs.Course.{Course, Idle, Single, OnEach, Told, Begins, BeginsOnAll, Passes, Ends}
-use Rattle.cyc_expected.specs.Course.{told_after, with_component, next_of, due_of, component_first, components_from}
+use Rattle.cyc_expected.specs.Course.{
+  told_after,
+  with_component,
+  course_after,
+  due_everywhere,
+  component_begins_at,
+  components_from,
+}
 use Rattle.cyc_expected.specs.Expected.{event_of, clock_after, reprogrammed}
 use Rattle.cyc_expected.specs.Way.{is_done}
 use Rattle.cyc_expected.proofs.Counts.{calm_expired, IsNoAdvance}
@@ -110,23 +117,23 @@ module _ (texts : List (List ℕ)) (f : ℕ → ℕ) (step name : ℕ) (s : Stat
       count = calm_expired texts f step s h.good (id_of name s) (Reprogram r) tt why ∙ c.expired_is
 
       all : first_refusal (cpu_refusals r.cpu (id_of r.name s) s) ≡ None
-      all = (none_first (no_cyclic (id_of r.name s) s) (cpu_refusals r.cpu (id_of r.name s) s)
-          (none_first (when (int_lt r.moment (pos 0)) BadWhen) (no_cyclic (id_of r.name s) s
+      all = (none_first (cyclic_is_absent (id_of r.name s) s) (cpu_refusals r.cpu (id_of r.name s) s)
+          (none_first (when (int_lt r.moment (pos 0)) BadWhen) (cyclic_is_absent (id_of r.name s) s
           ∷ cpu_refusals r.cpu (id_of r.name s) s) why).1).1
 
       stopped : Stopped (id_of name s) s → Stopped (id_of name s) (after (Reprogram r))
       stopped k = stopped_does texts f step (id_of name s) (Reprogram r) s h.good why k
 
       on_all : (n : ℕ) → first_refusal (cpu_refusals (Some n) (id_of r.name s) s) ≡ None
-          → (is_omnipresent (id_of r.name s) s ≡ true) × (has_cyclic (id_of r.name s) (cpu_of n s) ≡ true)
+          → (is_omni (id_of r.name s) s ≡ true) × (has_cyclic (id_of r.name s) (cpu_of n s) ≡ true)
       on_all n a =
           let i = id_of r.name s in
-          let b = none_first (no_cpu n s) (offline_cpu n s ∷ no_component i n s ∷ []) a in
-          let d = none_first (offline_cpu n s) (no_component i n s ∷ []) b.1 in
-          let k = not_not (is_omnipresent i s && has_cyclic i (cpu_of n s))
-          (not_when (not (is_omnipresent i s && has_cyclic i (cpu_of n s))) NoCyclic (none_first (no_component i n s) []
+          let b = none_first (is_no_cpu n s) (cpu_is_offline n s ∷ has_no_component i n s ∷ []) a in
+          let d = none_first (cpu_is_offline n s) (has_no_component i n s ∷ []) b.1 in
+          let k = not_not (is_omni i s && has_cyclic i (cpu_of n s))
+          (not_when (not (is_omni i s && has_cyclic i (cpu_of n s))) NoCyclic (none_first (has_no_component i n s) []
           d.1).0) in
-          both_true (is_omnipresent i s) (has_cyclic i (cpu_of n s)) k
+          both_true (is_omni i s) (has_cyclic i (cpu_of n s)) k
 
       by : (cpu : Option ℕ) → r.cpu ≡ cpu → (course : Course) → Follows name s course u.expired
           → Follows name (after (Reprogram r))
@@ -146,21 +153,22 @@ module _ (texts : List (List ℕ)) (f : ℕ → ℕ) (step name : ℕ) (s : Stat
       by (Some n) is Idle k = to (after (Reprogram r)) Idle u.expired refl (stopped k.course_is) count
       by None is (Single m v) k = to (after (Reprogram r)) (Single (magnitude r.moment) v) u.expired refl
           (subst (λ t. Running (id_of name s) (magnitude r.moment) v t)
-          (λ i. (on (cpu_meant (sym is i) (sym e i) s) (reprogram_here (sym e i) (magnitude r.moment)) s).state)
+          (λ i. (on_number (cpu_meant (sym is i) (sym e i) s) (reprogram_here (sym e i) (magnitude r.moment)) s).state)
           (runs_moment (id_of name s) m v (magnitude r.moment) s h.good k.course_is)) count
       by (Some n) is (Single m v) k = absurd (
           let a = on_all n (subst (λ cpu. first_refusal (cpu_refusals cpu (id_of r.name s) s) ≡ None) is all) in
-          let no : false ≡ true = sym k.course_is.single ∙ (ap (λ i. is_omnipresent i s) (sym e) ∙ a.0) in cc)
+          let no : false ≡ true = sym k.course_is.single ∙ (ap (λ i. is_omni i s) (sym e) ∙ a.0) in cc)
       by None is (OnEach v ms) k = absurd (
           let a = subst (λ cpu. first_refusal (cpu_refusals cpu (id_of r.name s) s) ≡ None) is all in
-          let single = not_omnipresent (id_of r.name s) s (none_first (omnipresent (id_of r.name s) s) [] a).0 in
-          let wrong : true ≡ false = sym (ap is_everywhere k.course_is.place) ∙ (ap (λ i. is_omnipresent i s) (sym e) ∙ single) in
+          let single = not_omnipresent (id_of r.name s) s (none_first (cyclic_is_omni (id_of r.name s) s) [] a).0 in
+          let wrong : true ≡ false = sym (ap is_placed_everywhere k.course_is.placement) ∙ (ap (λ i. is_omni i s) (sym e)
+          ∙ single) in
           cc)
       by (Some n) is (OnEach v ms) k =
           let a = on_all n (subst (λ cpu. first_refusal (cpu_refusals cpu (id_of r.name s) s) ≡ None) is all) in
           to (after (Reprogram r)) (OnEach v (slice_set ms n (Some (magnitude r.moment)))) u.expired refl
           (subst (λ t. Spread (id_of name s) v (slice_set ms n (Some (magnitude r.moment))) t)
-          (λ i. (on (cpu_meant (sym is i) (sym e i) s) (reprogram_here (sym e i) (magnitude r.moment)) s).state)
+          (λ i. (on_number (cpu_meant (sym is i) (sym e i) s) (reprogram_here (sym e i) (magnitude r.moment)) s).state)
           (spread_set (id_of name s) v ms n (magnitude r.moment) s k.course_is
           (subst (λ i. IsSome (found i (cpu_of n s).cyclics)) e (sym (any_found (id_of r.name s) (cpu_of n s).cyclics) ∙ a.1))))
           count
@@ -174,22 +182,22 @@ module _ (texts : List (List ℕ)) (f : ℕ → ℕ) (step name : ℕ) (s : Stat
 
   all_fire : (now : ℕ) → refusal_of plain (Advance now) s ≡ None → (course : Course) (expired : ℕ)
       → Follows name s course expired
-      → Follows name (after (Advance now)) (next_of now course) (expired + due_of now course)
+      → Follows name (after (Advance now)) (course_after now course) (expired + due_everywhere now course)
   all_fire now why course expired c = by course c
     where
       r : State
       r = record s { clock = now }
 
       same : id_of name (after (Advance now)) ≡ id_of name s
-      same = still_id (after (Advance now)) (still_fires now (online_cpus s) (record s { clock = now })).names
+      same = still_id (after (Advance now)) (still_fires now (cpus_online s) (record s { clock = now })).names
 
       by : (course : Course) → Follows name s course expired
-          → Follows name (after (Advance now)) (next_of now course) (expired + due_of now course)
+          → Follows name (after (Advance now)) (course_after now course) (expired + due_everywhere now course)
       by Idle k =
           let before = fires_before now s why in
-          let e = (all_fired (id_of name s) now before 0 (online_cpus s) (record s { clock = now }) (good_clock now s h.good)
+          let e = (all_fired (id_of name s) now before 0 (cpus_online s) (record s { clock = now }) (good_clock now s h.good)
           (numbers_rise (λ (c : Cpu). c.online) 0 s.cpus) (λ m has. (numbers_pass (λ (c : Cpu). c.online) m s has).0)).expired in
-          let z = sum_none (due_at (id_of name s) now before (record s { clock = now })) (online_cpus s)
+          let z = sum_none (due_at (id_of name s) now before (record s { clock = now })) (cpus_online s)
           (λ m has. none_due (id_of name s) now s h.good before k.course_is m) in
           let was = k.expired_is in
           let start : expired_in (id_of name s) (record s { clock = now }) ≡ expired_in (id_of name s) s = refl in
@@ -198,13 +206,13 @@ module _ (texts : List (List ℕ)) (f : ℕ → ℕ) (step name : ℕ) (s : Stat
           (omega (arith, e, z, was, start))
       by (Single m v) k =
           let q = runs_fired (id_of name s) m v now s h.good (fires_before now s why) k.course_is in
-          to (after (Advance now)) (next_of now (Single m v)) (expired + due_of now (Single m v)) same q.0
-          (q.1 ∙ ap (λ n. n + due_of now (Single m v)) k.expired_is)
+          to (after (Advance now)) (course_after now (Single m v)) (expired + due_everywhere now (Single m v)) same q.0
+          (q.1 ∙ ap (λ n. n + due_everywhere now (Single m v)) k.expired_is)
       by (OnEach v ms) k =
           let q = spread_fired texts f step (id_of name s) v ms s h.good k.course_is now (fires_before now s why)
           (well_does texts f step (Advance now) s h.good why).0.tells.as_many in
-          to (after (Advance now)) (next_of now (OnEach v ms)) (expired + due_of now (OnEach v ms)) same q.0
-          (q.1 ∙ ap (λ n. n + due_of now (OnEach v ms)) k.expired_is)
+          to (after (Advance now)) (course_after now (OnEach v ms)) (expired + due_everywhere now (OnEach v ms)) same q.0
+          (q.1 ∙ ap (λ n. n + due_everywhere now (OnEach v ms)) k.expired_is)
 
   -- ---- a CPU goes offline, and one comes back
 
@@ -221,7 +229,7 @@ module _ (texts : List (List ℕ)) (f : ℕ → ℕ) (step name : ℕ) (s : Stat
   course_left n why on_ (OnEach e ms) c = spread_remained texts f step id e ms s h.good c n why on_
 
   course_on : (n : ℕ) → refusal_of plain (Online n) s ≡ None → (course : Course) → IsCourse id course s
-      → IsCourse id (with_component n (λ e. Some (component_first n e s.clock)) course) (after (Online n))
+      → IsCourse id (with_component n (λ e. Some (component_begins_at n e s.clock)) course) (after (Online n))
   course_on n why Idle c = stopped_does texts f step id (Online n) s h.good why c
   course_on n why (Single m e) c = runs_does texts f step id m e (Online n) s h.good why tt c
   course_on n why (OnEach e ms) c = spread_online texts f step id e ms s h.good c n why
@@ -257,7 +265,7 @@ module _ (texts : List (List ℕ)) (f : ℕ → ℕ) (step name : ℕ) (s : Stat
     where
       names : (after (Omni a)).names ≡ slice_set s.names a.name (s.last_id + 1)
       names = let r = given a.name (OnAll (everywhere a)) s in
-          (still_enters f (s.last_id + 1) (everywhere a) (online_cpus r) r).names
+          (still_enters f (s.last_id + 1) (everywhere a) (cpus_online r) r).names
 
       by : (b : Bool) → (a.name == name) ≡ b → Follows name (after (Omni a))
           (told_after (cond b (BeginsOnAll (everywhere a) s.clock) Passes) u).course
@@ -285,8 +293,9 @@ module _ (texts : List (List ℕ)) (f : ℕ → ℕ) (step name : ℕ) (s : Stat
   follows_does (Reprogram r) why done in_ u ups c = by (r.name == name) refl
     where
       known : IsSome (placement_of (id_of r.name s) s)
-      known = (is_cyclic (id_of r.name s) s (none_first (no_cyclic (id_of r.name s) s) (cpu_refusals r.cpu (id_of r.name s) s)
-          (none_first (when (int_lt r.moment (pos 0)) BadWhen) (no_cyclic (id_of r.name s) s
+      known = (is_cyclic (id_of r.name s) s (none_first (cyclic_is_absent (id_of r.name s) s) (cpu_refusals r.cpu (id_of r.name
+          s) s)
+          (none_first (when (int_lt r.moment (pos 0)) BadWhen) (cyclic_is_absent (id_of r.name s) s
           ∷ cpu_refusals r.cpu (id_of r.name s) s) why).1).0).0
 
       by : (b : Bool) → (r.name == name) ≡ b → Follows name (after (Reprogram r))
@@ -299,8 +308,8 @@ module _ (texts : List (List ℕ)) (f : ℕ → ℕ) (step name : ℕ) (s : Stat
   follows_does (Remove j) why done in_ u ups c = by (j == name) refl
     where
       known : IsSome (placement_of (id_of j s) s)
-      known = not_not (is_some (placement_of (id_of j s) s)) (not_when (is_unknown (id_of j s) s) NoCyclic
-          (none_first (when (is_unknown (id_of j s) s) NoCyclic) (busy_on_each plain (cpus_with (id_of j s) s) s) why).0)
+      known = not_not (is_some (placement_of (id_of j s) s)) (not_when (is_no_cyclic (id_of j s) s) NoCyclic
+          (none_first (when (is_no_cyclic (id_of j s) s) NoCyclic) (busy_on_any plain (cpus_having (id_of j s) s) s) why).0)
 
       by : (b : Bool) → (j == name) ≡ b → Follows name (after (Remove j))
           (told_after (cond b Ends Passes) u).course (told_after (cond b Ends Passes) u).expired
@@ -320,7 +329,7 @@ module _ (texts : List (List ℕ)) (f : ℕ → ℕ) (step name : ℕ) (s : Stat
   follows_does Suspend why done in_ u ups c = passes Suspend why tt tt tt refl u.course u.expired c
   follows_does Resume why done in_ u ups c = passes Resume why tt tt tt refl u.course u.expired c
   follows_does (Online n) why done in_ u ups c =
-      to (after (Online n)) (with_component n (λ e. Some (component_first n e s.clock)) u.course) u.expired
+      to (after (Online n)) (with_component n (λ e. Some (component_begins_at n e s.clock)) u.course) u.expired
       (still_id (after (Online n)) (still_online f step n s).names) (course_on n why u.course c.course_is)
       (calm_expired texts f step s h.good id (Online n) tt why ∙ c.expired_is)
 
@@ -351,12 +360,12 @@ module _ (texts : List (List ℕ)) (f : ℕ → ℕ) (step name : ℕ) (s : Stat
   pub clock_does : (x : Step) → (after x).clock ≡ clock_after x s.clock
   clock_does (Add a) = refl
   clock_does (Omni a) =
-      let r = given a.name (OnAll (everywhere a)) s in (still_enters f (s.last_id + 1) (everywhere a) (online_cpus r) r).clock
+      let r = given a.name (OnAll (everywhere a)) s in (still_enters f (s.last_id + 1) (everywhere a) (cpus_online r) r).clock
   clock_does (Bind b) = (still_bind f step b s).clock
   clock_does (Unbind j) = refl
   clock_does (Reprogram r) = refl
   clock_does (Remove j) = (still_remove step (text_in texts j) j s).clock
-  clock_does (Advance now) = (still_fires now (online_cpus s) (record s { clock = now })).clock
+  clock_does (Advance now) = (still_fires now (cpus_online s) (record s { clock = now })).clock
   clock_does (Softint i) = (still_softint texts step i s).clock
   clock_does (Juggle n) = (still_juggle f step n s).clock
   clock_does (Offline n) = (still_offline f step n s).clock
@@ -379,4 +388,4 @@ follows_refused x name s course expired c = record { course_is = by course c.cou
       moment_is = k.moment_is;
       interval_is = k.interval_is;
     }
-    by (OnEach e moments) k = record { stays = k.stays; place = k.place; long = k.long; here = k.here }
+    by (OnEach e moments) k = record { stays = k.stays; placement = k.placement; long = k.long; here = k.here }

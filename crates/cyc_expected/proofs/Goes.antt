@@ -9,13 +9,26 @@ use Rattle.cyc_script.specs.declared.step.Step.{Step}
 use Rattle.cyc_script.specs.declared.step.Step.TheVariants.{Add, Omni, Bind, Unbind, Reprogram, Remove, Advance, Softint, Juggle}
 use Rattle.cyc_script.specs.declared.step.Step.TheVariants.{Offline, Online, Suspend, Resume}
 use Rattle.cyc_script.specs.declared.step.Add.{Add as AddStep}
-use Rattle.cyc_model.specs.Cpu.{Cyclic, Cpu}
+use Rattle.cyc_model.specs.Cpu.{CyclicState, Cpu}
 use Rattle.cyc_model.specs.Firing.{fire_here}
 use Rattle.cyc_model.specs.Moving.{enter_here, moment_at, reprogram_here}
 use Rattle.cyc_model.specs.Serving.{serve_here}
 use Rattle.cyc_model.specs.Questions.{plain}
-use Rattle.cyc_model.specs.State.{State, Outcome, On, OnAll, Placement, absent, cpu_of, on, each, numbers, online_cpus, cpus_with}
-use Rattle.cyc_model.specs.Places.{id_of, placement_of, is_leaving, is_everywhere, home_of, home_at, destination}
+use Rattle.cyc_model.specs.State.{
+  State,
+  Outcome,
+  On,
+  OnAll,
+  Placement,
+  absent,
+  cpu_of,
+  on_number,
+  each,
+  numbers,
+  cpus_online,
+  cpus_having,
+}
+use Rattle.cyc_model.specs.Places.{id_of, placement_of, is_being_removed, is_placed_everywhere, home_of, home_at, destination_of}
 use Rattle.cyc_model.specs.Places.{given, forgotten}
 use Rattle.cyc_model.specs.Refusals.{magnitude}
 use Rattle.cyc_model.specs.Add.{added}
@@ -72,12 +85,12 @@ IsHere x = ⊤
 module _ (texts : List (List ℕ)) (f : ℕ → ℕ) (step id : ℕ) where
   left_forgotten : (j : ℕ) (s t : State) → id ≢ j → Left id s t → Left id s (forgotten j t)
   left_forgotten j s t ne h = left_then id s t (forgotten j t) h
-      (record { found_ = refl; shut = λ no. no; place = place_forgotten_other j id t ne })
+      (record { found_ = refl; shut = λ no. no; placement = place_forgotten_other j id t ne })
 
   left_polled : (j : ℕ) (s : State) → id ≢ j → Left id s (poll_id plain texts step j s).state
   left_polled j s ne =
       let o = each (poll plain j) (numbers (is_open j) s) s in
-      by o (left_each id (poll plain j) (λ n u. left_poll id j n u ne) (numbers (is_open j) s) s) (cpus_with j o.state)
+      by o (left_each id (poll plain j) (λ n u. left_poll id j n u ne) (numbers (is_open j) s) s) (cpus_having j o.state)
     where
       by : (o : Outcome) → Left id s o.state → (ns : List ℕ)
           → Left id s (polled step (text_of_id j texts s.names) j ns o).state
@@ -93,24 +106,24 @@ module _ (texts : List (List ℕ)) (f : ℕ → ℕ) (step id : ℕ) where
       (left_polls ids t (λ i has. ne i (inr has)))
 
   -- what a step leaves of a cyclic to which it is nothing
-  pub left_does : (x : Step) (s : State) → IsOther id s x → IsFixed x → id ≤ s.last_id → is_leaving id s ≡ false
+  pub left_does : (x : Step) (s : State) → IsOther id s x → IsFixed x → id ≤ s.last_id → is_being_removed id s ≡ false
       → Left id s (does plain texts f step x s).state
   left_does (Add a) s is fixed low shut =
-      let n = destination None s in let u = given a.name (On n false) s in
+      let n = destination_of None s in let u = given a.name (On n false) s in
       let t = (does plain texts f step (Add a) s).state in
       let new : id ≢ s.last_id + 1 = λ e. absurd (omega (arith, low, e)) in record {
         found_ = found_enter id f n (added a s) u (λ e. new (sym e));
         shut = λ no. same_leaving id s t (keeps_enter removal_of removal_alike f n (added a s) u) ∙ no;
-        place = place_given_other a.name (On n false) s id new;
+        placement = place_given_other a.name (On n false) s id new;
       }
   left_does (Omni a) s is fixed low shut =
       let u = given a.name (OnAll (everywhere a)) s in
       let t = (does plain texts f step (Omni a) s).state in
       let new : id ≢ s.last_id + 1 = λ e. absurd (omega (arith, low, e)) in record {
-        found_ = found_enters id f (s.last_id + 1) (everywhere a) (online_cpus u) u (λ e. new (sym e));
+        found_ = found_enters id f (s.last_id + 1) (everywhere a) (cpus_online u) u (λ e. new (sym e));
         shut = λ no. same_leaving id s t
-            (keeps_enters removal_of removal_alike f (s.last_id + 1) (everywhere a) (online_cpus u) u) ∙ no;
-        place = place_enters id f (s.last_id + 1) (everywhere a) (online_cpus u) u
+            (keeps_enters removal_of removal_alike f (s.last_id + 1) (everywhere a) (cpus_online u) u) ∙ no;
+        placement = place_enters id f (s.last_id + 1) (everywhere a) (cpus_online u) u
             ∙ place_given_other a.name (OnAll (everywhere a)) s id new;
       }
   left_does (Bind b) s is fixed low shut = absurd fixed
@@ -121,12 +134,12 @@ module _ (texts : List (List ℕ)) (f : ℕ → ℕ) (step id : ℕ) where
       let t = (does plain texts f step (Reprogram q) s).state in record {
         found_ = on_same (found_in id) n h s (found_moment id (id_of q.name s) (magnitude q.moment) (cpu_of n s).cyclics is);
         shut = λ no. same_leaving id s t (on_same removal_of n h s refl) ∙ no;
-        place = refl;
+        placement = refl;
       }
   left_does (Remove name) s is fixed low shut =
       let j = id_of name s in
-      let o = each (begin plain j) (cpus_with j s) s in
-      by o (left_each id (begin plain j) (λ n u. left_begin id j n u is) (cpus_with j s) s) (cpus_with j o.state)
+      let o = each (begin plain j) (cpus_having j s) s in
+      by o (left_each id (begin plain j) (λ n u. left_begin id j n u is) (cpus_having j s) s) (cpus_having j o.state)
     where
       by : (o : Outcome) → Left id s o.state → (ns : List ℕ)
           → Left id s (begun plain step (text_in texts name) (id_of name s) ns o).state
@@ -141,16 +154,16 @@ module _ (texts : List (List ℕ)) (f : ℕ → ℕ) (step id : ℕ) where
       left_then id s o.state (does plain texts f step (Softint i) s).state (record {
         found_ = on_same (found_in id) i.cpu (serve_here i.cpu i.level i.budget) s (ap (found id) same.cyclics);
         shut = λ no. shut2;
-        place = refl;
+        placement = refl;
       })
       (left_polls (leaving_ids o.state) o.state
-      (λ j has e. let l = (filtered (λ i. is_leaving i o.state) j (map (λ p. p.id) o.state.placed) has).1 in
-      let no : false ≡ true = sym shut2 ∙ (ap (λ i. is_leaving i o.state) e ∙ l) in cc))
+      (λ j has e. let l = (filtered (λ i. is_being_removed i o.state) j (map (λ p. p.id) o.state.placed) has).1 in
+      let no : false ≡ true = sym shut2 ∙ (ap (λ i. is_being_removed i o.state) e ∙ l) in cc))
   left_does (Juggle n) s is fixed low shut = absurd fixed
   left_does (Offline n) s is fixed low shut = absurd fixed
   left_does (Online n) s is fixed low shut = absurd fixed
-  left_does Suspend s is fixed low shut = record { found_ = refl; shut = λ no. no; place = refl }
-  left_does Resume s is fixed low shut = record { found_ = refl; shut = λ no. no; place = refl }
+  left_does Suspend s is fixed low shut = record { found_ = refl; shut = λ no. no; placement = refl }
+  left_does Resume s is fixed low shut = record { found_ = refl; shut = λ no. no; placement = refl }
 
 module _ (texts : List (List ℕ)) (f : ℕ → ℕ) (step id moment interval : ℕ) where
   abbrev Runs : State → Type 0
@@ -165,7 +178,7 @@ module _ (texts : List (List ℕ)) (f : ℕ → ℕ) (step id moment interval : 
       → Runs (does plain texts f step x s).state
   runs_left x s g is fixed r =
       let h = left_does texts f step id x s is fixed (runs_known id moment interval s g r).2 r.stays in
-      runs_there id moment interval s (does plain texts f step x s).state r (h.shut r.stays) h.place h.found_
+      runs_there id moment interval s (does plain texts f step x s).state r (h.shut r.stays) h.placement h.found_
 
   pub runs_does : (x : Step) (s : State) (g : Good s) → refusal_of plain x s ≡ None → IsOther id s x → Runs s
       → Runs (does plain texts f step x s).state
@@ -191,11 +204,11 @@ module _ (texts : List (List ℕ)) (f : ℕ → ℕ) (step id moment interval : 
 -- ---- its own words
 
 pub runs_moment : (id moment interval new : ℕ) (s : State) (g : Good s) → Running id moment interval s
-    → Running id new interval (on (home_of id s) (reprogram_here id new) s).state
+    → Running id new interval (on_number (home_of id s) (reprogram_here id new) s).state
 runs_moment id moment interval new s g r =
     let n = home_of id s in let c = cpu_of n s in
     let within = has_number s n id (ap is_some r.here) in
-    let t = (on n (reprogram_here id new) s).state in
+    let t = (on_number n (reprogram_here id new) s).state in
     let x = r.it in
     record {
       stays = same_leaving id s t (on_same removal_of n (reprogram_here id new) s refl) ∙ r.stays;
@@ -211,25 +224,25 @@ runs_moment id moment interval new s g r =
     }
 
 pub place_fires : (id now : ℕ) (ns : List ℕ) (s : State)
-    → placement_of id (each (λ n. on n (fire_here n now)) ns s).state ≡ placement_of id s
+    → placement_of id (each (λ n. on_number n (fire_here n now)) ns s).state ≡ placement_of id s
 place_fires id now [] s = refl
-place_fires id now (n ∷ ns) s = place_fires id now ns (on n (fire_here n now) s).state
+place_fires id now (n ∷ ns) s = place_fires id now ns (on_number n (fire_here n now) s).state
 
-same_home : (n m : ℕ) (p : Option Placement) → IsAt n p → IsAt m p → is_everywhere p ≡ false → n ≡ m
+same_home : (n m : ℕ) (p : Option Placement) → IsAt n p → IsAt m p → is_placed_everywhere p ≡ false → n ≡ m
 same_home n m None a b e = absurd a
 same_home n m (Some (On k bound)) a b e = sym a ∙ b
 same_home n m (Some (OnAll k)) a b e = absurd (cc)
 
 pub runs_fired : (id moment interval now : ℕ) (s : State) → Good s → now < never → Running id moment interval s
     → Running id (next moment interval now) interval
-    (each (λ n. on n (fire_here n now)) (online_cpus s) (record s { clock = now })).state
-    × (expired_in id (each (λ n. on n (fire_here n now)) (online_cpus s) (record s { clock = now })).state
+    (each (λ n. on_number n (fire_here n now)) (cpus_online s) (record s { clock = now })).state
+    × (expired_in id (each (λ n. on_number n (fire_here n now)) (cpus_online s) (record s { clock = now })).state
     ≡ expired_in id s + due moment interval now)
 runs_fired id moment interval now s g before r =
     let q = record s { clock = now } in
-    let ns = online_cpus s in
+    let ns = cpus_online s in
     let n = home_of id s in
-    let t = (each (λ m. on m (fire_here m now)) ns q).state in
+    let t = (each (λ m. on_number m (fire_here m now)) ns q).state in
     let rise = numbers_rise (λ (c : Cpu). c.online) 0 s.cpus in
     let h = all_fired id now before 0 ns q (good_clock now s g) rise
     (λ m has. (numbers_pass (λ (c : Cpu). c.online) m s has).0) in
@@ -245,7 +258,7 @@ runs_fired id moment interval now s g before r =
     let e = h.expired in (
       record {
         stays = not_open id t (λ m is. not_leaving id s r.stays m (sym (h.removal m) ∙ is));
-        single = ap is_everywhere place ∙ r.single;
+        single = ap is_placed_everywhere place ∙ r.single;
         it = later.0;
         here = ap (λ o. found id (cpu_of (home_at o) t).cyclics) place ∙ later.1;
         moment_is = later.2 ∙ (λ i. next (r.moment_is i) (r.interval_is i) now);
@@ -254,14 +267,14 @@ runs_fired id moment interval now s g before r =
       e ∙ ap (λ k. expired_in id s + k) (sum ∙ mine),
     )
   where
-    none_due : (m : ℕ) → m ≢ home_of id s → (o : Option Cyclic) → found id (cpu_of m s).cyclics ≡ o
+    none_due : (m : ℕ) → m ≢ home_of id s → (o : Option CyclicState) → found id (cpu_of m s).cyclics ≡ o
         → IsAt (home_of id s) (placement_of id s) → due_of_found now o ≡ 0
     none_due m ne None is at = refl
     none_due m ne (Some x) is at =
         absurd (ne (same_home m (home_of id s) (placement_of id s) (g.base.homes m id (ap is_some is)) at r.single))
 
 -- an id that is new is nowhere, and no removal of it is open
-pub new_shut : (s : State) → Good s → is_leaving (s.last_id + 1) s ≡ false
+pub new_shut : (s : State) → Good s → is_being_removed (s.last_id + 1) s ≡ false
 new_shut s g = not_open (s.last_id + 1) s (λ m is. none_and_some ⊥ (found (s.last_id + 1) (cpu_of m s).cyclics)
     (gone_away None s g.base (s.last_id + 1) (place_new s g.base.rise) m) ((g.base.whole m).held (s.last_id + 1) is))
 
@@ -269,7 +282,7 @@ pub runs_added : (texts : List (List ℕ)) (f : ℕ → ℕ) (step : ℕ) (a : A
     → Running (s.last_id + 1) (first (magnitude a.start) (magnitude a.interval) s.clock) (magnitude a.interval)
     (does plain texts f step (Add a) s).state
 runs_added texts f step a s g =
-    let n = destination None s in
+    let n = destination_of None s in
     let id = s.last_id + 1 in
     let u = given a.name (On n false) s in
     let x = added a s in
@@ -282,7 +295,7 @@ runs_added texts f step a s g =
     let none = gone_away None s g.base id (place_new s g.base.rise) n in
     record {
       stays = same_leaving id s t (keeps_enter removal_of removal_alike f n x u) ∙ new_shut s g;
-      single = ap is_everywhere place;
+      single = ap is_placed_everywhere place;
       it = x;
       here = ap (λ o. found id (cpu_of (home_at o) t).cyclics) place
           ∙ (ap (λ (d : Cpu). found id d.cyclics) (get_or-set_same s.cpus n (enter_here n k x (cpu_of n s)).cpu absent within)

@@ -10,15 +10,15 @@ use Rattle.cyc_text.specs.Lines.{accepted}
 use Rattle.cyc_script.specs.declared.step.Step.{Step}
 use Rattle.cyc_script.specs.declared.step.Step.TheVariants.{Add, Omni, Bind, Unbind, Reprogram, Remove, Advance, Softint, Juggle}
 use Rattle.cyc_script.specs.declared.step.Step.TheVariants.{Offline, Online, Suspend, Resume}
-use Rattle.cyc_model.specs.Cpu.{Cpu, Cyclic, cyclic_of}
+use Rattle.cyc_model.specs.Cpu.{Cpu, CyclicState, cyclic_with_id}
 use Rattle.cyc_model.specs.Moving.{take_here}
 use Rattle.cyc_model.specs.Places.{keep_counts}
 use Rattle.cyc_model.specs.Questions.{plain}
 use Rattle.cyc_model.specs.State.{State, absent, cpu_of, each}
 use Rattle.cyc_types.specs.Reasons.{busy}
-use Rattle.cyc_model.specs.Refusals.{unless, no_cpu, offline_cpu, last_cpu}
-use Rattle.cyc_model.specs.Juggle.{juggled, single_ids}
-use Rattle.cyc_model.specs.Offline.{offline, offline_refusal, leaving, last_part, any_pending, ids_on, retire, go_offline}
+use Rattle.cyc_model.specs.Refusals.{unless, is_no_cpu, cpu_is_offline, is_last_online}
+use Rattle.cyc_model.specs.Juggle.{juggled, single_ids_of}
+use Rattle.cyc_model.specs.Offline.{offline, offline_refusal, leaving, last_part, any_pending, ids_of_cpu, retire, go_offline}
 use Rattle.cyc_model.specs.Script.{refusal_of, does}
 use Rattle.cyc_model.proofs.Refusing.{none_first, is_online}
 use Rattle.cyc_model.proofs.Spread.{Good}
@@ -32,16 +32,16 @@ length_set [] n c = refl
 length_set (d ∷ cs) zero c = refl
 length_set (d ∷ cs) (suc n) c = ap suc (length_set cs n c)
 
-length_kept : (n : ℕ) (o : Option Cyclic) (s : State) → length (keep_counts n o s).cpus ≡ length s.cpus
+length_kept : (n : ℕ) (o : Option CyclicState) (s : State) → length (keep_counts n o s).cpus ≡ length s.cpus
 length_kept n None s = refl
 length_kept n (Some x) s = refl
 
 same_length : (n : ℕ) (ids : List ℕ) (s : State) → length (each (retire n) ids s).state.cpus ≡ length s.cpus
 same_length n [] s = refl
 same_length n (id ∷ ids) s =
-    let r = keep_counts n (cyclic_of id (cpu_of n s)) s in
+    let r = keep_counts n (cyclic_with_id id (cpu_of n s)) s in
     same_length n ids (retire n id s).state ∙ (length_set r.cpus n (take_here n id (cpu_of n r)).cpu
-    ∙ length_kept n (cyclic_of id (cpu_of n s)) s)
+    ∙ length_kept n (cyclic_with_id id (cpu_of n s)) s)
 
 module _ (texts : List (List ℕ)) (f : ℕ → ℕ) (step : ℕ) (s : State) (g : Good s) where
   -- by whether the CPU is offline after it
@@ -52,13 +52,13 @@ module _ (texts : List (List ℕ)) (f : ℕ → ℕ) (step : ℕ) (s : State) (g
   still_on : (n : ℕ) → offline_refusal plain n s ≡ None
       → not (cpu_of n (juggled plain f n s).outcome.state).online ≡ false
   still_on n why =
-      let one = none_first (no_cpu n s) (offline_cpu n s ∷ last_cpu n s ∷ busy (cpu_of n s).removal ∷ []) why in
-      let two = none_first (offline_cpu n s) (last_cpu n s ∷ busy (cpu_of n s).removal ∷ []) one.1 in
+      let one = none_first (is_no_cpu n s) (cpu_is_offline n s ∷ is_last_online n s ∷ busy (cpu_of n s).removal ∷ []) why in
+      let two = none_first (cpu_is_offline n s) (is_last_online n s ∷ busy (cpu_of n s).removal ∷ []) one.1 in
       ap not ((juggling f n s g why).10 n ∙ is_online n s two.0)
 
   offline_tells : (n : ℕ) → offline_refusal plain n s ≡ None
       → Tells (not (cpu_of n (offline plain f step n s).state).online) (offline plain f step n s).line
-  offline_tells n why = by (single_ids n (juggled plain f n s).outcome.state)
+  offline_tells n why = by (single_ids_of n (juggled plain f n s).outcome.state)
     where
       within : (t : State) → length t.cpus ≡ length (juggled plain f n s).outcome.state.cpus → n < length t.cpus
       within t same = let j = juggling f n s g why in subst (λ k. n < k) (sym (same ∙ j.7.tells.as_many)) j.5
@@ -69,15 +69,15 @@ module _ (texts : List (List ℕ)) (f : ℕ → ℕ) (step : ℕ) (s : State) (g
           (inl (number_of Pending, refl))
       last false =
           let r = (juggled plain f n s).outcome.state in
-          let t = (each (retire n) (ids_on n r) r).state in
+          let t = (each (retire n) (ids_of_cpu n r) r).state in
           subst (λ b. Tells b (accepted step)) (sym (ap (λ (c : Cpu). not c.online)
-          (get_or-set_same t.cpus n (go_offline (cpu_of n t)) absent (within t (same_length n (ids_on n r) r))))) refl
+          (get_or-set_same t.cpus n (go_offline (cpu_of n t)) absent (within t (same_length n (ids_of_cpu n r) r))))) refl
 
       by : (ids : List ℕ) → Tells (not (cpu_of n (leaving plain step n ids (juggled plain f n s)).state).online)
           (leaving plain step n ids (juggled plain f n s)).line
       by (id ∷ ids) = subst (λ b. Tells b (leaving plain step n (id ∷ ids) (juggled plain f n s)).line) (sym (still_on n why))
           (inr ((juggled plain f n s).report, refl))
-      by [] = last (any_pending plain n (ids_on n (juggled plain f n s).outcome.state) (juggled plain f n s).outcome.state)
+      by [] = last (any_pending plain n (ids_of_cpu n (juggled plain f n s).outcome.state) (juggled plain f n s).outcome.state)
 
   tells_at : (b how : Bool) (line : List ℕ) → b ≡ how → Tells b line → Tells how line
   tells_at b how line is t = subst (λ c. Tells c line) is t

@@ -4,6 +4,7 @@ use Rattle.std.proofs.Common.{ap, sym, ◌∙◌, subst, eqb-true, arith, None}
 use Rattle.std.specs.Prelude.{⊤, slice_set, slice_index_or, ◌&&◌}
 use Rattle.std.specs.Option.{option_map}
 use Rattle.std.proofs.lemmas.List.{get_or-set_same, get_or-set_other}
+pub use Rattle.cyc_types.proofs.Facts.{both_true}
 use mathlib.Core.Logic.{dite}
 use native.Mathlib.Decide.{ℕ_discrete}
 use Rattle.cyc_script.specs.WellFormed.{names_fit, name_fits, names_after, names_after_all, moment_after}
@@ -12,7 +13,7 @@ use Rattle.cyc_script.specs.declared.step.Step.TheVariants.{Add, Omni, Bind, Unb
 use Rattle.cyc_script.specs.declared.step.Step.TheVariants.{Offline, Online, Suspend, Resume}
 use Rattle.cyc_model.specs.Cpu.{Cpu}
 use Rattle.cyc_model.specs.Questions.{plain}
-use Rattle.cyc_model.specs.State.{State, OnAll, Placed, online_cpus}
+use Rattle.cyc_model.specs.State.{State, OnAll, Placed, cpus_online}
 use Rattle.cyc_model.specs.Places.{id_of, placement_of, given}
 use Rattle.cyc_model.specs.Omni.{everywhere}
 use Rattle.cyc_model.specs.Refusals.{after_refusal}
@@ -40,10 +41,6 @@ IsWithin names _ = ⊤
 abbrev pub AllWithin : ℕ → List Step → Type 0
 AllWithin names [] = ⊤
 AllWithin names (x ∷ xs) = IsWithin names x × AllWithin names xs
-
-pub both_true : (a b : Bool) → (a && b) ≡ true → (a ≡ true) × (b ≡ true)
-both_true true b e = (refl, e)
-both_true false b e = absurd (cc)
 
 -- the names of a script are
 pub all_within : (names m : ℕ) (xs : List Step) → names_fit m xs ≡ true → names_after_all m xs ≤ names
@@ -131,7 +128,7 @@ module _ (texts : List (List ℕ)) (f : ℕ → ℕ) (step : ℕ) (s : State) (h
       (λ id. calm_expired texts f step s h.good id (Add a) tt why)
   ready_does (Omni a) in_ why =
       let r = given a.name (OnAll (everywhere a)) s in
-      let still = still_enters f (s.last_id + 1) (everywhere a) (online_cpus r) r in
+      let still = still_enters f (s.last_id + 1) (everywhere a) (cpus_online r) r in
       given_ready a.name (after (Omni a)) in_ (well_does texts f step (Omni a) s h.good why).1 still.names still.last
       (λ id. calm_expired texts f step s h.good id (Omni a) tt why)
   ready_does (Bind b) in_ why = calm_ready (Bind b) tt why (still_bind f step b s)
@@ -141,13 +138,13 @@ module _ (texts : List (List ℕ)) (f : ℕ → ℕ) (step : ℕ) (s : State) (h
   ready_does (Remove name) in_ why = calm_ready (Remove name) tt why (still_remove step (text_in texts name) name s)
   ready_does (Advance now) in_ why =
       let r = record s { clock = now } in
-      let k = still_fires now (online_cpus s) r in
+      let k = still_fires now (cpus_online s) r in
       still_ready (after (Advance now)) (well_does texts f step (Advance now) s h.good why).1 k.names k.last
-      (λ id above. let e = (all_fired id now (fires_before now s why) 0 (online_cpus s) r (good_clock now s h.good)
+      (λ id above. let e = (all_fired id now (fires_before now s why) 0 (cpus_online s) r (good_clock now s h.good)
       (numbers_rise (λ (c : Cpu). c.online) 0 s.cpus) (λ m has. (numbers_pass (λ (c : Cpu). c.online) m s has).0)).expired in
-      let none : placement_of id s ≡ None = ap (option_map (λ (p : Placed). p.place))
+      let none : placement_of id s ≡ None = ap (option_map (λ (p : Placed). p.placement))
       (entry_above 0 s.last_id id s.placed h.good.base.rise above) in
-      let z = sum_none (due_at id now (fires_before now s why) r) (online_cpus s)
+      let z = sum_none (due_at id now (fires_before now s why) r) (cpus_online s)
       (λ m has. ap (due_of_found now) (gone_away None s h.good.base id none m)) in
       let same : expired_in id r ≡ expired_in id s = refl in omega (arith, e, z, same))
   ready_does (Softint i) in_ why = calm_ready (Softint i) tt why (still_softint texts step i s)
@@ -163,13 +160,13 @@ module _ (texts : List (List ℕ)) (f : ℕ → ℕ) (step : ℕ) (s : State) (h
   names_last (Add a) = length_set s.names a.name (s.last_id + 1)
   names_last (Omni a) =
       let r = given a.name (OnAll (everywhere a)) s in
-      ap length (still_enters f (s.last_id + 1) (everywhere a) (online_cpus r) r).names
+      ap length (still_enters f (s.last_id + 1) (everywhere a) (cpus_online r) r).names
       ∙ length_set s.names a.name (s.last_id + 1)
   names_last (Bind b) = ap length (still_bind f step b s).names
   names_last (Unbind name) = refl
   names_last (Reprogram r) = refl
   names_last (Remove name) = ap length (still_remove step (text_in texts name) name s).names
-  names_last (Advance now) = ap length (still_fires now (online_cpus s) (record s { clock = now })).names
+  names_last (Advance now) = ap length (still_fires now (cpus_online s) (record s { clock = now })).names
   names_last (Softint i) = ap length (still_softint texts step i s).names
   names_last (Juggle n) = ap length (still_juggle f step n s).names
   names_last (Offline n) = ap length (still_offline f step n s).names

@@ -7,11 +7,11 @@ use Rattle.std.specs.List.{list_any}
 use Rattle.cyc_level.specs.declared.Event.TheVariants.{Mark, Clear}
 use Rattle.cyc_types.specs.Series.{never}
 use Rattle.cyc_model.specs.Acts.{at_own}
-use Rattle.cyc_model.specs.Cpu.{Cyclic, Cpu, Here, others, handler_level_of}
+use Rattle.cyc_model.specs.Cpu.{CyclicState, Cpu, Here, others, handler_level_of}
 use Rattle.cyc_model.specs.Moving.{enter_here, mark_here, clear_here, moment_at}
 use Rattle.cyc_model.specs.Questions.{plain, outstanding_here}
-use Rattle.cyc_model.specs.State.{State, Outcome, Placement, Everywhere, cpu_of, on, each}
-use Rattle.cyc_model.specs.Places.{placement_of, is_leaving, is_omnipresent, is_everywhere, home_of, home_at, keep_counts}
+use Rattle.cyc_model.specs.State.{State, Outcome, Placement, Everywhere, cpu_of, on_number, each}
+use Rattle.cyc_model.specs.Places.{placement_of, is_being_removed, is_omni, is_placed_everywhere, home_of, home_at, keep_counts}
 use Rattle.cyc_model.specs.Add.{enter}
 use Rattle.cyc_model.specs.Omni.{component}
 use Rattle.cyc_model.specs.Remove.{begin, poll, clear, clear_if}
@@ -28,18 +28,18 @@ use Rattle.cyc_expected.proofs.Counts.{cyclics_entered}
 
 -- it is on one CPU with this next expiration and this interval, and its removal is not open
 pub record Running (id moment interval : ℕ) (s : State) : Type 0 where
-  pub stays : is_leaving id s ≡ false
-  pub single : is_omnipresent id s ≡ false
-  pub it : Cyclic
+  pub stays : is_being_removed id s ≡ false
+  pub single : is_omni id s ≡ false
+  pub it : CyclicState
   pub here : at_home id s ≡ Some it
   pub moment_is : it.timer.moment ≡ moment
   pub interval_is : it.timer.interval ≡ interval
 
-abbrev pub found_in : ℕ → Cpu → Option Cyclic
+abbrev pub found_in : ℕ → Cpu → Option CyclicState
 found_in id c = found id c.cyclics
 
-pub runs_alike : (id moment interval : ℕ) (s t : State) → Running id moment interval s → is_leaving id t ≡ false
-    → is_omnipresent id t ≡ false → at_home id t ≡ at_home id s → Running id moment interval t
+pub runs_alike : (id moment interval : ℕ) (s t : State) → Running id moment interval s → is_being_removed id t ≡ false
+    → is_omni id t ≡ false → at_home id t ≡ at_home id s → Running id moment interval t
 runs_alike id moment interval s t r stays single home = record {
   stays = stays;
   single = single;
@@ -49,10 +49,10 @@ runs_alike id moment interval s t r stays single home = record {
   interval_is = r.interval_is;
 }
 
-pub runs_there : (id moment interval : ℕ) (s t : State) → Running id moment interval s → is_leaving id t ≡ false
+pub runs_there : (id moment interval : ℕ) (s t : State) → Running id moment interval s → is_being_removed id t ≡ false
     → placement_of id t ≡ placement_of id s → seen (found_in id) t ≡ seen (found_in id) s → Running id moment interval t
 runs_there id moment interval s t r stays place same = runs_alike id moment interval s t r stays
-    (ap is_everywhere place ∙ r.single)
+    (ap is_placed_everywhere place ∙ r.single)
     (ap (λ o. found id (cpu_of (home_at o) t).cyclics) place ∙ seen_at (found_in id) s t same (home_of id s))
 
 -- it is known
@@ -69,7 +69,7 @@ runs_known id moment interval s g r =
 -- ---- what leaves the cyclics of another id
 
 module _ (id : ℕ) where
-  pub found_enter : (indexes : ℕ → ℕ) (n : ℕ) (x : Cyclic) (s : State) → x.timer.id ≢ id
+  pub found_enter : (indexes : ℕ → ℕ) (n : ℕ) (x : CyclicState) (s : State) → x.timer.id ≢ id
       → seen (found_in id) (enter indexes n x s).state ≡ seen (found_in id) s
   found_enter indexes n x s ne =
       let k = indexes s.admissions in
@@ -86,14 +86,14 @@ module _ (id : ℕ) where
   place_enters indexes j e [] s = refl
   place_enters indexes j e (n ∷ ns) s = place_enters indexes j e ns (enter indexes n (component j n e s.clock) s).state
 
-  moment_other : (j moment : ℕ) (o : Option Cyclic) → ((x : Cyclic) → o ≡ Some x → x.timer.id ≢ j)
+  moment_other : (j moment : ℕ) (o : Option CyclicState) → ((x : CyclicState) → o ≡ Some x → x.timer.id ≢ j)
       → option_map (moment_at j moment) o ≡ o
   moment_other j moment None ne = refl
   moment_other j moment (Some x) ne =
       ap (λ (b : Bool). Some (cond b (record x { timer = record x.timer { moment = moment } }) x))
       (ne_eqb x.timer.id j (ne x refl))
 
-  pub found_moment : (j moment : ℕ) (cs : List Cyclic) → id ≢ j → found id (map (moment_at j moment) cs) ≡ found id cs
+  pub found_moment : (j moment : ℕ) (cs : List CyclicState) → id ≢ j → found id (map (moment_at j moment) cs) ≡ found id cs
   found_moment j moment cs ne =
       found_map (moment_at j moment) (λ x. (moment_same j moment x).0) id cs
       ∙ moment_other j moment (found id cs) (λ x is e. ne (sym (found_id id x cs is) ∙ e))
@@ -129,29 +129,29 @@ module _ (id : ℕ) where
       both : (a b : Bool) → a ≡ false → b ≡ false → (a || b) ≡ false
       both a b p q = (λ i. p i || b) ∙ q
 
-  shut_on : (n : ℕ) (f : Cpu → Here) (s : State) → opens (f (cpu_of n s)).cpu ≡ false → is_leaving id s ≡ false
-      → is_leaving id (on n f s).state ≡ false
+  shut_on : (n : ℕ) (f : Cpu → Here) (s : State) → opens (f (cpu_of n s)).cpu ≡ false → is_being_removed id s ≡ false
+      → is_being_removed id (on_number n f s).state ≡ false
   shut_on n f s e shut = shut_set s.cpus n (f (cpu_of n s)).cpu shut e
 
   -- the id's cyclics, its place, and that no removal of it is open are as they were
   pub record Left (s t : State) : Type 0 where
     pub found_ : seen (found_in id) t ≡ seen (found_in id) s
-    pub shut : is_leaving id s ≡ false → is_leaving id t ≡ false
-    pub place : placement_of id t ≡ placement_of id s
+    pub shut : is_being_removed id s ≡ false → is_being_removed id t ≡ false
+    pub placement : placement_of id t ≡ placement_of id s
 
   pub left_same : (s : State) → Left s s
-  left_same s = record { found_ = refl; shut = λ h. h; place = refl }
+  left_same s = record { found_ = refl; shut = λ h. h; placement = refl }
 
   pub left_then : (s t u : State) → Left s t → Left t u → Left s u
   left_then s t u one two = record {
     found_ = two.found_ ∙ one.found_;
     shut = λ h. two.shut (one.shut h);
-    place = two.place ∙ one.place;
+    placement = two.placement ∙ one.placement;
   }
 
-  left_counts : (n : ℕ) (o : Option Cyclic) (s : State) → Left s (keep_counts n o s)
+  left_counts : (n : ℕ) (o : Option CyclicState) (s : State) → Left s (keep_counts n o s)
   left_counts n None s = left_same s
-  left_counts n (Some x) s = record { found_ = refl; shut = λ h. h; place = refl }
+  left_counts n (Some x) s = record { found_ = refl; shut = λ h. h; placement = refl }
 
   left_clear : (j n : ℕ) (s : State) → id ≢ j → Left s (clear j n s).state
   left_clear j n s ne =
@@ -162,7 +162,7 @@ module _ (id : ℕ) where
         shut = shut_on n (clear_here n j) r
             (ap (λ o. option_map_or (λ busy. busy == id) o false) (same_happen (at_own n (handler_level_of j c) (Clear j))
             (record c { cyclics = others j c.cyclics; removal = None })).removal);
-        place = refl;
+        placement = refl;
       })
 
   pub left_poll : (j n : ℕ) (s : State) → id ≢ j → Left s (poll plain j n s).state
@@ -175,14 +175,14 @@ module _ (id : ℕ) where
   pub left_begin : (j n : ℕ) (s : State) → id ≢ j → Left s (begin plain j n s).state
   left_begin j n s ne =
       let c = cpu_of n s in
-      let t = (on n (mark_here n j) s).state in
+      let t = (on_number n (mark_here n j) s).state in
       left_then s t (begin plain j n s).state (record {
         found_ = on_same (found_in id) n (mark_here n j) s (found_mark n j c ne);
         shut = shut_on n (mark_here n j) s
             (ap (λ o. option_map_or (λ busy. busy == id) o false) (same_happen (at_own n (handler_level_of j c) (Mark j))
             (record c { cyclics = map (moment_at j never) c.cyclics; removal = Some j })).removal
             ∙ ne_eqb j id (λ e. ne (sym e)));
-        place = refl;
+        placement = refl;
       }) (left_poll j n t ne)
 
   pub left_each : {A : Type 0} → (f : A → State → Outcome) → ((x : A) (s : State) → Left s (f x s).state) → (xs : List A)

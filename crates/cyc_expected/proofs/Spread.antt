@@ -9,19 +9,19 @@ use mathlib.Core.Logic.{dite}
 use native.Mathlib.Decide.{ℕ_discrete}
 use Rattle.cyc_types.specs.Series.{due, next}
 use Rattle.cyc_level.proofs.Maps.{some_same}
-use Rattle.cyc_model.specs.Cpu.{Cyclic, Cpu}
-use Rattle.cyc_model.specs.State.{State, Everywhere, OnAll, absent, cpu_of, numbers_from}
-use Rattle.cyc_model.specs.Places.{placement_of, is_leaving}
+use Rattle.cyc_model.specs.Cpu.{CyclicState, Cpu}
+use Rattle.cyc_model.specs.State.{State, Everywhere, OnAll, absent, cpu_of, cpus_from}
+use Rattle.cyc_model.specs.Places.{placement_of, is_being_removed}
 use Rattle.cyc_model.proofs.Rising.{found, due_of_found}
 use Rattle.cyc_model.proofs.Placing.{place_known}
 use Rattle.cyc_model.proofs.Spread.{Good}
-use Rattle.cyc_expected.specs.Course.{component_first, components_from}
+use Rattle.cyc_expected.specs.Course.{component_begins_at, components_from}
 use Rattle.cyc_expected.proofs.Seen.{seen_at}
 use Rattle.cyc_expected.proofs.Fires.{Later}
 use Rattle.cyc_expected.proofs.Running.{found_in, Left}
 
 -- what is told of a component: its next expiration and its interval
-abbrev pub series_of : Cyclic → ℕ × ℕ
+abbrev pub series_of : CyclicState → ℕ × ℕ
 series_of x = (x.timer.moment, x.timer.interval)
 
 -- of the one that the CPU has of an id
@@ -34,33 +34,33 @@ with_interval interval o = option_map (λ moment. (moment, interval)) o
 
 -- it is omnipresent, each CPU has just the component that is told, and its removal is not open
 pub record Spread (id : ℕ) (e : Everywhere) (moments : List (Option ℕ)) (s : State) : Type 0 where
-  pub stays : is_leaving id s ≡ false
-  pub place : placement_of id s ≡ Some (OnAll e)
+  pub stays : is_being_removed id s ≡ false
+  pub placement : placement_of id s ≡ Some (OnAll e)
   pub long : length moments ≡ length s.cpus
   pub here : (m : ℕ) → series_on id (cpu_of m s) ≡ with_interval e.interval (slice_index_or moments m None)
 
 module _ (id : ℕ) (e : Everywhere) (moments : List (Option ℕ)) (s : State) (h : Spread id e moments s) where
   pub spread_given : Good s → id ≤ s.last_id
-  spread_given g = (place_known id s (OnAll e) g.base.rise h.place).1
+  spread_given g = (place_known id s (OnAll e) g.base.rise h.placement).1
 
   -- where nothing of it changes
   pub spread_left : (t : State) → length t.cpus ≡ length s.cpus → Left id s t → Spread id e moments t
   spread_left t long left = record {
     stays = left.shut h.stays;
-    place = left.place ∙ h.place;
+    placement = left.placement ∙ h.placement;
     long = h.long ∙ sym long;
     here = λ m. ap (option_map series_of) (seen_at (found_in id) s t left.found_ m) ∙ h.here m;
   }
 
   -- where the component on one CPU changes
   pub spread_one : (n : ℕ) (o : Option ℕ) (t : State) → n < length s.cpus → length t.cpus ≡ length s.cpus
-      → is_leaving id t ≡ false → placement_of id t ≡ placement_of id s
+      → is_being_removed id t ≡ false → placement_of id t ≡ placement_of id s
       → ((m : ℕ) → m ≢ n → found id (cpu_of m t).cyclics ≡ found id (cpu_of m s).cyclics)
       → series_on id (cpu_of n t) ≡ with_interval e.interval o
       → Spread id e (slice_set moments n o) t
   spread_one n o t within long stays place others own = record {
     stays = stays;
-    place = place ∙ h.place;
+    placement = place ∙ h.placement;
     long = length-set moments n o ∙ (h.long ∙ sym long);
     here = λ m. dite (ℕ_discrete m n)
         (λ same. subst (λ k. series_on id (cpu_of k t) ≡ with_interval e.interval (slice_index_or (slice_set moments n o) k None))
@@ -78,13 +78,13 @@ components_long k e now (up ∷ ups) = ap suc (components_long (k + 1) e now ups
 
 pub components_at : (k : ℕ) (e : Everywhere) (now : ℕ) (ups : List Bool) (n : ℕ)
     → slice_index_or (components_from k e now ups) n None
-    ≡ cond (slice_index_or ups n false) (Some (component_first (k + n) e now)) None
+    ≡ cond (slice_index_or ups n false) (Some (component_begins_at (k + n) e now)) None
 components_at k e now [] n = refl
 components_at k e now (up ∷ ups) zero =
-    let z : k ≡ k + 0 = omega arith in ap (λ (j : ℕ). cond up (Some (component_first j e now)) None) z
+    let z : k ≡ k + 0 = omega arith in ap (λ (j : ℕ). cond up (Some (component_begins_at j e now)) None) z
 components_at k e now (up ∷ ups) (suc n) = components_at (k + 1) e now ups n
     ∙ (let z : k + 1 + n ≡ k + suc n = omega arith in
-    ap (λ (j : ℕ). cond (slice_index_or ups n false) (Some (component_first j e now)) None) z)
+    ap (λ (j : ℕ). cond (slice_index_or ups n false) (Some (component_begins_at j e now)) None) z)
 
 -- ---- what is due, and what comes after it
 
@@ -96,7 +96,7 @@ module _ (interval now : ℕ) where
   abbrev pub next_then : Option ℕ → Option ℕ
   next_then o = option_map (λ moment. next moment interval now) o
 
-  pub due_there : (o : Option Cyclic) (m : Option ℕ) → option_map series_of o ≡ with_interval interval m
+  pub due_there : (o : Option CyclicState) (m : Option ℕ) → option_map series_of o ≡ with_interval interval m
       → due_of_found now o ≡ due_then m
   due_there None None is = refl
   due_there None (Some m) is = absurd (cc)
@@ -104,7 +104,7 @@ module _ (interval now : ℕ) where
   due_there (Some x) (Some m) is =
       let same = some_same (series_of x) (m, interval) is in λ i. due (same i).0 (same i).1 now
 
-  pub next_there : (o p : Option Cyclic) (m : Option ℕ) → option_map series_of o ≡ with_interval interval m → Later now o p
+  pub next_there : (o p : Option CyclicState) (m : Option ℕ) → option_map series_of o ≡ with_interval interval m → Later now o p
       → option_map series_of p ≡ with_interval interval (next_then m)
   next_there None p None is later = ap (option_map series_of) later
   next_there None p (Some m) is later = absurd (cc)
@@ -124,7 +124,7 @@ module _ (interval now : ℕ) where
 pub sum_numbers : (test : Cpu → Bool) (h : ℕ → ℕ) (g : Option ℕ → ℕ) (k : ℕ) (cs : List Cpu) (ms : List (Option ℕ))
     → length ms ≡ length cs
     → ((i : ℕ) → cond (test (slice_index_or cs i absent)) (h (k + i)) 0 ≡ g (slice_index_or ms i None))
-    → sum_by h (numbers_from k test cs) ≡ sum_by g ms
+    → sum_by h (cpus_from k test cs) ≡ sum_by g ms
 sum_numbers test h g k [] [] long same = refl
 sum_numbers test h g k [] (m ∷ ms) long same = absurd (omega (arith, long))
 sum_numbers test h g k (c ∷ cs) [] long same = absurd (omega (arith, long))
@@ -135,9 +135,9 @@ sum_numbers test h g k (c ∷ cs) (m ∷ ms) long same =
     shift : (a b : ℕ) → a + 1 + b ≡ a + suc b
     shift a b = omega arith
 
-    by : (b : Bool) → cond b (h (k + 0)) 0 ≡ g m → sum_by h (numbers_from (k + 1) test cs) ≡ sum_by g ms
-        → sum_by h (cond b (k ∷ numbers_from (k + 1) test cs) (numbers_from (k + 1) test cs)) ≡ sum_by g (m ∷ ms)
+    by : (b : Bool) → cond b (h (k + 0)) 0 ≡ g m → sum_by h (cpus_from (k + 1) test cs) ≡ sum_by g ms
+        → sum_by h (cond b (k ∷ cpus_from (k + 1) test cs) (cpus_from (k + 1) test cs)) ≡ sum_by g (m ∷ ms)
     by true one rest =
-        let a = sum_by-cons h k (numbers_from (k + 1) test cs) in let b = sum_by-cons g m ms in
+        let a = sum_by-cons h k (cpus_from (k + 1) test cs) in let b = sum_by-cons g m ms in
         let z : k + 0 ≡ k = omega arith in let w = ap h z in omega (arith, a, b, w, one, rest)
     by false one rest = let b = sum_by-cons g m ms in omega (arith, b, one, rest)

@@ -15,17 +15,17 @@ use Rattle.cyc_model.specs.Cpu.{Cpu, others, handler_level_of}
 use Rattle.cyc_model.specs.Moving.{mark_here, clear_here, reprogram_here}
 use Rattle.cyc_model.specs.Serving.{serve_here}
 use Rattle.cyc_model.specs.Questions.{plain, outstanding_here}
-use Rattle.cyc_model.specs.State.{State, Outcome, On, OnAll, cpu_of, on, each, numbers, online_cpus, cpus_with}
-use Rattle.cyc_model.specs.Places.{id_of, destination, given, keep_counts}
+use Rattle.cyc_model.specs.State.{State, Outcome, On, OnAll, cpu_of, on_number, each, numbers, cpus_online, cpus_having}
+use Rattle.cyc_model.specs.Places.{id_of, destination_of, given, keep_counts}
 use Rattle.cyc_types.specs.Reasons.{busy}
-use Rattle.cyc_model.specs.Refusals.{magnitude, no_cpu, offline_cpu, last_cpu}
+use Rattle.cyc_model.specs.Refusals.{magnitude, is_no_cpu, cpu_is_offline, is_last_online}
 use Rattle.cyc_model.specs.Add.{added}
 use Rattle.cyc_model.specs.Omni.{everywhere}
 use Rattle.cyc_model.specs.Remove.{begin, poll, clear, clear_if, begun}
 use Rattle.cyc_model.specs.Reprogram.{cpu_meant}
 use Rattle.cyc_model.specs.Softint.{interrupt, is_open, leaving_ids, text_of_id, polled, poll_id}
-use Rattle.cyc_model.specs.Juggle.{juggled, single_ids}
-use Rattle.cyc_model.specs.Online.{staying, online_cpu, no_room_for_all}
+use Rattle.cyc_model.specs.Juggle.{juggled, single_ids_of}
+use Rattle.cyc_model.specs.Online.{staying_omni, is_online_already, no_room_for_all}
 use Rattle.cyc_model.specs.Script.{refusal_of, does, text_in}
 use Rattle.cyc_model.proofs.Rising.{found}
 use Rattle.cyc_model.proofs.Whole.{same_happen}
@@ -73,7 +73,7 @@ online_poll j n s = by (outstanding_here j (cpu_of n s) == 0)
 online_begin : (j n : ℕ) → Keeps (begin plain j n)
 online_begin j n s =
     let c = cpu_of n s in
-    online_poll j n (on n (mark_here n j) s).state
+    online_poll j n (on_number n (mark_here n j) s).state
     ∙ on_same online_of n (mark_here n j) s (same_happen (at_own n (handler_level_of j c) (Mark j)) _).online
 
 online_removed : (step : ℕ) (text : List ℕ) (j : ℕ) (o : Outcome) (ns : List ℕ)
@@ -84,7 +84,7 @@ online_removed step text j o (n ∷ ns) = refl
 online_polled : (texts : List (List ℕ)) (step j : ℕ) → Keeps (poll_id plain texts step j)
 online_polled texts step j s =
     let o = each (poll plain j) (numbers (is_open j) s) s in
-    by o (each_same online_of (poll plain j) (online_poll j) (numbers (is_open j) s) s) (cpus_with j o.state)
+    by o (each_same online_of (poll plain j) (online_poll j) (numbers (is_open j) s) s) (cpus_having j o.state)
   where
     by : (o : Outcome) → seen online_of o.state ≡ seen online_of s → (ns : List ℕ)
         → seen online_of (polled step (text_of_id j texts s.names) j ns o).state ≡ seen online_of s
@@ -99,12 +99,12 @@ module _ (texts : List (List ℕ)) (f : ℕ → ℕ) (step : ℕ) (s : State) (g
 
   stays_up : (x : Step) → refusal_of plain x s ≡ None → IsHere x → (m : ℕ) → (cpu_of m (after x)).online ≡ (cpu_of m s).online
   stays_up (Add a) why is m =
-      let n = destination None s in
+      let n = destination_of None s in
       seen_at online_of s (after (Add a)) (keeps_enter online_of online_alike f n (added a s) (given a.name (On n false) s)) m
   stays_up (Omni a) why is m =
       let u = given a.name (OnAll (everywhere a)) s in
       seen_at online_of s (after (Omni a))
-      (keeps_enters online_of online_alike f (s.last_id + 1) (everywhere a) (online_cpus u) u) m
+      (keeps_enters online_of online_alike f (s.last_id + 1) (everywhere a) (cpus_online u) u) m
   stays_up (Bind b) why is m = seen_at online_of s (after (Bind b)) (keeps_bind online_of online_alike f step b s) m
   stays_up (Unbind name) why is m = refl
   stays_up (Reprogram r) why is m =
@@ -113,10 +113,10 @@ module _ (texts : List (List ℕ)) (f : ℕ → ℕ) (step : ℕ) (s : State) (g
       (on_same online_of n (reprogram_here (id_of r.name s) (magnitude r.moment)) s refl) m
   stays_up (Remove name) why is m =
       let j = id_of name s in
-      let o = each (begin plain j) (cpus_with j s) s in
-      seen_at online_of s (after (Remove name)) (online_removed step (text_in texts name) j o (cpus_with j o.state)
-      ∙ each_same online_of (begin plain j) (online_begin j) (cpus_with j s) s) m
-  stays_up (Advance now) why is m = (all_fired 0 now (fires_before now s why) 0 (online_cpus s) (record s { clock = now })
+      let o = each (begin plain j) (cpus_having j s) s in
+      seen_at online_of s (after (Remove name)) (online_removed step (text_in texts name) j o (cpus_having j o.state)
+      ∙ each_same online_of (begin plain j) (online_begin j) (cpus_having j s) s) m
+  stays_up (Advance now) why is m = (all_fired 0 now (fires_before now s why) 0 (cpus_online s) (record s { clock = now })
       (good_clock now s g) (numbers_rise (λ (c : Cpu). c.online) 0 s.cpus)
       (λ k has. (numbers_pass (λ (c : Cpu). c.online) k s has).0)).online m
   stays_up (Softint i) why is m =
@@ -134,7 +134,7 @@ module _ (texts : List (List ℕ)) (f : ℕ → ℕ) (step : ℕ) (s : State) (g
   still_up : (n m : ℕ) → m ≢ n → (cpu_of m (after (Offline n))).online ≡ (cpu_of m s).online
   still_up n m far = ap (λ (c : Cpu). c.online) (offline_elsewhere f step n s m far)
       ∙ seen_at online_of s (juggled plain f n s).outcome.state
-      (keeps_turns online_of online_alike f n (single_ids n s) s) m
+      (keeps_turns online_of online_alike f n (single_ids_of n s) s) m
 
   -- whether a CPU is online is set
   ups_one : (ups : List Bool) (n : ℕ) (b : Bool) (t : State) → n < length s.cpus → length t.cpus ≡ length s.cpus → Ups ups s
@@ -158,8 +158,8 @@ module _ (texts : List (List ℕ)) (f : ℕ → ℕ) (step : ℕ) (s : State) (g
 
   on_cpu : (n : ℕ) → refusal_of plain (Offline n) s ≡ None → (n < length s.cpus) × ((cpu_of n s).online ≡ true)
   on_cpu n why =
-      let one = none_first (no_cpu n s) (offline_cpu n s ∷ last_cpu n s ∷ busy (cpu_of n s).removal ∷ []) why in
-      let two = none_first (offline_cpu n s) (last_cpu n s ∷ busy (cpu_of n s).removal ∷ []) one.1 in
+      let one = none_first (is_no_cpu n s) (cpu_is_offline n s ∷ is_last_online n s ∷ busy (cpu_of n s).removal ∷ []) why in
+      let two = none_first (cpu_is_offline n s) (is_last_online n s ∷ busy (cpu_of n s).removal ∷ []) one.1 in
       (is_cpu n s one.0, is_online n s two.0)
 
   -- an event of the cyclic alone
@@ -189,8 +189,8 @@ module _ (texts : List (List ℕ)) (f : ℕ → ℕ) (step : ℕ) (s : State) (g
   ups_does name (Offline n) why done u h =
       ups_one u.online n false (after (Offline n)) (on_cpu n why).0 (long (Offline n) why) h (still_up n) (not-true _ done)
   ups_does name (Online n) why done u h =
-      let room = no_room_for_all plain n (length (staying s)) (cpu_of n s) in
-      let within = is_cpu n s (none_first (no_cpu n s) (online_cpu n s ∷ bad_now s.clock ∷ room ∷ []) why).0 in
+      let room = no_room_for_all plain n (length (staying_omni s)) (cpu_of n s) in
+      let within = is_cpu n s (none_first (is_no_cpu n s) (is_online_already n s ∷ bad_now s.clock ∷ room ∷ []) why).0 in
       ups_one u.online n true (after (Online n)) within (long (Online n) why) h
       (λ m far. ap (λ (c : Cpu). c.online) (online_elsewhere f step n s m far))
       (ap (λ (c : Cpu). c.online) (online_there f step n s within))

@@ -6,8 +6,8 @@ use Rattle.std.proofs.lemmas.List.{length-map}
 use Rattle.cyc_types.specs.declared.refusal.Refusal.{Refusal}
 use Rattle.cyc_script.specs.declared.step.Step.{Step}
 use Rattle.cyc_model.specs.Questions.{plain}
-use Rattle.cyc_model.specs.State.{State, numbers_from, absent}
-use Rattle.cyc_model.specs.Cpu.{new_cpu}
+use Rattle.cyc_model.specs.State.{State, cpus_from, absent}
+use Rattle.cyc_model.specs.Cpu.{begun_cpu}
 use Rattle.cyc_model.specs.Places.{id_of}
 use Rattle.cyc_model.specs.Refusals.{after_refusal, unless}
 use Rattle.cyc_model.specs.Report.{expired_here}
@@ -15,7 +15,7 @@ use Rattle.cyc_model.specs.Script.{refusal_of, does, steps_from, start, run_of, 
 use Rattle.cyc_model.proofs.Totals.{expired_in}
 use Rattle.cyc_model.proofs.Reaching.{start_good, none_ended, sum_of_none}
 use Rattle.cyc_expected.specs.Course.{Told, Idle, told_after, told_by, untold}
-use Rattle.cyc_expected.specs.Expected.{event_of, events_of, clock_after}
+use Rattle.cyc_expected.specs.Expected.{event_of, course_events, clock_after}
 use Rattle.cyc_expected.specs.Way.{is_done, way_from}
 use Rattle.cyc_expected.specs.Expired.{ExpiredAsExpected}
 use Rattle.cyc_expected.proofs.Naming.{Ready, ready_does, ready_refused, names_last, AllWithin, all_within}
@@ -29,7 +29,7 @@ module _ (texts : List (List ℕ)) (f : ℕ → ℕ) (name : ℕ) where
       expired_in (id_of name (steps_from plain texts f step xs s).state) (steps_from plain texts f step xs s).state
 
   abbrev told : ℕ → List Step → ℕ → State → Told → ℕ
-  told step xs clock s u = (told_by (events_of name clock (way_from f texts step xs s)) u).expired
+  told step xs clock s u = (told_by (course_events name clock (way_from f texts step xs s)) u).expired
 
   -- what the other steps come to
   abbrev Rest : ℕ → List Step → Type 0
@@ -46,9 +46,9 @@ module _ (texts : List (List ℕ)) (f : ℕ → ℕ) (name : ℕ) where
       -- what is told after the step, by whether it was done
       done : Rest (step + 1) xs → (b : Bool) → refusal_of plain x s ≡ None → is_done x (does plain texts f step x s).state ≡ b
           → left (step + 1) xs (does plain texts f step x s).state
-          ≡ (told_by (cond b (event_of name s.clock x ∷ events_of name (clock_after x s.clock)
+          ≡ (told_by (cond b (event_of name s.clock x ∷ course_events name (clock_after x s.clock)
           (way_from f texts (step + 1) xs (does plain texts f step x s).state))
-          (events_of name (clock_after x s.clock)
+          (course_events name (clock_after x s.clock)
           (way_from f texts (step + 1) xs (does plain texts f step x s).state))) u).expired
       done rest true why is =
           let t = (does plain texts f step x s).state in
@@ -68,9 +68,9 @@ module _ (texts : List (List ℕ)) (f : ℕ → ℕ) (name : ℕ) where
       by : Rest (step + 1) xs → (o : Option Refusal) → refusal_of plain x s ≡ o
           → left (step + 1) xs (unless o step x (does plain texts f step x) s).state
           ≡ (told_by (cond (not (is_some o) && is_done x (unless o step x (does plain texts f step x) s).state)
-          (event_of name s.clock x ∷ events_of name (clock_after x s.clock)
+          (event_of name s.clock x ∷ course_events name (clock_after x s.clock)
           (way_from f texts (step + 1) xs (unless o step x (does plain texts f step x) s).state))
-          (events_of name (clock_after x s.clock)
+          (course_events name (clock_after x s.clock)
           (way_from f texts (step + 1) xs (unless o step x (does plain texts f step x) s).state)))
           u).expired
       by rest None why = done rest (is_done x (does plain texts f step x s).state) why refl
@@ -90,7 +90,7 @@ length_names (suc names) = ap suc (length_names names)
 
 start_expired : (cpus ceiling names id : ℕ) → expired_in id (start cpus ceiling names) ≡ 0
 start_expired cpus ceiling names id =
-    let e = none_ended (numbers_from 0 (λ c. true) (replicate cpus (new_cpu ceiling))) in
+    let e = none_ended (cpus_from 0 (λ c. true) (replicate cpus (begun_cpu ceiling))) in
     let a = sum_of_none (expired_here id) ceiling cpus refl in omega (arith, e, a)
 
 start_ready : (cpus ceiling names : ℕ) → 0 < cpus → Ready (start cpus ceiling names)
@@ -102,12 +102,12 @@ start_ready cpus ceiling names some = record {
 }
 
 up_at : (ceiling cpus m : ℕ) → slice_index_or (replicate cpus true) m false
-    ≡ (slice_index_or (replicate cpus (new_cpu ceiling)) m absent).online
+    ≡ (slice_index_or (replicate cpus (begun_cpu ceiling)) m absent).online
 up_at ceiling zero m = refl
 up_at ceiling (suc cpus) zero = refl
 up_at ceiling (suc cpus) (suc m) = up_at ceiling cpus m
 
-as_many_ups : (ceiling cpus : ℕ) → length (replicate cpus true) ≡ length (replicate cpus (new_cpu ceiling))
+as_many_ups : (ceiling cpus : ℕ) → length (replicate cpus true) ≡ length (replicate cpus (begun_cpu ceiling))
 as_many_ups ceiling zero = refl
 as_many_ups ceiling (suc cpus) = ap suc (as_many_ups ceiling cpus)
 

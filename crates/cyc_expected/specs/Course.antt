@@ -48,26 +48,26 @@ abbrev pub untold : ℕ → Told
 untold cpus = record { online = replicate cpus true; course = Idle; expired = 0 }
 
 -- the component of this CPU begins at its own start (our own rule)
-abbrev pub component_first : ℕ → Everywhere → ℕ → ℕ
-component_first n e now = first (start_on n e) e.interval now
+abbrev pub component_begins_at : ℕ → Everywhere → ℕ → ℕ
+component_begins_at n e now = first (start_on n e) e.interval now
 
 -- on each CPU that is online, counted from this number on
 abbrev pub components_from : ℕ → Everywhere → ℕ → List Bool → List (Option ℕ)
 components_from n e now [] = []
 components_from n e now (up ∷ ups) =
-    (if up then Some (component_first n e now) else None) ∷ components_from (n + 1) e now ups
+    (if up then Some (component_begins_at n e now) else None) ∷ components_from (n + 1) e now ups
 
 -- how often it expires where every online CPU fires at this moment: a cyclic that is on one CPU is on an online one
-abbrev pub due_of : ℕ → Course → ℕ
-due_of now Idle = 0
-due_of now (Single moment interval) = due moment interval now
-due_of now (OnEach e moments) = sum_by (λ m. option_map_or (λ moment. due moment e.interval now) m 0) moments
+abbrev pub due_everywhere : ℕ → Course → ℕ
+due_everywhere now Idle = 0
+due_everywhere now (Single moment interval) = due moment interval now
+due_everywhere now (OnEach e moments) = sum_by (λ m. option_map_or (λ moment. due moment e.interval now) m 0) moments
 
 -- and what it is after that
-abbrev pub next_of : ℕ → Course → Course
-next_of now Idle = Idle
-next_of now (Single moment interval) = Single (next moment interval now) interval
-next_of now (OnEach e moments) = OnEach e (map (λ m. option_map (λ moment. next moment e.interval now) m) moments)
+abbrev pub course_after : ℕ → Course → Course
+course_after now Idle = Idle
+course_after now (Single moment interval) = Single (next moment interval now) interval
+course_after now (OnEach e moments) = OnEach e (map (λ m. option_map (λ moment. next moment e.interval now) m) moments)
 
 -- the component on this CPU, where the cyclic has components
 abbrev pub with_component : ℕ → (Everywhere → Option ℕ) → Course → Course
@@ -75,9 +75,9 @@ with_component n moment (OnEach e moments) = OnEach e (slice_set moments n (mome
 with_component n moment c = c
 
 -- the cyclic has another next expiration
-abbrev pub with_moment : ℕ → Course → Course
-with_moment moment (Single old interval) = Single moment interval
-with_moment moment c = c
+abbrev pub course_at : ℕ → Course → Course
+course_at moment (Single old interval) = Single moment interval
+course_at moment c = c
 
 -- an event, and what is told after it
 abbrev pub told_after : Event → Told → Told
@@ -85,15 +85,15 @@ told_after (Begins start interval now) t =
     record { online = t.online; course = Single (first start interval now) interval; expired = 0 }
 told_after (BeginsOnAll e now) t =
     record { online = t.online; course = OnEach e (components_from 0 e now t.online); expired = 0 }
-told_after (IsSet moment) t = record t { course = with_moment moment t.course }
+told_after (IsSet moment) t = record t { course = course_at moment t.course }
 told_after (IsSetOn n moment) t = record t { course = with_component n (λ e. Some moment) t.course }
 told_after Ends t = record t { course = Idle }
-told_after (Fires now) t = record t { course = next_of now t.course; expired = t.expired + due_of now t.course }
+told_after (Fires now) t = record t { course = course_after now t.course; expired = t.expired + due_everywhere now t.course }
 told_after (Leaves n) t =
     record t { online = slice_set t.online n false; course = with_component n (λ e. None) t.course }
 told_after (Returns n now) t = record t {
   online = slice_set t.online n true;
-  course = with_component n (λ e. Some (component_first n e now)) t.course;
+  course = with_component n (λ e. Some (component_begins_at n e now)) t.course;
 }
 told_after Passes t = t
 

@@ -40,13 +40,13 @@ abbrev pub clock_after : Step → ℕ → ℕ
 clock_after step clock = moment_after clock step
 
 -- what the accepted steps are to it, in order; a step that was refused is nothing, but that an `advance` sets the clock
-abbrev pub events_of : ℕ → ℕ → List Met → List Event
-events_of name clock [] = []
-events_of name clock (m ∷ ms) = if m.accepted
-    then event_of name clock m.step ∷ events_of name (clock_after m.step clock) ms
-    else events_of name (clock_after m.step clock) ms
+abbrev pub course_events : ℕ → ℕ → List Met → List Event
+course_events name clock [] = []
+course_events name clock (m ∷ ms) = if m.accepted
+    then event_of name clock m.step ∷ course_events name (clock_after m.step clock) ms
+    else course_events name (clock_after m.step clock) ms
 
 -- the expirations of a name in a script over so many CPUs, whose steps were met so: none before its `add` or `omni`, then
 -- those that are due at each `advance`, until its `remove` is accepted
 abbrev pub expected : ℕ → List Met → ℕ → ℕ
-expected cpus way name = (told_by (events_of name 0 way) (untold cpus)).expired
+expected cpus way name = (told_by (course_events name 0 way) (untold cpus)).expired

@@ -25,6 +25,6 @@ way_from indexes texts step (x ∷ xs) s =
     ∷ way_from indexes texts (step + 1) xs (word plain texts indexes step x s).state
 
 -- those of a script where its cyclics get these indexes
-abbrev pub way_of : (ℕ → ℕ) → Script → List Met
-way_of indexes script = way_from indexes (names_of script) 1 script.steps.items
+abbrev pub way_of_script : (ℕ → ℕ) → Script → List Met
+way_of_script indexes script = way_from indexes (names_of script) 1 script.steps.items
     (start script.cpus script.ceiling (length (names_of script)))

@@ -1,5 +1,7 @@
--- A cyclic that comes between others: the slot of one that is gone is dropped, and its own comes in where its id stands among the rest.
-use Rattle.std.proofs.Common.{◌≡◌, ◌≢◌, ℕ, suc, ◌+◌, ◌-◌, ◌<◌, ◌≤◌, ◌⊎◌, inl, inr, List, ◌∷◌, ◌++◌, length, get_or, set, take, drop}
+-- A cyclic that comes between others: the slot of one that is gone is dropped, and its own comes in where its id stands among
+-- the rest.
+use Rattle.std.proofs.Common.{◌≡◌, ◌≢◌, ℕ, suc, ◌+◌, ◌-◌, ◌<◌, ◌≤◌, ◌⊎◌, inl, inr, List, ◌∷◌, ◌++◌}
+use Rattle.std.proofs.Common.{length, get_or, set, take, drop}
 use Rattle.std.proofs.Common.{Some, None, sym, ap, ◌∙◌, subst, arith}
 use Rattle.std.specs.List.{insert, remove, AllWithin, HoldsAt, CopiedTo, SameBelow, SameFrom}
 use Rattle.std.proofs.lemmas.Bool.{cases_lt}
@@ -10,7 +12,7 @@ use Rattle.std.proofs.lemmas.List.Elements.{filter_map-append}
 use Rattle.cyc_finder.specs.declared.slots.Slot.{Slot}
 use Rattle.cyc_finder.specs.Sorted.{Rises, IsGap}
 use Rattle.cyc_finder.specs.Indexes.{Entry, id_in}
-use Rattle.cyc_finder.specs.Slots.{slot_id, entry_of, entries_of, IsGone}
+use Rattle.cyc_finder.specs.Slots.{slot_id, entry_of, entries_of, IsGoneSlot}
 use Rattle.cyc_finder.proofs.RisingIds.{is_at_place, rises_removed, rises_inserted}
 use Rattle.cyc_finder.proofs.Here.{rank, some_slot, split, gap_is, come}
 
@@ -68,7 +70,7 @@ module _ (xs mid : List Slot) (p g : ℕ) (s : Slot) (up : p ≤ g) (low : g < l
 
 -- where a slot comes in that would stand at the gap
 abbrev pub IsWay : List Slot → ℕ → ℕ → Type 0
-IsWay xs gap p = (p ≡ gap) ⊎ ((p + 1 ≡ gap) × HoldsAt IsGone xs p)
+IsWay xs gap p = (p ≡ gap) ⊎ ((p + 1 ≡ gap) × HoldsAt IsGoneSlot xs p)
 
 -- a cyclic of this id, which would stand at the gap, comes in at p, and none is gone from there up to g
 pub record Comes (xs : List Slot) (id gap p g : ℕ) : Type 0 where
@@ -111,12 +113,13 @@ module _ {xs : List Slot} {id gap p g : ℕ} (c : Comes xs id gap p g) where
     greater_after = λ j d from low. at_way j d from (omega (arith, past, low)) low;
   }
 
-  module _ (low : g < length xs) (gone : HoldsAt IsGone xs g) where
+  module _ (low : g < length xs) (gone : HoldsAt IsGoneSlot xs g) where
     gap_left : IsGap slot_id (remove xs g) id p
     gap_left = let l = length-remove xs g low in record {
       in_range = omega (arith, l, c.up, low);
       smaller_before = λ j d less.
-          subst (λ (s : Slot). s.id < id) (sym (get_or-remove_below xs g d j (omega (arith, less, c.up)) low)) (before_way j d less);
+          subst (λ (s : Slot). s.id < id) (sym (get_or-remove_below xs g d j (omega (arith, less, c.up)) low))
+          (before_way j d less);
       greater_after = λ j d from small. elim (cases_lt j g) [
         | inl less ↦
             subst (λ (s : Slot). id < s.id) (sym (get_or-remove_below xs g d j less low))
@@ -132,7 +135,8 @@ module _ {xs : List Slot} {id gap p g : ℕ} (c : Comes xs id gap p g) where
 
     rest_entries : entries_of (remove xs g) ≡ entries_of xs
     rest_entries = filter_map-append entry_of (take g xs) (drop (suc g) xs)
-        ∙ ap (λ (s : Slot). entries_of (take g xs) ++ entries_of (s ∷ drop (suc g) xs)) (sym gone_slot) ∙ sym (split xs g some_slot low)
+        ∙ ap (λ (s : Slot). entries_of (take g xs) ++ entries_of (s ∷ drop (suc g) xs)) (sym gone_slot)
+        ∙ sym (split xs g some_slot low)
       where
         gone_slot : get_or xs g some_slot ≡ record { id = (get_or xs g some_slot).id; index = None }
         gone_slot = λ y. record { id = (get_or xs g some_slot).id; index = gone some_slot y }
@@ -144,6 +148,7 @@ module _ {xs : List Slot} {id gap p g : ℕ} (c : Comes xs id gap p g) where
         × (entries_of (insert (remove xs g) p (record { id = id; index = Some i }))
         ≡ insert (entries_of xs) k (record { id = id; index = i }))
     comes_in i = subst (λ (es : List Entry). (k : ℕ) × IsGap id_in es id k
-        × (entries_of (insert (remove xs g) p (record { id = id; index = Some i })) ≡ insert es k (record { id = id; index = i })))
+        × (entries_of (insert (remove xs g) p (record { id = id; index = Some i }))
+        ≡ insert es k (record { id = id; index = i })))
         rest_entries
         (rank (remove xs g) p, gap_is (remove xs g) rest_rises id p gap_left, come (remove xs g) p id i)

@@ -8,7 +8,7 @@ use Rattle.std.proofs.lemmas.List.{get_or-map, length-map, take-map, drop-map, m
 use mathlib.Core.Logic.{dite}
 use native.Mathlib.Decide.{ℕ_discrete}
 use Rattle.cyc_finder.specs.Sorted.{look_up, Rises, IsAt, IsGap}
-use Rattle.cyc_finder.specs.Indexes.{Entry, id_in, index_in, index_of, IsIndexed, times}
+use Rattle.cyc_finder.specs.Indexes.{Entry, id_in, index_in, index_of, IsIndexed, stands_in}
 use Rattle.cyc_finder.proofs.RisingIds.{look_up_read, look_up_at, look_up_gap, look_up_inserted, look_up_removed, is_at_place}
 use Rattle.cyc_finder.proofs.Few.{times_at}
 
@@ -44,8 +44,8 @@ index_removed xs rises id position at j =
     ap (option_map index_in) (look_up_removed id_in xs rises id position at j) ∙ index_cond (eqb j id) None (look_up id_in j xs)
 
 -- an index that no id has stands nowhere
-pub free_is : (xs : List Entry) (index : ℕ) → Rises id_in xs → ¬ IsIndexed index xs → times index (map index_in xs) ≡ 0
-free_is xs index rises none = dite (ℕ_discrete (times index (map index_in xs)) 0)
+pub free_is : (xs : List Entry) (index : ℕ) → Rises id_in xs → ¬ IsIndexed index xs → stands_in index (map index_in xs) ≡ 0
+free_is xs index rises none = dite (ℕ_discrete (stands_in index (map index_in xs)) 0)
     (λ e. e)
     (λ ne.
     let (k, in_range, is) = times_at index (map index_in xs) (omega (arith, ne)) in

@@ -14,7 +14,7 @@ use Rattle.cyc_finder.specs.declared.slots.First.{First}
 use Rattle.cyc_finder.specs.declared.slots.Slot.{Slot}
 use Rattle.cyc_finder.specs.Sorted.{Rises, IsAt, IsGap, IsPassed, ComesAfter, IsNextAfter}
 use Rattle.cyc_finder.specs.Indexes.{Entry, id_in, index_of}
-use Rattle.cyc_finder.specs.Slots.{slot_id, entry_of, entries_of, IsGone, IsFirst}
+use Rattle.cyc_finder.specs.Slots.{slot_id, entry_of, entries_of, IsGoneSlot, IsFirst}
 use Rattle.cyc_finder.proofs.Entries.{index_read, index_gap}
 
 -- how many of the slots before a position are of cyclics that are here
@@ -353,7 +353,7 @@ module _ (xs : List Slot) (rises : Rises slot_id xs) where
 module _ (xs : List Slot) (first : First) (is : IsFirst xs first) (passed : Option ℕ) (a from position : ℕ)
     (less : AllWithin (λ (s : Slot). IsPassed passed s.id) xs 0 a)
     (more : AllWithin (λ (s : Slot). ComesAfter passed s.id) xs a (length xs))
-    (at : from ≡ max a first.position) (gone : AllWithin IsGone xs from position) where
+    (at : from ≡ max a first.position) (gone : AllWithin IsGoneSlot xs from position) where
   seen : (j : ℕ) (d : Slot) → j < position → j < length xs → (get_or xs j d).index ≢ None → IsPassed passed (get_or xs j d).id
   seen j d near low here = elim (cases_lt j a) [
     | inl l ↦ less j d (omega arith) l

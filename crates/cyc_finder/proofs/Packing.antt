@@ -6,7 +6,7 @@ use Rattle.std.specs.List.{filter, AllWithin}
 use Rattle.std.proofs.lemmas.List.{take-set-le, drop-set-lt, length-set}
 use Rattle.std.proofs.lemmas.List.Filters.{FiltersInPlace, FiltersInPlace-more_no, FiltersInPlace-more_set}
 use Rattle.cyc_finder.specs.declared.slots.Slot.{Slot}
-use Rattle.cyc_finder.specs.Slots.{IsGone}
+use Rattle.cyc_finder.specs.Slots.{IsGoneSlot}
 use Rattle.cyc_finder.proofs.Here.{tests_here}
 
 -- one that is gone is left out
@@ -15,14 +15,14 @@ left_out : (id : ℕ) (o : Option ℕ) (xs : List Slot) → o ≡ None
 left_out id None xs gone = refl
 left_out id (Some i) xs gone = absurd (let no : Some i ≡ None = gone in cc)
 
-all_gone : (xs : List Slot) (n : ℕ) → AllWithin IsGone xs 0 n → filter tests_here (take n xs) ≡ []
+all_gone : (xs : List Slot) (n : ℕ) → AllWithin IsGoneSlot xs 0 n → filter tests_here (take n xs) ≡ []
 all_gone xs zero gone = refl
 all_gone [] (suc n) gone = refl
 all_gone (x ∷ xs) (suc n) gone = left_out x.id x.index (filter tests_here (take n xs)) (gone 0 x (omega arith) (omega arith))
     ∙ all_gone xs n (λ k d from low. gone (suc k) d (omega arith) (omega (arith, low)))
 
 -- nothing is kept of those before the first that is here
-pub packs_from : (xs : List Slot) (n : ℕ) → n ≤ length xs → AllWithin IsGone xs 0 n → FiltersInPlace tests_here xs xs 0 n
+pub packs_from : (xs : List Slot) (n : ℕ) → n ≤ length xs → AllWithin IsGoneSlot xs 0 n → FiltersInPlace tests_here xs xs 0 n
 packs_from xs n within gone = record {
   front = sym (all_gone xs n gone);
   rest = refl;

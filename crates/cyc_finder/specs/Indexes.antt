@@ -33,13 +33,13 @@ abbrev pub IsIndexed : ℕ → List Entry → Type 0
 IsIndexed index entries = (id : ℕ) × (index_of id entries ≡ Some index)
 
 -- how often the number stands in the list
-abbrev pub times : ℕ → List ℕ → ℕ
-times n [] = 0
-times n (x ∷ xs) = cond (eqb n x) 1 0 + times n xs
+abbrev pub stands_in : ℕ → List ℕ → ℕ
+stands_in n [] = 0
+stands_in n (x ∷ xs) = cond (eqb n x) 1 0 + stands_in n xs
 
 -- no number stands twice, and each is below the limit
 abbrev pub AreDistinct : ℕ → List ℕ → Type 0
-AreDistinct limit xs = (n : ℕ) → (times n xs ≤ 1) × (0 < times n xs → n < limit)
+AreDistinct limit xs = (n : ℕ) → (stands_in n xs ≤ 1) × (0 < stands_in n xs → n < limit)
 
 -- how many hints there are (our own rule)
 abbrev pub hints : ℕ

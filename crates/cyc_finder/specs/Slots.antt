@@ -18,13 +18,13 @@ abbrev pub entries_of : List Slot → List Entry
 entries_of slots = filter_map entry_of slots
 
 -- the cyclic of the slot is gone
-abbrev pub IsGone : Slot → Type 0
-IsGone slot = slot.index ≡ None
+abbrev pub IsGoneSlot : Slot → Type 0
+IsGoneSlot slot = slot.index ≡ None
 
 -- the first slot whose cyclic is here, behind the last where none is: those before it are gone. An id that follows it with none
 -- between them left out stands as far from the base as its number says
 pub record IsFirst (slots : List Slot) (first : First) : Type 0 where
   pub in_range : first.position ≤ length slots
-  pub gone_before : AllWithin IsGone slots 0 first.position
+  pub gone_before : AllWithin IsGoneSlot slots 0 first.position
   pub here : first.position < length slots → HoldsAt (λ slot. slot.index ≢ None) slots first.position
   pub base_is : first.position < length slots → HoldsAt (λ slot. first.base + first.position ≡ slot.id) slots first.position

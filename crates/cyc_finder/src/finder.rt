@@ -28,13 +28,13 @@ pub fn hints_law()
 /// How many slots a finder has at least: with few cyclics those that are gone are then seldom dropped (our own rule).
 const FEWEST_SLOTS: usize = 64;
 
-/// The map from the ids of cyclics to their indexes, no two the same (our own; the kernel names a cyclic by its address). Contracts
-/// see its entries by rising id.
+/// The map from the ids of cyclics to their indexes, no two the same (our own; the kernel names a cyclic by its address).
+/// Contracts see its entries by rising id.
 ///
-/// It keeps a slot for each cyclic that came, by rising id, and a cyclic that goes leaves its slot behind, so that no other is moved.
-/// One that comes between others takes over such a slot near it; those that are left are dropped all at once, when no more fit. Ids mostly
-/// rise by one, so the first look mostly answers; after it comes a hint, of which each id has one, with many cyclics a second one, which
-/// fewer ids share, and then halving.
+/// It keeps a slot for each cyclic that came, by rising id, and a cyclic that goes leaves its slot behind, so that no other is
+/// moved. One that comes between others takes over such a slot near it; those that are left are dropped all at once, when no more
+/// fit. Ids mostly rise by one, so the first look mostly answers; after it comes a hint, of which each id has one, with many
+/// cyclics a second one, which fewer ids share, and then halving.
 #[derive(Drop)]
 pub struct Finder {
     slots: Vec<Slot>,
@@ -82,8 +82,8 @@ impl Finder {
         })
     }
 
-    /// Takes the memory of so many cyclics, so that none of these takes any: 32 bytes for each, and 16 KB once where they are more than
-    /// `HINTS`. O(n) where it takes any.
+    /// Takes the memory of so many cyclics, so that none of these takes any: 32 bytes for each, and 16 KB once where they are
+    /// more than `HINTS`. O(n) where it takes any.
     pub fn reserve(&mut self, size: usize) -> Result<(), AllocError>
         ensures ok { OnOk result (self.new ≡ record self.old { room = max self.old.room size }) }
         ensures err { OnErr result (self.new ≡ self.old) }
@@ -110,8 +110,8 @@ impl Finder {
         }
     }
 
-    /// As `find`, by two looks: as far from the first id as this is above it, and where it was found last. None unless it stands at one
-    /// of them. O(1).
+    /// As `find`, by two looks: as far from the first id as this is above it, and where it was found last. None unless it stands
+    /// at one of them. O(1).
     #[inline(always)]
     pub fn soon(&self, id: CyclicId) -> Option<Index>
         ensures some { IfSome result (λ index. index_of id self.now.entries ≡ Some index) }
@@ -150,14 +150,16 @@ impl Finder {
         }
     }
 
-    /// The smallest id above this one that has an index, or the smallest of all, and its index: the next step of a walk. O(log n), and
-    /// the slots of those that are gone are passed by.
+    /// The smallest id above this one that has an index, or the smallest of all, and its index: the next step of a walk. O(log
+    /// n), and the slots of those that are gone are passed by.
     pub fn next_after(&self, passed: Option<CyclicId>) -> Option<(CyclicId, Index)>
         ensures none { IfNone result (All (λ e. IsPassed passed e.id) self.now.entries) }
         ensures some { IfSome result (λ found. (k : ℕ) × IsNextAfter id_in self.now.entries passed k
             × HoldsAt (λ e. e ≡ record { id = found.0; index = found.1 }) self.now.entries k) }
     {
-        let from = after(&self.slots, passed).max(self.first.position);
+        let from = after(&self.slots, self.first.base, &self.hints, passed).max(
+            self.first.position,
+        );
         let position = next_here(&self.slots, from);
         if position >= self.slots.len() {
             return None;
@@ -169,9 +171,9 @@ impl Finder {
         }
     }
 
-    /// The id gets the index, which no other id has. Takes no memory. O(log n) on average where the id is above all that came, where its own
-    /// slot is still there, or where the slot below it is of one that is gone; else the slots above it are moved, up to the next of one that
-    /// is gone or all where none is: O(n).
+    /// The id gets the index, which no other id has. Takes no memory. O(log n) on average where the id is above all that came,
+    /// where its own slot is still there, or where the slot below it is of one that is gone; else the slots above it are moved,
+    /// up to the next of one that is gone or all where none is: O(n).
     #[inline(always)]
     pub fn insert(&mut self, id: CyclicId, index: Index)
         requires absent { index_of id self.old.entries ≡ None }
@@ -187,8 +189,9 @@ impl Finder {
         first_with(&self.slots, &mut self.first, position);
     }
 
-    /// The id has no index any more: the answer is the one that it had. No slot is moved. O(1) where one of two looks finds it, else
-    /// O(log n); where it was the first that is here, the slots of those that are gone behind it are passed by. Takes no memory.
+    /// The id has no index any more: the answer is the one that it had. No slot is moved. O(1) where one of two looks finds it,
+    /// else O(log n); where it was the first that is here, the slots of those that are gone behind it are passed by. Takes no
+    /// memory.
     #[inline(always)]
     pub fn remove(&mut self, id: CyclicId) -> Index
         requires { ¬ (index_of id self.old.entries ≡ None) }

@@ -7,13 +7,15 @@ use crate::slots::Slot;
 use cyc_types::CyclicId;
 use std::alloc::{AllocError, Global};
 
-/// How many far hints there are, where there are any: enough that ids a few apart, of as many cyclics as a CPU has, mostly don't share one.
+/// How many far hints there are, where there are any: enough that ids a few apart, of as many cyclics as a CPU has, mostly don't
+/// share one.
 const FAR: usize = 8192;
 
-/// For the low bits of an id, with those above them added, where the slot of the last such one was: right or not, it says where to look.
+/// For the low bits of an id, with those above them added, where the slot of the last such one was: right or not, it says where
+/// to look.
 ///
-/// The near hints are few and stand in the hints themselves, so that a look at one needs no other read. Where more cyclics may be here
-/// than they are, there are far hints too.
+/// The near hints are few and stand in the hints themselves, so that a look at one needs no other read. Where more cyclics may be
+/// here than they are, there are far hints too.
 #[derive(Drop)]
 pub(crate) struct Hints {
     near: [u16; HINTS],
@@ -35,8 +37,8 @@ fn far_of(id: CyclicId) -> usize {
 }
 
 impl Hints {
-    /// Near hints alone, in memory of their own, so that a finder that is moved copies little. By a call, so that what calls it has no room
-    /// for them on its stack.
+    /// Near hints alone, in memory of their own, so that a finder that is moved copies little. By a call, so that what calls it
+    /// has no room for them on its stack.
     #[cold]
     #[inline(never)]
     pub(crate) fn new(alloc: Global) -> Result<Box<Hints>, AllocError> {
@@ -90,7 +92,8 @@ impl Hints {
         }
     }
 
-    /// The slots from one position up to another are where they are: the first `HINTS` of them, since there are no more near hints.
+    /// The slots from one position up to another are where they are: the first `HINTS` of them, since there are no more near
+    /// hints.
     pub(crate) fn set_few(&mut self, slots: &[Slot], from: usize, to: usize)
         requires { to ≤ length slots.now }
     {

@@ -1,8 +1,9 @@
 //! The look-up by id, for all that keeps cyclics in the order of their ids.
 //!
-//! `search` finds the position of an id among things whose ids rise; `search_near` looks at a hinted position first, and `search_new`
-//! at the last. `guess` and `stands_at` are first looks by themselves, and `search_unguessed` is what follows a guess that was wrong.
-//! `Finder` is the map from the ids of cyclics to their indexes, in which coming and going moves nothing as long as ids rise.
+//! `search` finds the position of an id among things whose ids rise; `search_near` looks at a hinted position first, and
+//! `search_new` at the last. `guess` and `stands_at` are first looks by themselves, and `search_unguessed` is what follows a
+//! guess that was wrong. `Finder` is the map from the ids of cyclics to their indexes, in which coming and going moves nothing as
+//! long as ids rise.
 #![tactic(auto)]
 
 pub mod finder;

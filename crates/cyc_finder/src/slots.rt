@@ -1,11 +1,12 @@
 //! The slots of a finder: looking an id up among them, putting one in, and dropping those that are gone.
 
-ghost use Rattle.std.specs.Prelude.{◌≡◌, ◌≢◌, ℕ, ◌+◌, ◌-◌, ◌<◌, ◌≤◌, ◌⊎◌, length, slice_index_or, None, Some, IfSome, IfNone, IfOk, IfErr};
+ghost use Rattle.std.specs.Prelude.{◌≡◌, ◌≢◌, ℕ, ◌+◌, ◌-◌, ◌<◌, ◌≤◌, ◌⊎◌, length, slice_index_or, None, Some};
+ghost use Rattle.std.specs.Prelude.{IfSome, IfNone, IfOk, IfErr};
 ghost use Rattle.std.specs.Prelude.{insert, remove, vec_capacity};
 ghost use Rattle.std.specs.List.{AllWithin, HoldsAt, SameBelow};
 ghost use Rattle.cyc_finder.specs.Sorted.{Rises, IsAt, IsGap, IsPassed, ComesAfter};
 ghost use Rattle.cyc_finder.specs.Indexes.{id_in, index_of};
-ghost use Rattle.cyc_finder.specs.Slots.{slot_id, entries_of, IsGone, IsFirst};
+ghost use Rattle.cyc_finder.specs.Slots.{slot_id, entries_of, IsGoneSlot, IsFirst};
 
 use crate::hints::Hints;
 use crate::sorted::{HasId, is_above_all, search, search_unguessed, stands_at};
@@ -51,8 +52,8 @@ pub(crate) fn quick(slots: &[Slot], base: u64, hints: &Hints, id: CyclicId) -> O
     None
 }
 
-/// Where the slot of this id stands, or where it would stand, where `quick` did not find it: by a look where a far hint says, and then by
-/// halving. O(log n).
+/// Where the slot of this id stands, or where it would stand, where `quick` did not find it: by a look where a far hint says, and
+/// then by halving. O(log n).
 #[inline(always)]
 pub(crate) fn sought(slots: &[Slot], hints: &Hints, id: CyclicId) -> Result<usize, usize>
     requires { Rises slot_id slots.now }
@@ -98,7 +99,7 @@ pub(crate) fn next_here(slots: &[Slot], from: usize) -> usize
     requires { from ≤ length slots.now }
     ensures after { from ≤ result }
     ensures within { result ≤ length slots.now }
-    ensures gone { AllWithin IsGone slots.now from result }
+    ensures gone { AllWithin IsGoneSlot slots.now from result }
     ensures here { result < length slots.now → HoldsAt (λ slot. slot.index ≢ None) slots.now result }
 {
     let mut position = from;
@@ -108,8 +109,9 @@ pub(crate) fn next_here(slots: &[Slot], from: usize) -> usize
     position
 }
 
-/// The first position to which a walk comes that has passed this id, the first of all where it has passed none. O(log n).
-pub(crate) fn after(slots: &[Slot], passed: Option<CyclicId>) -> usize
+/// The first position to which a walk comes that has passed this id, the first of all where it has passed none. O(1) where
+/// `quick` finds the id, else O(log n).
+pub(crate) fn after(slots: &[Slot], base: u64, hints: &Hints, passed: Option<CyclicId>) -> usize
     requires { Rises slot_id slots.now }
     ensures within { result ≤ length slots.now }
     ensures before { AllWithin (λ slot. IsPassed passed slot.id) slots.now 0 result }
@@ -118,6 +120,9 @@ pub(crate) fn after(slots: &[Slot], passed: Option<CyclicId>) -> usize
     let Some(id) = passed else {
         return 0;
     };
+    if let Some(position) = quick(slots, base, hints, id) {
+        return position + 1;
+    }
     match search(slots, id) {
         Ok(position) => position + 1,
         Err(position) => position,
@@ -140,7 +145,7 @@ fn base_at(slots: &[Slot], position: usize) -> u64
 pub(crate) fn first_from(slots: &[Slot], position: usize) -> First
     requires rises { Rises slot_id slots.now }
     requires within { position ≤ length slots.now }
-    requires gone { AllWithin IsGone slots.now 0 position }
+    requires gone { AllWithin IsGoneSlot slots.now 0 position }
     ensures { IsFirst slots.now result }
 {
     let here = next_here(slots, position);
@@ -155,7 +160,7 @@ pub(crate) fn first_from(slots: &[Slot], position: usize) -> First
 pub(crate) fn first_without(slots: &[Slot], first: &mut First, position: usize)
     requires rises { Rises slot_id slots.now }
     requires within { position < length slots.now }
-    requires gone { position ≡ first.old.position → AllWithin IsGone slots.now 0 (position + 1) }
+    requires gone { position ≡ first.old.position → AllWithin IsGoneSlot slots.now 0 (position + 1) }
     requires other { position ≢ first.old.position → IsFirst slots.now first.old }
     ensures { IsFirst slots.now first.new }
 {
@@ -170,7 +175,7 @@ pub(crate) fn first_with(slots: &[Slot], first: &mut First, position: usize)
     requires rises { Rises slot_id slots.now }
     requires within { position < length slots.now }
     requires here { HoldsAt (λ slot. slot.index ≢ None) slots.now position }
-    requires gone { position ≤ first.old.position → AllWithin IsGone slots.now 0 position }
+    requires gone { position ≤ first.old.position → AllWithin IsGoneSlot slots.now 0 position }
     requires other { first.old.position < position → IsFirst slots.now first.old }
     ensures { IsFirst slots.now first.new }
 {
@@ -186,7 +191,7 @@ pub(crate) fn first_with(slots: &[Slot], first: &mut First, position: usize)
 fn pack(slots: &mut Vec<Slot>, position: usize)
     requires rises { Rises slot_id slots.old.items }
     requires within { position ≤ length slots.old.items }
-    requires gone { AllWithin IsGone slots.old.items 0 position }
+    requires gone { AllWithin IsGoneSlot slots.old.items 0 position }
     ensures entries { entries_of slots.new.items ≡ entries_of slots.old.items }
     ensures rises { Rises slot_id slots.new.items }
     ensures len { length slots.new.items ≡ length (entries_of slots.old.items) }
@@ -218,8 +223,8 @@ fn pack_all(slots: &mut Vec<Slot>, hints: &mut Hints, first: First) -> First
     first_from(slots, 0)
 }
 
-/// Where no more slots fit, drops those whose cyclics are gone, and says which is the first that is here. More go than may be here,
-/// so that for each cyclic that came it costs O(1) on average.
+/// Where no more slots fit, drops those whose cyclics are gone, and says which is the first that is here. More go than may be
+/// here, so that for each cyclic that came it costs O(1) on average.
 #[inline(always)]
 pub(crate) fn make_way(slots: &mut Vec<Slot>, hints: &mut Hints, first: &mut First)
     requires rises { Rises slot_id slots.old.items }
@@ -236,7 +241,8 @@ pub(crate) fn make_way(slots: &mut Vec<Slot>, hints: &mut Hints, first: &mut Fir
     }
 }
 
-/// Puts in a cyclic of this id and index, and says where: behind the last where its id is above all others, else by `put_between`.
+/// Puts in a cyclic of this id and index, and says where: behind the last where its id is above all others, else by
+/// `put_between`.
 #[inline(always)]
 pub(crate) fn put(slots: &mut Vec<Slot>, hints: &mut Hints, id: CyclicId, index: Index) -> usize
     requires rises { Rises slot_id slots.old.items }
@@ -267,7 +273,7 @@ fn next_gone(slots: &[Slot], from: usize) -> usize
     ensures after { from ≤ result }
     ensures within { result ≤ length slots.now }
     ensures here { AllWithin (λ slot. slot.index ≢ None) slots.now from result }
-    ensures gone { result < length slots.now → HoldsAt IsGone slots.now result }
+    ensures gone { result < length slots.now → HoldsAt IsGoneSlot slots.now result }
 {
     let mut position = from;
     while position < slots.len() && slots[position].index.is_some() {
@@ -280,7 +286,7 @@ fn next_gone(slots: &[Slot], from: usize) -> usize
 #[inline(always)]
 fn way_in(slots: &[Slot], gap: usize) -> usize
     requires { gap ≤ length slots.now }
-    ensures { (result ≡ gap) ⊎ ((result + 1 ≡ gap) × HoldsAt IsGone slots.now result) }
+    ensures { (result ≡ gap) ⊎ ((result + 1 ≡ gap) × HoldsAt IsGoneSlot slots.now result) }
 {
     if gap > 0 && slots[gap - 1].index.is_none() {
         return gap - 1;
@@ -288,7 +294,8 @@ fn way_in(slots: &[Slot], gap: usize) -> usize
     gap
 }
 
-/// Puts a slot in at this position: those from there on move up by one, over that of a cyclic that is gone, and those behind that stay.
+/// Puts a slot in at this position: those from there on move up by one, over that of a cyclic that is gone, and those behind that
+/// stay.
 fn move_up(slots: &mut Vec<Slot>, position: usize, gone: usize, slot: Slot)
     requires up { position ≤ gone }
     requires within { gone < length slots.old.items }
@@ -299,9 +306,9 @@ fn move_up(slots: &mut Vec<Slot>, position: usize, gone: usize, slot: Slot)
     slots[position] = slot;
 }
 
-/// As `put`, at any id: where its slot is if that is still there, else between two. Where the lower of these is of a cyclic that is
-/// gone it takes that over, and moves none. Else those above it move up by one, over the next that is gone, all of them where none is,
-/// and the first `HINTS` of them get their hints: O(log n) where one that is gone is near, else O(n).
+/// As `put`, at any id: where its slot is if that is still there, else between two. Where the lower of these is of a cyclic that
+/// is gone it takes that over, and moves none. Else those above it move up by one, over the next that is gone, all of them where
+/// none is, and the first `HINTS` of them get their hints: O(log n) where one that is gone is near, else O(n).
 #[cold]
 #[inline(never)]
 fn put_between(slots: &mut Vec<Slot>, hints: &mut Hints, id: CyclicId, index: Index) -> usize

@@ -40,7 +40,8 @@ pub fn stands_at<T: HasId>(things: &[T], id: CyclicId, position: usize) -> bool
     position < things.len() && things[position].id().number() == id.number()
 }
 
-/// Where the thing of this id stands, by one look, as far from the first as the id is from its id: None unless it stands there. O(1).
+/// Where the thing of this id stands, by one look, as far from the first as the id is from its id: None unless it stands there.
+/// O(1).
 #[inline(always)]
 pub fn guess<T: HasId>(things: &[T], id: CyclicId) -> Option<usize>
     ensures some { IfSome result (IsAt T.id_of things.now id) }
@@ -131,7 +132,8 @@ fn settled<T: HasId>(things: &[T], id: CyclicId, run: Run) -> Result<usize, usiz
     Err(run.base + usize::from(there < id.number()))
 }
 
-/// As `search`, among many, with no guess. It is called where the guess was wrong, so that what calls `search` keeps no registers for it.
+/// As `search`, among many, with no guess. It is called where the guess was wrong, so that what calls `search` keeps no registers
+/// for it.
 #[cold]
 #[inline(never)]
 fn search_many<T: HasId>(things: &[T], id: CyclicId) -> Result<usize, usize>

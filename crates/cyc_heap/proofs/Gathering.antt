@@ -8,7 +8,7 @@ use Rattle.std.proofs.lemmas.List.Sums.{sum_by-append}
 use Rattle.cyc_types.specs.Series.{never}
 use Rattle.cyc_types.specs.Expirations.{Expiration}
 use Rattle.cyc_heap.specs.declared.entry.Entry.{Entry}
-use Rattle.cyc_heap.specs.Tournament.{nowhere, entry_at, index_of, slot, slots, comes}
+use Rattle.cyc_heap.specs.Tournament.{nowhere, entry_at, cyclic_index, slot, slots, comes}
 use Rattle.cyc_heap.specs.Few.{shown, IsHeap, IsHeapBut, IsFilled, IsTree}
 use Rattle.cyc_heap.proofs.Slots.{slots_kept, slots_more, one_more, slot_used, slot_free, count_with_free}
 use Rattle.cyc_heap.proofs.Moving.{child_low}
@@ -20,8 +20,8 @@ pub record IsGathered (old : List Entry) (position held : ℕ) (es : List Entry)
   pub long : length es ≡ length old
   pub low : held ≤ position
   pub heap : IsHeap (take held es)
-  pub from : (p : ℕ) → p < held → (index_of (entry_at es p) < position)
-      × (entry_at old (index_of (entry_at es p)) ≡ entry_at es p) × ((entry_at es p).moment ≤ never)
+  pub from : (p : ℕ) → p < held → (cyclic_index (entry_at es p) < position)
+      × (entry_at old (cyclic_index (entry_at es p)) ≡ entry_at es p) × ((entry_at es p).moment ≤ never)
   pub to : (k : ℕ) → k < position → (entry_at old k).moment ≤ never → (p : ℕ) × (p < held) × (entry_at es p ≡ entry_at old k)
   pub behind : (p : ℕ) → held ≤ p → entry_at es p ≡ entry_at old p
   pub count : held ≡ count_by is_some (slots position old)
@@ -69,7 +69,7 @@ module _ (old : List Entry) (position held : ℕ) (es : List Entry) (h : IsGathe
         let count = h.count in omega (arith, one, none, count);
   }
 
-  module _ (used : e.moment ≤ never) (mine : index_of e ≡ position) where
+  module _ (used : e.moment ≤ never) (mine : cyclic_index e ≡ position) where
     space : held + 1 ≤ length es
     space = let l = h.low in let n = h.long in omega (arith, l, n, inside)
 
@@ -89,12 +89,17 @@ module _ (old : List Entry) (position held : ℕ) (es : List Entry) (h : IsGathe
           subst₂ (λ a b. comes a b ≡ true) (sym (as_front a (omega (arith, less, low, n, off))))
           (sym (as_front c (omega (arith, low, n, off)))) (h.heap.rising a c is (omega (arith, low, n, l, off))));
       bridge = λ a c _ is low. absurd (let less = child_low held c is in omega (arith, less, low, n));
-      apart = λ p q a b off_p off_q ne. subst₂ (λ a b. index_of a ≢ index_of b) (sym (as_front p (omega (arith, a, n, off_p))))
+      apart = λ p q a b off_p off_q ne. subst₂ (λ a b. cyclic_index a ≢ cyclic_index b) (sym (as_front p (omega (
+        arith,
+        a,
+        n,
+        off_p,
+      ))))
           (sym (as_front q (omega (arith, b, n, off_q))))
           (h.heap.apart p q (omega (arith, a, n, l, off_p)) (omega (arith, b, n, l, off_q)) ne);
     }
 
-    pub gather_apart : (p : ℕ) → p < held + 1 → p ≢ held → index_of (entry_at es p) ≢ index_of e
+    pub gather_apart : (p : ℕ) → p < held + 1 → p ≢ held → cyclic_index (entry_at es p) ≢ cyclic_index e
     gather_apart p low off same = (let (less, _, _) = h.from p (omega (arith, low, off)) in omega (arith, less, same, mine))
 
     module _ (new : List Entry) (long : length new ≡ length es) (heap : IsHeap (take (held + 1) new))
@@ -109,7 +114,7 @@ module _ (old : List Entry) (position held : ℕ) (es : List Entry) (h : IsGathe
         heap = heap;
         from = λ p low. let at = front (held + 1) new p low in elim (f.from p (omega (arith, low, n))) [
           | inl is ↦ (let same : entry_at new p ≡ e = sym at ∙ is in
-              let i = ap index_of same in
+              let i = ap cyclic_index same in
               let m = ap (λ (e : Entry). e.moment) same in (
                 omega (arith, i, mine),
                 ap (entry_at old) (i ∙ mine) ∙ leaf ∙ sym same,
@@ -118,7 +123,7 @@ module _ (old : List Entry) (position held : ℕ) (es : List Entry) (h : IsGathe
           | inr (q, within, off, is) ↦ (let less : q < held = omega (arith, within, off, l) in
               let same : entry_at new p ≡ entry_at es q = sym at ∙ is ∙ front (held + 1) es q (omega (arith, less)) in
               let (low_q, at_q, used_q) = h.from q less in
-              let i = ap index_of same in
+              let i = ap cyclic_index same in
               let m = ap (λ (e : Entry). e.moment) same in (
                 omega (arith, i, low_q),
                 ap (entry_at old) i ∙ at_q ∙ sym same,
@@ -151,7 +156,7 @@ module _ (old : List Entry) (position held : ℕ) (es : List Entry) (h : IsGathe
 
 -- all leaves were looked at
 module _ (leaves : ℕ) (old : List Entry) (held : ℕ) (es : List Entry) (h : IsGathered old leaves held es) (some : 0 < leaves)
-    (own : (i : ℕ) → i < leaves → (entry_at old i).moment ≤ never → index_of (entry_at old i) ≡ i)
+    (own : (i : ℕ) → i < leaves → (entry_at old i).moment ≤ never → cyclic_index (entry_at old i) ≡ i)
     (t : IsTree false 0 leaves old) where
   inside : held ≤ length es
   inside = let l = t.long in let n = h.long in let low = h.low in omega (arith, l, n, low, some)
@@ -159,10 +164,10 @@ module _ (leaves : ℕ) (old : List Entry) (held : ℕ) (es : List Entry) (h : I
   held_long : length (take held es) ≡ held
   held_long = front_long held es inside
 
-  low : (p : ℕ) → p < length (take held es) → index_of (entry_at (take held es) p) < leaves
+  low : (p : ℕ) → p < length (take held es) → cyclic_index (entry_at (take held es) p) < leaves
   low p at = let n = held_long in
       let (less, _, _) = h.from p (omega (arith, at, n)) in
-      let i = ap index_of (front held es p (omega (arith, at, n))) in omega (arith, i, less)
+      let i = ap cyclic_index (front held es p (omega (arith, at, n))) in omega (arith, i, less)
 
   used : (p : ℕ) → p < length (take held es) → (entry_at (take held es) p).moment ≤ never
   used p at = let n = held_long in
@@ -185,12 +190,12 @@ module _ (leaves : ℕ) (old : List Entry) (held : ℕ) (es : List Entry) (h : I
         let (_, leaf, _) = h.from p (omega (arith, at, n)) in
         ap (entry_at (shown true held es)) (sym is)
         ∙ stands (take held es) leaves (length es) h.heap low used (omega (arith, l)) p at ∙ same ∙ sym leaf
-        ∙ ap (entry_at old) (sym (ap index_of same) ∙ is))
+        ∙ ap (entry_at old) (sym (ap cyclic_index same) ∙ is))
     | inr none ↦ free_else (take held es) leaves (length es) h.heap low used (omega (arith, l)) i (omega (arith, less, l)) none
         ∙ sym (elim (cases_lt never (entry_at old i).moment) [
           | inl unused ↦ t.bare i less unused
           | inr has ↦ absurd (let (p, at, same) = h.to i less has in
-              none p (omega (arith, at, n)) (ap index_of (front held es p at ∙ same) ∙ own i less has))
+              none p (omega (arith, at, n)) (ap cyclic_index (front held es p at ∙ same) ∙ own i less has))
         ])
   ]
 

@@ -4,7 +4,7 @@ use Rattle.std.proofs.Common.{Some, is_some, count_by, refl, sym, ap, ◌∙◌,
 use Rattle.std.proofs.lemmas.Bool.{cases_lt}
 use Rattle.cyc_types.specs.Series.{never}
 use Rattle.cyc_heap.specs.declared.entry.Entry.{Entry}
-use Rattle.cyc_heap.specs.Tournament.{entry_at, index_of, slots, last_position, winner_of, comes}
+use Rattle.cyc_heap.specs.Tournament.{entry_at, cyclic_index, slots, last_position, winner_of, comes}
 use Rattle.cyc_heap.specs.Tournament.{IsPlayed, IsListed}
 use Rattle.cyc_heap.proofs.Slots.{slots_kept}
 use Rattle.cyc_heap.proofs.Playing.{comes_antisym, least_of_all, one_of_all}
@@ -27,7 +27,7 @@ pub kept_listed : (size : ℕ) (xs ys : List Entry) (free : List ℕ) → size �
 kept_listed size xs ys free long_xs long_ys same h = record {
   own = λ i low used. (let at = same i low in
       let m = ap (λ (e : Entry). e.moment) at in
-      ap index_of at ∙ h.own i low (omega (arith, m, used)));
+      ap cyclic_index at ∙ h.own i low (omega (arith, m, used)));
   low = h.low;
   none = λ p at. (let m = ap (λ (e : Entry). e.moment) (same (get_or free p 0) (h.low p at)) in
       let was = h.none p at in omega (arith, m, was));
@@ -59,6 +59,6 @@ module _ (leaves more : ℕ) (xs ys : List Entry) (played : IsPlayed leaves xs) 
         (least_of_all leaves xs played i low_old) in
         let eq = comes_antisym (entry_at ys (last_position more)) (entry_at xs (last_position leaves)) not_later not_earlier in
         let n = ap (λ (e : Entry). e.moment) eq in
-        winner_used more ys (omega (arith, used)) ∙ ap (λ (e : Entry). Some (index_of e)) eq
+        winner_used more ys (omega (arith, used)) ∙ ap (λ (e : Entry). Some (cyclic_index e)) eq
         ∙ sym (winner_used leaves xs (omega (arith, n, used))))
   ]

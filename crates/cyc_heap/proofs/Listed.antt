@@ -9,8 +9,8 @@ use Rattle.std.proofs.lemmas.List.Sums.{sum_by-append}
 use Rattle.cyc_types.specs.Series.{never}
 use Rattle.cyc_types.specs.Expirations.{Expiration}
 use Rattle.cyc_heap.specs.declared.entry.Entry.{Entry}
-use Rattle.cyc_heap.specs.Tournament.{key, entry_at, index_of, free_entry, slot, slots, IsPlayed, IsListed}
-use Rattle.cyc_heap.specs.Few.{IsFew, IsTournament}
+use Rattle.cyc_heap.specs.Tournament.{key, entry_at, cyclic_index, free_entry, slot, slots, IsPlayed, IsListed}
+use Rattle.cyc_heap.specs.Few.{IsFew, IsTournament, extent}
 use Rattle.cyc_heap.proofs.Slots.{length-slots, slots_at, slots_set, slots_kept, one_more, slot_used, slot_free}
 use Rattle.cyc_heap.proofs.Views.{count_same, count_more, count_less}
 
@@ -24,16 +24,16 @@ module _ (size : ℕ) (xs ys : List Entry) (x : ℕ) (e : Entry) (long_xs : size
   had : get_or (slots size xs) x None ≡ slot (entry_at xs x)
   had = slots_at size xs long_xs x None low
 
-  own_after : ((i : ℕ) → i < size → (entry_at xs i).moment ≤ never → index_of (entry_at xs i) ≡ i)
-      → (e.moment ≤ never → index_of e ≡ x)
-      → (i : ℕ) → i < size → (entry_at ys i).moment ≤ never → index_of (entry_at ys i) ≡ i
+  own_after : ((i : ℕ) → i < size → (entry_at xs i).moment ≤ never → cyclic_index (entry_at xs i) ≡ i)
+      → (e.moment ≤ never → cyclic_index e ≡ x)
+      → (i : ℕ) → i < size → (entry_at ys i).moment ≤ never → cyclic_index (entry_at ys i) ≡ i
   own_after own mine i within used = elim (cases_eq i x) [
     | inl is ↦ (let at : entry_at ys i ≡ e = ap (entry_at ys) is ∙ here in
         let moment = ap (λ (e : Entry). e.moment) at in
-        ap index_of at ∙ mine (omega (arith, moment, used)) ∙ sym is)
+        ap cyclic_index at ∙ mine (omega (arith, moment, used)) ∙ sym is)
     | inr off ↦ (let at = others i within off in
         let moment = ap (λ (e : Entry). e.moment) at in
-        ap index_of at ∙ own i within (omega (arith, moment, used)))
+        ap cyclic_index at ∙ own i within (omega (arith, moment, used)))
   ]
 
   -- a leaf that stays free
@@ -42,7 +42,7 @@ module _ (size : ℕ) (xs ys : List Entry) (x : ℕ) (e : Entry) (long_xs : size
       omega (arith, moment, free))
 
   -- it had a moment, and has another one
-  pub moved : (free : List ℕ) → IsListed size xs free → (entry_at xs x).moment ≤ never → e.moment ≤ never → index_of e ≡ x
+  pub moved : (free : List ℕ) → IsListed size xs free → (entry_at xs x).moment ≤ never → e.moment ≤ never → cyclic_index e ≡ x
       → IsListed size ys free
   moved free h used uses mine = record {
     own = own_after h.own (λ _. mine);
@@ -56,7 +56,7 @@ module _ (size : ℕ) (xs ys : List Entry) (x : ℕ) (e : Entry) (long_xs : size
   }
 
   -- it was the last free one, and has a moment
-  pub taken : (free : List ℕ) → IsListed size xs (free ++ x ∷ []) → e.moment ≤ never → index_of e ≡ x → IsListed size ys free
+  pub taken : (free : List ℕ) → IsListed size xs (free ++ x ∷ []) → e.moment ≤ never → cyclic_index e ≡ x → IsListed size ys free
   taken free h uses mine =
       let more = length_push free x in
       let last : get_or (free ++ x ∷ []) (length free) 0 ≡ x = get_or_push free x 0 (length free) refl in
@@ -118,14 +118,14 @@ module _ (size : ℕ) (xs ys : List Entry) (x : ℕ) (e : Entry) (long_xs : size
 
 -- the next index was never given, and none is free again
 pub first : (given : ℕ) (xs ys : List Entry) (e : Entry) → given ≤ length xs → given < length ys → entry_at ys given ≡ e
-    → ((i : ℕ) → i < given → entry_at ys i ≡ entry_at xs i) → IsListed given xs [] → e.moment ≤ never → index_of e ≡ given
+    → ((i : ℕ) → i < given → entry_at ys i ≡ entry_at xs i) → IsListed given xs [] → e.moment ≤ never → cyclic_index e ≡ given
     → IsListed (given + 1) ys []
 first given xs ys e long_xs long_ys here same h uses mine = record {
   own = λ i low used. elim (cases_eq i given) [
-    | inl is ↦ ap index_of (ap (entry_at ys) is ∙ here) ∙ mine ∙ sym is
+    | inl is ↦ ap cyclic_index (ap (entry_at ys) is ∙ here) ∙ mine ∙ sym is
     | inr off ↦ (let at = same i (omega (arith, low, off)) in
         let moment = ap (λ (e : Entry). e.moment) at in
-        ap index_of at ∙ h.own i (omega (arith, low, off)) (omega (arith, moment, used)))
+        ap cyclic_index at ∙ h.own i (omega (arith, low, off)) (omega (arith, moment, used)))
   ];
   low = λ p at. absurd (omega (arith, at));
   none = λ p at. absurd (omega (arith, at));
@@ -144,7 +144,7 @@ IsNext given free x given_after free_after = ((free ≡ free_after ++ x ∷ []) 
     ⊎ ((free ≡ []) × (free_after ≡ []) × (x ≡ given) × (given_after ≡ given + 1))
 
 module _ (is_few : Bool) (few : List Entry) (leaves size given : ℕ) (xs : List Entry) (free : List ℕ) (x given_after : ℕ)
-    (free_after : List ℕ) (h : IsTournament is_few few leaves size given xs free)
+    (free_after : List ℕ) (h : IsTournament is_few few (extent leaves size given) xs free)
     (next : IsNext given free x given_after free_after)
     (left : given < size + length free) where
   -- it is free
@@ -171,7 +171,7 @@ module _ (is_few : Bool) (few : List Entry) (leaves size given : ℕ) (xs : List
 
   -- and it is used from now on
   pub next_used : (ys : List Entry) (e : Entry) → length ys ≡ length xs → entry_at ys x ≡ e
-      → ((i : ℕ) → i < leaves → i ≢ x → entry_at ys i ≡ entry_at xs i) → e.moment ≤ never → index_of e ≡ x
+      → ((i : ℕ) → i < leaves → i ≢ x → entry_at ys i ≡ entry_at xs i) → e.moment ≤ never → cyclic_index e ≡ x
       → IsListed given_after ys free_after
   next_used ys e same_length here others uses mine = (let known = h.known in
       let wide = h.wide in
@@ -194,12 +194,12 @@ module _ (is_few : Bool) (few : List Entry) (leaves size given : ℕ) (xs : List
 -- the tournament after it
 pub after : (was is_few : Bool) (few_was few : List Entry) (leaves size given given_after : ℕ) (xs ys : List Entry)
     (free free_after : List ℕ) (x : ℕ) (e : Entry)
-    → IsTournament was few_was leaves size given xs free → length ys ≡ length xs
+    → IsTournament was few_was (extent leaves size given) xs free → length ys ≡ length xs
     → (is_few ≡ true → IsFew few leaves ys) → (is_few ≡ false → IsPlayed leaves ys)
     → entry_at ys x ≡ e → (never < e.moment → e ≡ free_entry)
     → ((i : ℕ) → i < leaves → i ≢ x → entry_at ys i ≡ entry_at xs i)
     → x < given_after → given ≤ given_after → given_after ≤ size
-    → IsListed given_after ys free_after → IsTournament is_few few leaves size given_after ys free_after
+    → IsListed given_after ys free_after → IsTournament is_few few (extent leaves size given_after) ys free_after
 after was is_few few_was few leaves size given given_after xs ys free free_after x e h same heap played here bare others low
     more known listed = record {
       some = h.some;

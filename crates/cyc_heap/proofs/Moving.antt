@@ -5,7 +5,7 @@ use Rattle.std.proofs.Math.ListN.{set}
 use Rattle.std.proofs.lemmas.Bool.{cases_eq, cases_lt}
 use Rattle.std.proofs.lemmas.List.{length-set, get_or-set_same, get_or-set_other}
 use Rattle.cyc_heap.specs.declared.entry.Entry.{Entry}
-use Rattle.cyc_heap.specs.Tournament.{nowhere, entry_at, index_of, comes}
+use Rattle.cyc_heap.specs.Tournament.{nowhere, entry_at, cyclic_index, comes}
 use Rattle.cyc_heap.specs.Few.{IsChild, IsHeap, IsHeapBut, IsBelow, IsSame, IsFilled}
 use Rattle.cyc_heap.proofs.Playing.{comes_self, comes_trans}
 
@@ -19,7 +19,7 @@ one_parent a b c (inl h) (inr k) = omega (arith, h, k)
 one_parent a b c (inr h) (inl k) = omega (arith, h, k)
 one_parent a b c (inr h) (inr k) = omega (arith, h, k)
 
--- each place but the first has one above it
+-- each position but the first has one above it
 pub parent : (c : ℕ) → 0 < c → IsChild ((c - 1) / 2) c
 parent c some = elim (cases_lt ((c - 1) % 2) 1)
     [ inl even ↦ inl (omega (arith, even, some)) | inr odd ↦ inr (omega (arith, odd, some)) ]
@@ -28,11 +28,11 @@ both : (a b c d : Entry) → a ≡ c → b ≡ d → comes c d ≡ true → come
 both a b c d e k h = subst₂ (λ x y. comes x y ≡ true) (sym e) (sym k) h
 
 -- the child that comes first comes before both
-pub first_of_both : (place m : ℕ) (few : List Entry) → comes (entry_at few m) (entry_at few (2 * place + 1)) ≡ true
-    → (2 * place + 2 < length few → comes (entry_at few m) (entry_at few (2 * place + 2)) ≡ true)
-    → (c : ℕ) → IsChild place c → c < length few → comes (entry_at few m) (entry_at few c) ≡ true
-first_of_both place m few left right c (inl eq) low = subst (λ c. comes (entry_at few m) (entry_at few c) ≡ true) (sym eq) left
-first_of_both place m few left right c (inr eq) low =
+pub first_of_both : (position m : ℕ) (few : List Entry) → comes (entry_at few m) (entry_at few (2 * position + 1)) ≡ true
+    → (2 * position + 2 < length few → comes (entry_at few m) (entry_at few (2 * position + 2)) ≡ true)
+    → (c : ℕ) → IsChild position c → c < length few → comes (entry_at few m) (entry_at few c) ≡ true
+first_of_both position m few left right c (inl eq) low = subst (λ c. comes (entry_at few m) (entry_at few c) ≡ true) (sym eq) left
+first_of_both position m few left right c (inr eq) low =
     subst (λ c. comes (entry_at few m) (entry_at few c) ≡ true) (sym eq) (right (omega (arith, eq, low)))
 
 -- the first comes before all
@@ -49,17 +49,17 @@ first_least few h p low = to p (suc p) low (omega arith)
         (to ((suc q - 1) / 2) bound (omega (arith, l, low)) (omega (arith, l, near)))
         (h.rising ((suc q - 1) / 2) (suc q) above low)
 
--- any place may become the hole
-pub hole_made : (place : ℕ) (few : List Entry) → IsHeap few → place < length few → IsHeapBut place few
-hole_made place few h low = record {
+-- any position may become the hole
+pub hole_made : (position : ℕ) (few : List Entry) → IsHeap few → position < length few → IsHeapBut position few
+hole_made position few h low = record {
   rising = λ a c is low_c _ _. h.rising a c is low_c;
-  bridge = λ a c is_place is_c low_c. comes_trans (entry_at few a) (entry_at few place) (entry_at few c)
-      (h.rising a place is_place low) (h.rising place c is_c low_c);
+  bridge = λ a c is_position is_c low_c. comes_trans (entry_at few a) (entry_at few position) (entry_at few c)
+      (h.rising a position is_position low) (h.rising position c is_c low_c);
   apart = λ p q low_p low_q _ _ off. h.apart p q low_p low_q off;
 }
 
-pub same_self : (place : ℕ) (few : List Entry) → IsSame place few place few
-same_self place few = record {
+pub same_self : (position : ℕ) (few : List Entry) → IsSame position few position few
+same_self position few = record {
   long = refl;
   from = λ p low off. (p, low, off, refl);
   to = λ q low off. (q, low, off, refl);
@@ -85,8 +85,8 @@ module _ (few : List Entry) (hole next : ℕ) (within : next < length few) (in_h
     | inr else ↦ (p, omega (arith, low, l), else, other p else)
   ]
 
-  pub same_after : (place : ℕ) (old : List Entry) → IsSame place old hole few → IsSame place old next moved
-  same_after place old h = record {
+  pub same_after : (position : ℕ) (old : List Entry) → IsSame position old hole few → IsSame position old next moved
+  same_after position old h = record {
     long = moved_long ∙ h.long;
     from = λ p low apart. (let (q, within, far, is) = was p low apart in
         let (k, inside, out, at) = h.from q within far in (k, inside, out, is ∙ at));
@@ -100,17 +100,17 @@ module _ (few : List Entry) (hole next : ℕ) (within : next < length few) (in_h
 
   module _ (h : IsHeapBut hole few) where
     apart_after : (p q : ℕ) → p < length moved → q < length moved → p ≢ next → q ≢ next → p ≢ q
-        → index_of (entry_at moved p) ≢ index_of (entry_at moved q)
+        → cyclic_index (entry_at moved p) ≢ cyclic_index (entry_at moved q)
     apart_after p q low_p low_q a b ne = let l = moved_long in elim (cases_eq p hole) [
       | inl is ↦ elim (cases_eq q hole) [
         | inl at ↦ absurd (ne (is ∙ sym at))
-        | inr far ↦ subst₂ (λ a b. index_of a ≢ index_of b) (sym (ap (entry_at moved) is ∙ here)) (sym (other q far))
+        | inr far ↦ subst₂ (λ a b. cyclic_index a ≢ cyclic_index b) (sym (ap (entry_at moved) is ∙ here)) (sym (other q far))
             (h.apart next q within (omega (arith, low_q, l)) off far (λ e. b (sym e)))
       ]
       | inr else ↦ elim (cases_eq q hole) [
-        | inl at ↦ subst₂ (λ a b. index_of a ≢ index_of b) (sym (other p else)) (sym (ap (entry_at moved) at ∙ here))
+        | inl at ↦ subst₂ (λ a b. cyclic_index a ≢ cyclic_index b) (sym (other p else)) (sym (ap (entry_at moved) at ∙ here))
             (h.apart p next (omega (arith, low_p, l)) within else off a)
-        | inr far ↦ subst₂ (λ a b. index_of a ≢ index_of b) (sym (other p else)) (sym (other q far))
+        | inr far ↦ subst₂ (λ a b. cyclic_index a ≢ cyclic_index b) (sym (other p else)) (sym (other q far))
             (h.apart p q (omega (arith, low_p, l)) (omega (arith, low_q, l)) else far ne)
       ]
     ]
@@ -189,7 +189,7 @@ module _ (few : List Entry) (hole : ℕ) (e : Entry) (in_hole : hole < length fe
 
   pub filled_heap : IsHeapBut hole few → IsBelow e hole few
       → ((c : ℕ) → IsChild hole c → c < length few → comes e (entry_at few c) ≡ true)
-      → ((p : ℕ) → p < length few → p ≢ hole → index_of (entry_at few p) ≢ index_of e) → IsHeap full
+      → ((p : ℕ) → p < length few → p ≢ hole → cyclic_index (entry_at few p) ≢ cyclic_index e) → IsHeap full
   filled_heap h below above apart =
       let l = long in
       record {
@@ -207,20 +207,22 @@ module _ (few : List Entry) (hole : ℕ) (e : Entry) (in_hole : hole < length fe
         apart = λ p q low_p low_q ne. elim (cases_eq p hole) [
           | inl is ↦ elim (cases_eq q hole) [
             | inl at ↦ absurd (ne (is ∙ sym at))
-            | inr far ↦ subst₂ (λ a b. index_of a ≢ index_of b) (sym (ap (entry_at full) is ∙ at_hole)) (sym (at_other q far))
+            | inr far ↦ subst₂ (λ a b. cyclic_index a ≢ cyclic_index b) (sym (ap (entry_at full) is
+                ∙ at_hole)) (sym (at_other q far))
                 (λ s. apart q (omega (arith, low_q, l)) far (sym s))
           ]
           | inr else ↦ elim (cases_eq q hole) [
-            | inl at ↦ subst₂ (λ a b. index_of a ≢ index_of b) (sym (at_other p else)) (sym (ap (entry_at full) at ∙ at_hole))
+            | inl at ↦ subst₂ (λ a b. cyclic_index a ≢ cyclic_index b) (sym (at_other p else)) (sym (ap (entry_at full) at
+                ∙ at_hole))
                 (apart p (omega (arith, low_p, l)) else)
-            | inr far ↦ subst₂ (λ a b. index_of a ≢ index_of b) (sym (at_other p else)) (sym (at_other q far))
+            | inr far ↦ subst₂ (λ a b. cyclic_index a ≢ cyclic_index b) (sym (at_other p else)) (sym (at_other q far))
                 (h.apart p q (omega (arith, low_p, l)) (omega (arith, low_q, l)) else far ne)
           ]
         ];
       }
 
-  pub filled_is : (place : ℕ) (old : List Entry) → IsSame place old hole few → IsFilled place old e full
-  filled_is place old h = let l = long in record {
+  pub filled_is : (position : ℕ) (old : List Entry) → IsSame position old hole few → IsFilled position old e full
+  filled_is position old h = let l = long in record {
     long = long ∙ h.long;
     here = (hole, omega (arith, in_hole, l), at_hole);
     from = λ p low. elim (cases_eq p hole) [
@@ -231,9 +233,9 @@ module _ (few : List Entry) (hole : ℕ) (e : Entry) (in_hole : hole < length fe
   }
 
 -- the hole was moved, and then filled
-pub moved_filled : (place : ℕ) (old : List Entry) (hole : ℕ) (few : List Entry) (e : Entry) (new : List Entry)
-    → IsSame place old hole few → IsFilled hole few e new → IsFilled place old e new
-moved_filled place old hole few e new s f = record {
+pub moved_filled : (position : ℕ) (old : List Entry) (hole : ℕ) (few : List Entry) (e : Entry) (new : List Entry)
+    → IsSame position old hole few → IsFilled hole few e new → IsFilled position old e new
+moved_filled position old hole few e new s f = record {
   long = f.long ∙ s.long;
   here = f.here;
   from = λ p low. elim (f.from p low) [
@@ -245,8 +247,8 @@ moved_filled place old hole few e new s f = record {
 }
 
 -- the indexes of the others are as they were
-pub apart_moved : (place : ℕ) (old : List Entry) (hole : ℕ) (few : List Entry) (e : Entry) → IsSame place old hole few
-    → ((p : ℕ) → p < length old → p ≢ place → index_of (entry_at old p) ≢ index_of e)
-    → (p : ℕ) → p < length few → p ≢ hole → index_of (entry_at few p) ≢ index_of e
-apart_moved place old hole few e s apart p within off =
-    let (q, inside, out, at) = s.from p within off in λ same. apart q inside out (ap index_of (sym at) ∙ same)
+pub apart_moved : (position : ℕ) (old : List Entry) (hole : ℕ) (few : List Entry) (e : Entry) → IsSame position old hole few
+    → ((p : ℕ) → p < length old → p ≢ position → cyclic_index (entry_at old p) ≢ cyclic_index e)
+    → (p : ℕ) → p < length few → p ≢ hole → cyclic_index (entry_at few p) ≢ cyclic_index e
+apart_moved position old hole few e s apart p within off =
+    let (q, inside, out, at) = s.from p within off in λ same. apart q inside out (ap cyclic_index (sym at) ∙ same)

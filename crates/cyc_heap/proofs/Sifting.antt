@@ -7,7 +7,7 @@ use Rattle.std.proofs.lemmas.Bool.{cases_lt}
 use Rattle.std.proofs.lemmas.List.{length-set, length-take-le, get_or-take, get_or-set_same, get_or-set_other}
 use Rattle.cyc_types.specs.Series.{never}
 use Rattle.cyc_heap.specs.declared.entry.Entry.{Entry}
-use Rattle.cyc_heap.specs.Tournament.{nowhere, entry_at, index_of, free_entry, comes}
+use Rattle.cyc_heap.specs.Tournament.{nowhere, entry_at, cyclic_index, free_entry, comes}
 use Rattle.cyc_heap.specs.Few.{shown, IsHeap, IsHeapBut, IsFilled, IsFew, IsBareFront, IsTree, IsChanged}
 use Rattle.cyc_heap.proofs.Moving.{child_low, hole_made}
 use Rattle.cyc_heap.proofs.Spreading.{tree_after, changed_to, changed_free}
@@ -23,12 +23,12 @@ front_long n es within = length-take-le n es within
 module _ (held after leaves : ℕ) (es new : List Entry) (x : ℕ) (e : Entry) (t : IsTree true held leaves es) (low_x : x < leaves)
     (same : length new ≡ length es) (within : after ≤ length new) (heap : IsHeap (take after new))
     (bare : IsBareFront after new)
-    (to : (q : ℕ) → q < held → index_of (entry_at (take held es) q) ≢ x
+    (to : (q : ℕ) → q < held → cyclic_index (entry_at (take held es) q) ≢ x
     → (p : ℕ) × (p < after) × (entry_at (take after new) p ≡ entry_at (take held es) q)) where
   was : IsFew (take held es) leaves (shown true held es)
   was = t.heap refl
 
-  module _ (mine : index_of e ≡ x) (valid : e.moment ≤ never)
+  module _ (mine : cyclic_index e ≡ x) (valid : e.moment ≤ never)
       (from : (p : ℕ) → p < after → (entry_at (take after new) p ≡ e)
       ⊎ ((q : ℕ) × (q < held) × (entry_at (take after new) p ≡ entry_at (take held es) q)))
       (there : (p : ℕ) × (p < after) × (entry_at (take after new) p ≡ e)) where
@@ -40,8 +40,8 @@ module _ (held after leaves : ℕ) (es new : List Entry) (x : ℕ) (e : Entry) (
           | inr (q, low, is) ↦ subst P (sym is) (old q (omega (arith, low, l)))
         ]
 
-    low_after : (p : ℕ) → p < length (take after new) → index_of (entry_at (take after new) p) < leaves
-    low_after = each (λ e. index_of e < leaves) (omega (arith, mine, low_x)) was.low
+    low_after : (p : ℕ) → p < length (take after new) → cyclic_index (entry_at (take after new) p) < leaves
+    low_after = each (λ e. cyclic_index e < leaves) (omega (arith, mine, low_x)) was.low
 
     used_after : (p : ℕ) → p < length (take after new) → (entry_at (take after new) p).moment ≤ never
     used_after = each (λ (e : Entry). e.moment ≤ never) valid was.used
@@ -54,15 +54,15 @@ module _ (held after leaves : ℕ) (es new : List Entry) (x : ℕ) (e : Entry) (
         changed_to held after leaves es new x e t low_x same within heap bare to low_after used_after from p low is mine)
 
   -- none has its index
-  module _ (off : (p : ℕ) → p < after → index_of (entry_at (take after new) p) ≢ x)
+  module _ (off : (p : ℕ) → p < after → cyclic_index (entry_at (take after new) p) ≢ x)
       (from : (p : ℕ) → p < after → (q : ℕ) × (q < held) × (entry_at (take after new) p ≡ entry_at (take held es) q)) where
     all : (P : Entry → Type 0) → ((q : ℕ) → q < length (take held es) → P (entry_at (take held es) q))
         → (p : ℕ) → p < length (take after new) → P (entry_at (take after new) p)
     all P old p at = let n = front_long after new within in let l = front_long held es t.within in
         let (q, low, is) = from p (omega (arith, at, n)) in subst P (sym is) (old q (omega (arith, low, l)))
 
-    low_left : (p : ℕ) → p < length (take after new) → index_of (entry_at (take after new) p) < leaves
-    low_left = all (λ e. index_of e < leaves) was.low
+    low_left : (p : ℕ) → p < length (take after new) → cyclic_index (entry_at (take after new) p) < leaves
+    low_left = all (λ e. cyclic_index e < leaves) was.low
 
     used_left : (p : ℕ) → p < length (take after new) → (entry_at (take after new) p).moment ≤ never
     used_left = all (λ (e : Entry). e.moment ≤ never) was.used
@@ -73,27 +73,29 @@ module _ (held after leaves : ℕ) (es new : List Entry) (x : ℕ) (e : Entry) (
     pub left_changed : IsChanged leaves x free_entry (shown true held es) (shown true after new)
     left_changed = changed_free held after leaves es new x e t low_x same within heap bare to low_left used_left off from
 
--- another entry for the index of the one at this place
-module _ (held leaves place x : ℕ) (es new : List Entry) (e : Entry) (t : IsTree true held leaves es) (low : place < held)
-    (here : index_of (entry_at es place) ≡ x) where
-  pub place_low : x < leaves
-  place_low = let l = front_long held es t.within in
-      let f = (t.heap refl).low place (omega (arith, low, l)) in
-      let at = ap index_of (front held es place low) in omega (arith, f, at, here)
+-- another entry for the index of the one at this position
+module _ (held leaves position x : ℕ) (es new : List Entry) (e : Entry) (t : IsTree true held leaves es) (low : position < held)
+    (here : cyclic_index (entry_at es position) ≡ x) where
+  pub position_low : x < leaves
+  position_low = let l = front_long held es t.within in
+      let f = (t.heap refl).low position (omega (arith, low, l)) in
+      let at = ap cyclic_index (front held es position low) in omega (arith, f, at, here)
 
-  pub place_open : IsHeapBut place (take held es)
-  place_open = let l = front_long held es t.within in hole_made place (take held es) (t.heap refl).heap (omega (arith, low, l))
+  pub position_open : IsHeapBut position (take held es)
+  position_open = let l = front_long held es t.within in
+      hole_made position (take held es) (t.heap refl).heap (omega (arith, low, l))
 
-  module _ (same : length new ≡ length es) (heap : IsHeap (take held new)) (f : IsFilled place (take held es) e (take held new))
-      (mine : index_of e ≡ x) (valid : e.moment ≤ never) where
+  module _ (same : length new ≡ length es) (heap : IsHeap (take held new))
+      (f : IsFilled position (take held es) e (take held new))
+      (mine : cyclic_index e ≡ x) (valid : e.moment ≤ never) where
     inside : held ≤ length new
     inside = let w = t.within in omega (arith, w, same)
 
-    to : (q : ℕ) → q < held → index_of (entry_at (take held es) q) ≢ x
+    to : (q : ℕ) → q < held → cyclic_index (entry_at (take held es) q) ≢ x
         → (p : ℕ) × (p < held) × (entry_at (take held new) p ≡ entry_at (take held es) q)
     to q less off = let l = front_long held es t.within in let n = front_long held new inside in
         let (p, at, is) = f.to q (omega (arith, less, l))
-        (λ e. off (ap (λ q. index_of (entry_at (take held es) q)) e ∙ ap index_of (front held es place low) ∙ here)) in
+        (λ e. off (ap (λ q. cyclic_index (entry_at (take held es) q)) e ∙ ap cyclic_index (front held es position low) ∙ here)) in
         (p, omega (arith, at, n), is)
 
     from : (p : ℕ) → p < held → (entry_at (take held new) p ≡ e)
@@ -111,20 +113,20 @@ module _ (held leaves place x : ℕ) (es new : List Entry) (e : Entry) (t : IsTr
     some_held none = absurd (omega (arith, none, low))
 
     pub changed_tree : IsTree true held leaves new
-    changed_tree = put_tree held held leaves es new x e t place_low same inside heap some_held to mine valid from there
+    changed_tree = put_tree held held leaves es new x e t position_low same inside heap some_held to mine valid from there
 
     pub changed_leaf : IsChanged leaves x e (shown true held es) (shown true held new)
-    changed_leaf = put_changed held held leaves es new x e t place_low same inside heap some_held to mine valid from there
+    changed_leaf = put_changed held held leaves es new x e t position_low same inside heap some_held to mine valid from there
 
 -- one more, of an index that none has
 module _ (held leaves x : ℕ) (es new : List Entry) (e : Entry) (t : IsTree true held leaves es) (low_x : x < leaves)
     (space : held < length es) (same : length new ≡ length es) (heap : IsHeap (take (held + 1) new))
     (f : IsFilled held (take (held + 1) es) e (take (held + 1) new))
-    (mine : index_of e ≡ x) (valid : e.moment ≤ never) where
+    (mine : cyclic_index e ≡ x) (valid : e.moment ≤ never) where
   more : held + 1 ≤ length new
   more = omega (arith, space, same)
 
-  add_to : (q : ℕ) → q < held → index_of (entry_at (take held es) q) ≢ x
+  add_to : (q : ℕ) → q < held → cyclic_index (entry_at (take held es) q) ≢ x
       → (p : ℕ) × (p < held + 1) × (entry_at (take (held + 1) new) p ≡ entry_at (take held es) q)
   add_to q less off = let l = front_long (held + 1) es (omega (arith, space)) in let n = front_long (held + 1) new more in
       let (p, at, is) = f.to q (omega (arith, less, l)) (λ e. absurd (omega (arith, e, less))) in
@@ -152,9 +154,9 @@ module _ (held leaves x : ℕ) (es new : List Entry) (e : Entry) (t : IsTree tru
   added_leaf = put_changed held (held + 1) leaves es new x e t low_x same more heap some_added add_to mine valid add_from
       add_there
 
--- the one at this place is taken out
-module _ (held leaves place x : ℕ) (es : List Entry) (t : IsTree true held leaves es) (low : place < held)
-    (here : index_of (entry_at es place) ≡ x) where
+-- the one at this position is taken out
+module _ (held leaves position x : ℕ) (es : List Entry) (t : IsTree true held leaves es) (low : position < held)
+    (here : cyclic_index (entry_at es position) ≡ x) where
   abbrev pub cut : List Entry
   cut = set es (held - 1) free_entry
 
@@ -173,27 +175,28 @@ module _ (held leaves place x : ℕ) (es : List Entry) (t : IsTree true held lea
   held_long : length (take held es) ≡ held
   held_long = front_long held es t.within
 
-  apart : (p q : ℕ) → p < held → q < held → p ≢ q → index_of (entry_at (take held es) p) ≢ index_of (entry_at (take held es) q)
+  apart : (p q : ℕ) → p < held → q < held → p ≢ q → cyclic_index (entry_at (take held es) p) ≢ cyclic_index (entry_at (take
+      held es) q)
   apart p q a b ne = let l = held_long in (t.heap refl).heap.apart p q (omega (arith, a, l)) (omega (arith, b, l)) ne
 
-  here_front : index_of (entry_at (take held es) place) ≡ x
-  here_front = ap index_of (front held es place low) ∙ here
+  here_front : cyclic_index (entry_at (take held es) position) ≡ x
+  here_front = ap cyclic_index (front held es position low) ∙ here
 
   pub cut_heap : IsHeap (take (held - 1) cut)
   cut_heap = let n = front_long (held - 1) cut cut_inside in let l = held_long in record {
     rising = λ a c is at. (let less = child_low a c is in
         subst₂ (λ a b. comes a b ≡ true) (sym (before a (omega (arith, less, at, n)))) (sym (before c (omega (arith, at, n))))
         ((t.heap refl).heap.rising a c is (omega (arith, at, n, l))));
-    apart = λ p q a b ne. subst₂ (λ a b. index_of a ≢ index_of b) (sym (before p (omega (arith, a, n))))
+    apart = λ p q a b ne. subst₂ (λ a b. cyclic_index a ≢ cyclic_index b) (sym (before p (omega (arith, a, n))))
         (sym (before q (omega (arith, b, n)))) (apart p q (omega (arith, a, n)) (omega (arith, b, n)) ne);
   }
 
-  pub cut_open : place < held - 1 → IsHeapBut place (take (held - 1) cut)
+  pub cut_open : position < held - 1 → IsHeapBut position (take (held - 1) cut)
   cut_open less = let n = front_long (held - 1) cut cut_inside in
-      hole_made place (take (held - 1) cut) cut_heap (omega (arith, less, n))
+      hole_made position (take (held - 1) cut) cut_heap (omega (arith, less, n))
 
-  pub cut_apart : (p : ℕ) → p < held - 1 → index_of (entry_at cut p) ≢ index_of (entry_at es (held - 1))
-  cut_apart p less = subst₂ (λ a b. index_of a ≢ index_of b) (sym (before p less) ∙ front (held - 1) cut p less)
+  pub cut_apart : (p : ℕ) → p < held - 1 → cyclic_index (entry_at cut p) ≢ cyclic_index (entry_at es (held - 1))
+  cut_apart p less = subst₂ (λ a b. cyclic_index a ≢ cyclic_index b) (sym (before p less) ∙ front (held - 1) cut p less)
       (front held es (held - 1) (omega (arith, low)))
       (apart p (held - 1) (omega (arith, less)) (omega (arith, low)) (λ e. absurd (omega (arith, e, less))))
 
@@ -202,21 +205,21 @@ module _ (held leaves place x : ℕ) (es : List Entry) (t : IsTree true held lea
       ∙ get_or-set_same es (held - 1) free_entry nowhere (let w = t.within in omega (arith, w, low))
 
   taken_low : x < leaves
-  taken_low = place_low held leaves place x es es free_entry t low here
+  taken_low = position_low held leaves position x es es free_entry t low here
 
   -- it was the last
-  module _ (last : held - 1 ≤ place) where
-    last_to : (q : ℕ) → q < held → index_of (entry_at (take held es) q) ≢ x
+  module _ (last : held - 1 ≤ position) where
+    last_to : (q : ℕ) → q < held → cyclic_index (entry_at (take held es) q) ≢ x
         → (p : ℕ) × (p < held - 1) × (entry_at (take (held - 1) cut) p ≡ entry_at (take held es) q)
     last_to q less off = elim (cases_lt q (held - 1)) [
       | inl inside ↦ (q, inside, before q inside)
-      | inr past ↦ absurd (off (ap (λ q. index_of (entry_at (take held es) q)) (let e : q ≡ place = omega
+      | inr past ↦ absurd (off (ap (λ q. cyclic_index (entry_at (take held es) q)) (let e : q ≡ position = omega
           (arith, less, past, last, low) in e) ∙ here_front))
     ]
 
-    last_off : (p : ℕ) → p < held - 1 → index_of (entry_at (take (held - 1) cut) p) ≢ x
-    last_off p less e = apart p place (omega (arith, less)) low (λ e. absurd (omega (arith, e, less, last)))
-        (sym (ap index_of (before p less)) ∙ e ∙ sym here_front)
+    last_off : (p : ℕ) → p < held - 1 → cyclic_index (entry_at (take (held - 1) cut) p) ≢ x
+    last_off p less e = apart p position (omega (arith, less)) low (λ e. absurd (omega (arith, e, less, last)))
+        (sym (ap cyclic_index (before p less)) ∙ e ∙ sym here_front)
 
     last_from : (p : ℕ) → p < held - 1 → (q : ℕ) × (q < held) × (entry_at (take (held - 1) cut) p ≡ entry_at (take held es) q)
     last_from p less = (p, omega (arith, less), before p less)
@@ -229,23 +232,23 @@ module _ (held leaves place x : ℕ) (es : List Entry) (t : IsTree true held lea
     last_changed = left_changed held (held - 1) leaves es cut x free_entry t taken_low cut_long cut_inside cut_heap cut_bare
         last_to last_off last_from
 
-  -- the last fills its place
-  module _ (new : List Entry) (less : place < held - 1) (same : length new ≡ length cut) (heap : IsHeap (take (held - 1) new))
-      (f : IsFilled place (take (held - 1) cut) (entry_at es (held - 1)) (take (held - 1) new)) where
+  -- the last fills its position
+  module _ (new : List Entry) (less : position < held - 1) (same : length new ≡ length cut) (heap : IsHeap (take (held - 1) new))
+      (f : IsFilled position (take (held - 1) cut) (entry_at es (held - 1)) (take (held - 1) new)) where
     new_inside : held - 1 ≤ length new
     new_inside = let i = cut_inside in omega (arith, i, same)
 
     new_long : length new ≡ length es
     new_long = same ∙ cut_long
 
-    moved_to : (q : ℕ) → q < held → index_of (entry_at (take held es) q) ≢ x
+    moved_to : (q : ℕ) → q < held → cyclic_index (entry_at (take held es) q) ≢ x
         → (p : ℕ) × (p < held - 1) × (entry_at (take (held - 1) new) p ≡ entry_at (take held es) q)
     moved_to q inside off =
         let n = front_long (held - 1) new new_inside in
         let m = front_long (held - 1) cut cut_inside in
         elim (cases_lt q (held - 1)) [
           | inl before_last ↦ (let (p, at, is) = f.to q (omega (arith, before_last, m))
-              (λ e. off (ap (λ q. index_of (entry_at (take held es) q)) e ∙ here_front)) in
+              (λ e. off (ap (λ q. cyclic_index (entry_at (take held es) q)) e ∙ here_front)) in
               (p, omega (arith, at, n), is ∙ before q before_last))
           | inr past ↦ (let (p, at, is) = f.here in
               let last : q ≡ held - 1 = omega (arith, inside, past) in (
@@ -256,7 +259,7 @@ module _ (held leaves place x : ℕ) (es : List Entry) (t : IsTree true held lea
         ]
 
     moved_from : (p : ℕ) → p < held - 1
-        → (q : ℕ) × (q < held) × (q ≢ place) × (entry_at (take (held - 1) new) p ≡ entry_at (take held es) q)
+        → (q : ℕ) × (q < held) × (q ≢ position) × (entry_at (take (held - 1) new) p ≡ entry_at (take held es) q)
     moved_from p inside =
         let n = front_long (held - 1) new new_inside in
         let m = front_long (held - 1) cut cut_inside in
@@ -271,9 +274,9 @@ module _ (held leaves place x : ℕ) (es : List Entry) (t : IsTree true held lea
               (q, omega (arith, within), off, is ∙ before q within))
         ]
 
-    moved_off : (p : ℕ) → p < held - 1 → index_of (entry_at (take (held - 1) new) p) ≢ x
+    moved_off : (p : ℕ) → p < held - 1 → cyclic_index (entry_at (take (held - 1) new) p) ≢ x
     moved_off p inside e = (let (q, at, off, is) = moved_from p inside in
-        apart q place at low off (sym (ap index_of is) ∙ e ∙ sym here_front))
+        apart q position at low off (sym (ap cyclic_index is) ∙ e ∙ sym here_front))
 
     old_from : (p : ℕ) → p < held - 1 → (q : ℕ) × (q < held) × (entry_at (take (held - 1) new) p ≡ entry_at (take held es) q)
     old_from p inside = let (q, at, _, is) = moved_from p inside in (q, at, is)
@@ -289,20 +292,20 @@ module _ (held leaves place x : ℕ) (es : List Entry) (t : IsTree true held lea
     moved_changed = left_changed held (held - 1) leaves es new x free_entry t taken_low new_long new_inside heap some_left
         moved_to moved_off old_from
 
--- the place of an index that one of the few has
-pub found : (held : ℕ) (es l : List Entry) (o : Option ℕ) (place i : ℕ) → held ≤ length es → l ≡ es → o ≡ Some place
-    → IfSome o (λ p. (p < length (take held l)) × (index_of (entry_at (take held l) p) ≡ i))
-    → (place < held) × (index_of (entry_at es place) ≡ i)
-found held es l o place i within is some has =
-    let (low, at) = subst (λ l. (place < length (take held l)) × (index_of (entry_at (take held l) place) ≡ i)) is
-    (subst (λ o. IfSome o (λ p. (p < length (take held l)) × (index_of (entry_at (take held l) p) ≡ i))) some has) in
+-- the position of an index that one of the few has
+pub found : (held : ℕ) (es l : List Entry) (o : Option ℕ) (position i : ℕ) → held ≤ length es → l ≡ es → o ≡ Some position
+    → IfSome o (λ p. (p < length (take held l)) × (cyclic_index (entry_at (take held l) p) ≡ i))
+    → (position < held) × (cyclic_index (entry_at es position) ≡ i)
+found held es l o position i within is some has =
+    let (low, at) = subst (λ l. (position < length (take held l)) × (cyclic_index (entry_at (take held l) position) ≡ i)) is
+    (subst (λ o. IfSome o (λ p. (p < length (take held l)) × (cyclic_index (entry_at (take held l) p) ≡ i))) some has) in
     let n = front_long held es within in
-    let less : place < held = omega (arith, low, n) in (less, sym (ap index_of (front held es place less)) ∙ at)
+    let less : position < held = omega (arith, low, n) in (less, sym (ap cyclic_index (front held es position less)) ∙ at)
 
 -- what its leaf is shown to have
-pub place_shown : (held leaves place x : ℕ) (es : List Entry) → IsTree true held leaves es → place < held
-    → index_of (entry_at es place) ≡ x → entry_at (shown true held es) x ≡ entry_at es place
-place_shown held leaves place x es t low here =
+pub position_shown : (held leaves position x : ℕ) (es : List Entry) → IsTree true held leaves es → position < held
+    → cyclic_index (entry_at es position) ≡ x → entry_at (shown true held es) x ≡ entry_at es position
+position_shown held leaves position x es t low here =
     let l = front_long held es t.within in
-    ap (entry_at (shown true held es)) (sym here ∙ sym (ap index_of (front held es place low)))
-    ∙ (t.heap refl).own place (omega (arith, low, l)) ∙ front held es place low
+    ap (entry_at (shown true held es)) (sym here ∙ sym (ap cyclic_index (front held es position low)))
+    ∙ (t.heap refl).own position (omega (arith, low, l)) ∙ front held es position low

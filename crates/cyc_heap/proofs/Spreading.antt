@@ -7,19 +7,19 @@ use Rattle.std.proofs.lemmas.List.{length-set, length-replicate, length-take-le,
 use Rattle.std.proofs.lemmas.List.{get_or-replicate}
 use Rattle.cyc_types.specs.Series.{never}
 use Rattle.cyc_heap.specs.declared.entry.Entry.{Entry}
-use Rattle.cyc_heap.specs.Tournament.{nowhere, entry_at, index_of, free_entry, IsPlayed}
-use Rattle.cyc_heap.specs.Few.{spread, shown, HasNo, StandsIn, HasBareLeaves, IsHeap, IsFew, IsBareFront, IsTree, IsChanged}
+use Rattle.cyc_heap.specs.Tournament.{nowhere, entry_at, cyclic_index, free_entry, IsPlayed}
+use Rattle.cyc_heap.specs.Few.{spread, shown, HasNoIndex, StandsIn, HasBareLeaves, IsHeap, IsFew, IsBareFront, IsTree, IsChanged}
 
 -- whether one of the first n has this index
 pub member : (n i : ℕ) (few : List Entry)
-    → ((p : ℕ) × (p < n) × (index_of (entry_at few p) ≡ i)) ⊎ ((p : ℕ) → p < n → index_of (entry_at few p) ≢ i)
+    → ((p : ℕ) × (p < n) × (cyclic_index (entry_at few p) ≡ i)) ⊎ ((p : ℕ) → p < n → cyclic_index (entry_at few p) ≢ i)
 member zero i few = inr (λ p low. absurd (omega (arith, low)))
 member (suc n) i few = elim (member n i few) [
   | inl (p, low, is) ↦ inl (p, omega (arith, low), is)
-  | inr none ↦ elim (cases_eq (index_of (entry_at few n)) i) [
+  | inr none ↦ elim (cases_eq (cyclic_index (entry_at few n)) i) [
     | inl is ↦ inl (n, omega arith, is)
     | inr off ↦ inr (λ p low. elim (cases_eq p n) [
-      | inl at ↦ subst (λ p. index_of (entry_at few p) ≢ i) (sym at) off
+      | inl at ↦ subst (λ p. cyclic_index (entry_at few p) ≢ i) (sym at) off
       | inr else ↦ none p (omega (arith, low, else))
     ])
   ]
@@ -28,7 +28,7 @@ member (suc n) i few = elim (member n i few) [
 length-spread : (few xs : List Entry) → length (spread few xs) ≡ length xs
 unfolding spread
 length-spread [] xs = refl
-length-spread (e ∷ few) xs = length-set (spread few xs) (index_of e) e ∙ length-spread few xs
+length-spread (e ∷ few) xs = length-set (spread few xs) (cyclic_index e) e ∙ length-spread few xs
 
 pub length-shown : (b : Bool) (held : ℕ) (es : List Entry) → length (shown b held es) ≡ length es
 length-shown true held es = length-spread (take held es) (replicate (length es) free_entry)
@@ -36,22 +36,23 @@ length-shown true held es = length-spread (take held es) (replicate (length es) 
 length-shown false held es = refl
 
 -- where none of them has its leaf
-spread_other : (few xs : List Entry) (i : ℕ) → HasNo i few → entry_at (spread few xs) i ≡ entry_at xs i
+spread_other : (few xs : List Entry) (i : ℕ) → HasNoIndex i few → entry_at (spread few xs) i ≡ entry_at xs i
 unfolding spread
 spread_other [] xs i none = refl
-spread_other (e ∷ few) xs i none = get_or-set_other (spread few xs) (index_of e) i e nowhere (λ q. none 0 (omega arith) (sym q))
+spread_other (e ∷ few) xs i none = get_or-set_other (spread few xs) (cyclic_index e) i e nowhere (λ q. none 0 (omega arith)
+    (sym q))
     ∙ spread_other few xs i (λ p low. none (suc p) (omega (arith, low)))
 
 -- each is in its leaf
 spread_stands : (few xs : List Entry)
-    → ((p q : ℕ) → p < length few → q < length few → p ≢ q → index_of (entry_at few p) ≢ index_of (entry_at few q))
-    → ((p : ℕ) → p < length few → index_of (entry_at few p) < length xs) → StandsIn (spread few xs) few
+    → ((p q : ℕ) → p < length few → q < length few → p ≢ q → cyclic_index (entry_at few p) ≢ cyclic_index (entry_at few q))
+    → ((p : ℕ) → p < length few → cyclic_index (entry_at few p) < length xs) → StandsIn (spread few xs) few
 unfolding spread
 spread_stands [] xs apart low p at = absurd (omega (arith, at))
-spread_stands (e ∷ few) xs apart low zero at = get_or-set_same (spread few xs) (index_of e) e nowhere
+spread_stands (e ∷ few) xs apart low zero at = get_or-set_same (spread few xs) (cyclic_index e) e nowhere
     (let l = length-spread few xs in let m = low 0 (omega arith) in omega (arith, l, m))
 spread_stands (e ∷ few) xs apart low (suc p) at =
-    get_or-set_other (spread few xs) (index_of e) (index_of (entry_at few p)) e nowhere
+    get_or-set_other (spread few xs) (cyclic_index e) (cyclic_index (entry_at few p)) e nowhere
     (apart (suc p) 0 at (omega arith) (λ q. absurd (omega (arith, q))))
     ∙ spread_stands few xs
     (λ p q a b ne. apart (suc p) (suc q) (omega (arith, a)) (omega (arith, b)) (λ q. ne (omega (arith, q))))
@@ -59,7 +60,7 @@ spread_stands (e ∷ few) xs apart low (suc p) at =
 
 -- a heap with leaves of its own, before free entries
 module _ (few : List Entry) (leaves n : ℕ) (heap : IsHeap few)
-    (low : (p : ℕ) → p < length few → index_of (entry_at few p) < leaves)
+    (low : (p : ℕ) → p < length few → cyclic_index (entry_at few p) < leaves)
     (used : (p : ℕ) → p < length few → (entry_at few p).moment ≤ never) (wide : leaves ≤ n) where
   abbrev pub spreads : List Entry
   spreads = spread few (replicate n free_entry)
@@ -68,7 +69,7 @@ module _ (few : List Entry) (leaves n : ℕ) (heap : IsHeap few)
   stands = spread_stands few (replicate n free_entry) heap.apart
       (λ p at. let m = low p at in let l = length-replicate n free_entry in omega (arith, m, l, wide))
 
-  pub free_else : (i : ℕ) → i < n → HasNo i few → entry_at spreads i ≡ free_entry
+  pub free_else : (i : ℕ) → i < n → HasNoIndex i few → entry_at spreads i ≡ free_entry
   free_else i inside none = spread_other few (replicate n free_entry) i none ∙ get_or-replicate n i free_entry nowhere inside
 
   pub few_spread : IsFew few leaves spreads
@@ -93,7 +94,7 @@ module _ (few : List Entry) (leaves n : ℕ) (heap : IsHeap few)
 
 -- a tree of few, and one of many
 pub few_tree : (held leaves : ℕ) (es : List Entry) → suc (length es) ≡ 2 * leaves → held ≤ length es → IsHeap (take held es)
-    → ((p : ℕ) → p < length (take held es) → index_of (entry_at (take held es) p) < leaves)
+    → ((p : ℕ) → p < length (take held es) → cyclic_index (entry_at (take held es) p) < leaves)
     → ((p : ℕ) → p < length (take held es) → (entry_at (take held es) p).moment ≤ never) → IsBareFront held es
     → IsTree true held leaves es
 few_tree held leaves es long within heap low used front = record {
@@ -120,7 +121,7 @@ many_tree leaves es long played bare = record {
 module _ (held after leaves : ℕ) (es new : List Entry) (x : ℕ) (e : Entry) (t : IsTree true held leaves es) (low_x : x < leaves)
     (same : length new ≡ length es) (within : after ≤ length new) (heap : IsHeap (take after new))
     (bare : IsBareFront after new)
-    (to : (q : ℕ) → q < held → index_of (entry_at (take held es) q) ≢ x
+    (to : (q : ℕ) → q < held → cyclic_index (entry_at (take held es) q) ≢ x
     → (p : ℕ) × (p < after) × (entry_at (take after new) p ≡ entry_at (take held es) q)) where
   was : IsFew (take held es) leaves (shown true held es)
   was = t.heap refl
@@ -134,7 +135,7 @@ module _ (held after leaves : ℕ) (es new : List Entry) (x : ℕ) (e : Entry) (
   wide : leaves ≤ length es
   wide = let long = t.long in omega (arith, long)
 
-  module _ (low : (p : ℕ) → p < length (take after new) → index_of (entry_at (take after new) p) < leaves)
+  module _ (low : (p : ℕ) → p < length (take after new) → cyclic_index (entry_at (take after new) p) < leaves)
       (used : (p : ℕ) → p < length (take after new) → (entry_at (take after new) p).moment ≤ never) where
     pub tree_after : IsTree true after leaves new
     tree_after = few_tree after leaves new (let long = t.long in omega (arith, long, same)) within heap low used bare
@@ -142,7 +143,7 @@ module _ (held after leaves : ℕ) (es new : List Entry) (x : ℕ) (e : Entry) (
     now_stands : StandsIn (shown true after new) (take after new)
     now_stands = stands (take after new) leaves (length new) heap low used (let w = wide in omega (arith, w, same))
 
-    now_free : (i : ℕ) → i < leaves → HasNo i (take after new) → entry_at (shown true after new) i ≡ free_entry
+    now_free : (i : ℕ) → i < leaves → HasNoIndex i (take after new) → entry_at (shown true after new) i ≡ free_entry
     now_free i inside none = let w = wide in
         free_else (take after new) leaves (length new) heap low used (omega (arith, w, same)) i
         (omega (arith, inside, w, same)) none
@@ -153,7 +154,7 @@ module _ (held after leaves : ℕ) (es new : List Entry) (x : ℕ) (e : Entry) (
         ∙ sym (length-spread (take held es) (replicate (length es) free_entry))
 
     -- a leaf that is not this one is as it was
-    stays : ((p : ℕ) → p < after → index_of (entry_at (take after new) p) ≢ x
+    stays : ((p : ℕ) → p < after → cyclic_index (entry_at (take after new) p) ≢ x
         → (q : ℕ) × (q < held) × (entry_at (take after new) p ≡ entry_at (take held es) q))
         → (i : ℕ) → i < leaves → i ≢ x → entry_at (shown true after new) i ≡ entry_at (shown true held es) i
     stays from i inside off =
@@ -162,29 +163,30 @@ module _ (held after leaves : ℕ) (es new : List Entry) (x : ℕ) (e : Entry) (
         elim (member (length (take after new)) i (take after new)) [
           | inl (p, at, is) ↦ (let (q, low_q, eq) = from p (omega (arith, at, n)) (λ e. off (sym is ∙ e)) in
               sym (ap (entry_at (shown true after new)) is) ∙ now_stands p at ∙ eq ∙ sym (was.own q (omega (arith, low_q, l)))
-              ∙ ap (entry_at (shown true held es)) (sym (ap index_of eq) ∙ is))
+              ∙ ap (entry_at (shown true held es)) (sym (ap cyclic_index eq) ∙ is))
           | inr none ↦ elim (cases_lt never (entry_at (shown true held es) i).moment) [
             | inl unused ↦ now_free i inside none ∙ sym (t.bare i inside unused)
             | inr has ↦ absurd (let (q, at, is, _) = was.all i inside has in
                 let (p, low_p, eq) = to q (omega (arith, at, l)) (λ e. off (sym is ∙ e)) in
-                none p (omega (arith, low_p, n)) (ap index_of eq ∙ is))
+                none p (omega (arith, low_p, n)) (ap cyclic_index eq ∙ is))
           ]
         ]
 
     -- it has this entry
     pub changed_to : ((p : ℕ) → p < after → (entry_at (take after new) p ≡ e)
         ⊎ ((q : ℕ) × (q < held) × (entry_at (take after new) p ≡ entry_at (take held es) q)))
-        → (p : ℕ) → p < after → entry_at (take after new) p ≡ e → index_of e ≡ x
+        → (p : ℕ) → p < after → entry_at (take after new) p ≡ e → cyclic_index e ≡ x
         → IsChanged leaves x e (shown true held es) (shown true after new)
     changed_to from p low_p there mine = record {
       long = length_after;
       here = let n = new_long in
-          sym (ap (entry_at (shown true after new)) (ap index_of there ∙ mine)) ∙ now_stands p (omega (arith, low_p, n)) ∙ there;
-      others = stays (λ p at off. elim (from p at) [ inl is ↦ absurd (off (ap index_of is ∙ mine)) | inr old ↦ old ]);
+          sym (ap (entry_at (shown true after new)) (ap cyclic_index there ∙ mine)) ∙ now_stands p (omega (arith, low_p, n))
+          ∙ there;
+      others = stays (λ p at off. elim (from p at) [ inl is ↦ absurd (off (ap cyclic_index is ∙ mine)) | inr old ↦ old ]);
     }
 
     -- it is free
-    pub changed_free : ((p : ℕ) → p < after → index_of (entry_at (take after new) p) ≢ x)
+    pub changed_free : ((p : ℕ) → p < after → cyclic_index (entry_at (take after new) p) ≢ x)
         → ((p : ℕ) → p < after → (q : ℕ) × (q < held) × (entry_at (take after new) p ≡ entry_at (take held es) q))
         → IsChanged leaves x free_entry (shown true held es) (shown true after new)
     changed_free none from = record {

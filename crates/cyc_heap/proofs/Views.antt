@@ -11,9 +11,9 @@ use Rattle.cyc_types.specs.Limits.{cyclics}
 use Rattle.cyc_types.specs.Series.{never}
 use Rattle.cyc_types.specs.Expirations.{Expiration, is_before}
 use Rattle.cyc_heap.specs.declared.entry.Entry.{Entry}
-use Rattle.cyc_heap.specs.Tournament.{key, entry_at, index_of, slot, slots, comes, last_position, winner_of, IsPlayed}
-use Rattle.cyc_heap.specs.Few.{IsFew, IsTournament, first_of, root_of}
-use Rattle.cyc_heap.specs.Heap.{HeapView, size_of, len_of, expiration_at, at_moment, with_moment, IsLeast}
+use Rattle.cyc_heap.specs.Tournament.{key, entry_at, cyclic_index, slot, slots, comes, last_position, winner_of, IsPlayed}
+use Rattle.cyc_heap.specs.Few.{IsFew, IsTournament, first_index, root_of, extent}
+use Rattle.cyc_heap.specs.Heap.{HeapView, size_of, used_count, expiration_at, expiration_moved, slots_moved, IsLeast}
 use Rattle.cyc_heap.proofs.Slots.{length-slots, slots_at, slot_used, slot_free, slots_more, count_with_free}
 use Rattle.cyc_heap.proofs.Playing.{comes_by_moment, least_of_all, one_of_all}
 use Rattle.cyc_heap.proofs.Moving.{first_least}
@@ -23,14 +23,14 @@ view_of is_few few leaves size xs room = record { slots = slots size xs; root = 
 
 -- the index at the root, by the last winner
 pub winner_used : (leaves : ℕ) (xs : List Entry) → (entry_at xs (last_position leaves)).moment ≤ never
-    → winner_of leaves xs ≡ Some (index_of (entry_at xs (last_position leaves)))
+    → winner_of leaves xs ≡ Some (cyclic_index (entry_at xs (last_position leaves)))
 winner_used leaves xs used = cond-false (ltb never (entry_at xs (last_position leaves)).moment) None
-    (Some (index_of (entry_at xs (last_position leaves)))) (le-ltb never (entry_at xs (last_position leaves)).moment used)
+    (Some (cyclic_index (entry_at xs (last_position leaves)))) (le-ltb never (entry_at xs (last_position leaves)).moment used)
 
 pub winner_free : (leaves : ℕ) (xs : List Entry) → never < (entry_at xs (last_position leaves)).moment
     → winner_of leaves xs ≡ None
 winner_free leaves xs unused = cond-true (ltb never (entry_at xs (last_position leaves)).moment) None
-    (Some (index_of (entry_at xs (last_position leaves)))) (lt-ltb never (entry_at xs (last_position leaves)).moment unused)
+    (Some (cyclic_index (entry_at xs (last_position leaves)))) (lt-ltb never (entry_at xs (last_position leaves)).moment unused)
 
 -- an index with an expiration is below the size
 pub held_low : (xs : List (Option Expiration)) (i : ℕ) (e : Expiration) → get_or xs i None ≡ Some e → i < length xs
@@ -63,8 +63,8 @@ count_none (Some e ∷ xs) none = absurd (let gone = none 0 in let never : ⊥ =
 
 -- another moment for an index that has an expiration
 pub moment_slots : (v : HeapView) (i m : ℕ) (e : Expiration) → expiration_at v i ≡ Some e
-    → set v.slots i (Some (at_moment m e)) ≡ with_moment v.slots i m
-moment_slots v i m e has = ap (λ o. set v.slots i (option_map (at_moment m) o)) (sym has)
+    → set v.slots i (Some (expiration_moved m e)) ≡ slots_moved v.slots i m
+moment_slots v i m e has = ap (λ o. set v.slots i (option_map (expiration_moved m) o)) (sym has)
 
 later : (m i n j : ℕ) → (ltb m n || ((m == n) && leb i j)) ≡ true → m ≤ n
 later m i n j h = grind (arith, nat_tests)
@@ -99,7 +99,7 @@ winner_top leaves xs played some = record {
 pub first_top : (few : List Entry) (leaves : ℕ) (xs : List Entry) → IsFew few leaves xs → 0 < length few
     → IsTop leaves xs (entry_at few 0)
 first_top few leaves xs h some = record {
-  one = (index_of (entry_at few 0), h.low 0 some, h.own 0 some);
+  one = (cyclic_index (entry_at few 0), h.low 0 some, h.own 0 some);
   before = λ k low. elim (cases_lt never (entry_at xs k).moment) [
     | inl unused ↦ (let used = h.used 0 some in comes_by_moment (entry_at few 0) (entry_at xs k) (omega (arith, used, unused)))
     | inr used ↦ (let (p, at, _, is) = h.all k low used in
@@ -108,7 +108,7 @@ first_top few leaves xs h some = record {
 }
 
 module _ (is_few : Bool) (few : List Entry) (leaves size given : ℕ) (xs : List Entry) (free : List ℕ) (room : ℕ) (v : HeapView)
-    (h : IsTournament is_few few leaves size given xs free) (is : view_of is_few few leaves size xs room ≡ v) where
+    (h : IsTournament is_few few (extent leaves size given) xs free) (is : view_of is_few few leaves size xs room ≡ v) where
   pub leaves_within : leaves ≤ length xs
   leaves_within = let long = h.long in let some = h.some in omega (arith, long, some)
 
@@ -126,8 +126,8 @@ module _ (is_few : Bool) (few : List Entry) (leaves size given : ℕ) (xs : List
       ∙ slots_more given (size - given) xs (omega (arith, known, inside))
       (λ i from low. h.unused i from (omega (arith, low, known, wide))))
 
-  pub len_is : len_of v + length free ≡ given
-  len_is = (let n = ap len_of is in
+  pub len_is : used_count v + length free ≡ given
+  len_is = (let n = ap used_count is in
       let all = ap (count_by is_some) slots_given ∙ count_with_free (slots given xs) (size - given) in
       let count = h.listed.count in omega (arith, n, all, count))
 
@@ -172,26 +172,26 @@ module _ (is_few : Bool) (few : List Entry) (leaves size given : ℕ) (xs : List
 
   -- its leaf holds its expiration, and has its index
   pub leaf_held : (i : ℕ) (x : Entry) → IsSome (expiration_at v i) → entry_at xs i ≡ x
-      → (expiration_at v (index_of x) ≡ Some (key x)) × (index_of x ≡ i)
+      → (expiration_at v (cyclic_index x) ≡ Some (key x)) × (cyclic_index x ≡ i)
   leaf_held i x some here =
       let (mine, low, _, used) = in_use i some in
-      let own : index_of x ≡ i = sym (ap index_of here) ∙ h.listed.own i mine used in (
+      let own : cyclic_index x ≡ i = sym (ap cyclic_index here) ∙ h.listed.own i mine used in (
         ap (expiration_at v) own ∙ at_used i low used ∙ ap (λ (e : Entry). Some (key e)) here,
         own,
       )
 
   -- the leaf before all is what its index has
-  pub top_used : (x : Entry) → IsTop leaves xs x → x.moment ≤ never → expiration_at v (index_of x) ≡ Some (key x)
+  pub top_used : (x : Entry) → IsTop leaves xs x → x.moment ≤ never → expiration_at v (cyclic_index x) ≡ Some (key x)
   top_used x top used =
       let (i, low, leaf) = top.one in
       let moment = ap (λ (e : Entry). e.moment) leaf in
       let mine = leaf_given i low (omega (arith, moment, used)) in
       let known = h.known in
-      let own : index_of x ≡ i = sym (ap index_of leaf) ∙ h.listed.own i mine (omega (arith, moment, used)) in
+      let own : cyclic_index x ≡ i = sym (ap cyclic_index leaf) ∙ h.listed.own i mine (omega (arith, moment, used)) in
       ap (expiration_at v) own ∙ at_used i (omega (arith, mine, known)) (omega (arith, moment, used))
       ∙ ap (λ (e : Entry). Some (key e)) leaf
 
-  pub top_least : (x : Entry) → IsTop leaves xs x → x.moment ≤ never → IsLeast v (index_of x) (key x)
+  pub top_least : (x : Entry) → IsTop leaves xs x → x.moment ≤ never → IsLeast v (cyclic_index x) (key x)
   top_least x top used = record {
     holds = top_used x top used;
     least = λ k other has. (let (low, _, same) = held k other has in
@@ -223,7 +223,7 @@ module _ (is_few : Bool) (few : List Entry) (leaves size given : ℕ) (xs : List
 
   -- what callers see at the root
   pub root_many : is_few ≡ false → v.root ≡ winner_of leaves xs
-  root_many many = sym (ap (λ (v : HeapView). v.root) is) ∙ cond-false is_few (first_of few) (winner_of leaves xs) many
+  root_many many = sym (ap (λ (v : HeapView). v.root) is) ∙ cond-false is_few (first_index few) (winner_of leaves xs) many
 
-  pub root_few : is_few ≡ true → v.root ≡ first_of few
-  root_few small = sym (ap (λ (v : HeapView). v.root) is) ∙ cond-true is_few (first_of few) (winner_of leaves xs) small
+  pub root_few : is_few ≡ true → v.root ≡ first_index few
+  root_few small = sym (ap (λ (v : HeapView). v.root) is) ∙ cond-true is_few (first_index few) (winner_of leaves xs) small

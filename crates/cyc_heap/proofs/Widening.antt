@@ -5,7 +5,7 @@ use Rattle.std.proofs.lemmas.Bool.{cases_lt, false≢true}
 use Rattle.std.proofs.lemmas.List.{get_or-take, get_or_default, same_lists}
 use Rattle.cyc_types.specs.Series.{never}
 use Rattle.cyc_heap.specs.declared.entry.Entry.{Entry}
-use Rattle.cyc_heap.specs.Tournament.{nowhere, entry_at, index_of, free_entry, IsPlayed}
+use Rattle.cyc_heap.specs.Tournament.{nowhere, entry_at, cyclic_index, free_entry, IsPlayed}
 use Rattle.cyc_heap.specs.Few.{spread, shown, IsFew, IsHeap, IsTree}
 use Rattle.cyc_heap.proofs.Views.{few_or_many}
 use Rattle.cyc_heap.proofs.Spreading.{member, stands, free_else, few_tree}
@@ -36,7 +36,7 @@ module _ (held leaves more : ℕ) (es new : List Entry) (t : IsTree true held le
       ∙ front k (omega (arith, less, w)) ∙ get_or_default es k nowhere d (omega (arith, less, w))
       ∙ sym (get_or-take held es k d less))
 
-  low_more : (p : ℕ) → p < length (take held es) → index_of (entry_at (take held es) p) < more
+  low_more : (p : ℕ) → p < length (take held es) → cyclic_index (entry_at (take held es) p) < more
   low_more p at = let m = few.low p at in omega (arith, m, wider)
 
   wide_new : more ≤ length new
@@ -64,7 +64,7 @@ module _ (held leaves more : ℕ) (es new : List Entry) (t : IsTree true held le
 
   pub few_wider : IsTree true held more new
   few_wider = few_tree held more new long inside (subst IsHeap (sym same_front) few.heap)
-      (subst (λ few. (p : ℕ) → p < length few → index_of (entry_at few p) < more) (sym same_front) low_more)
+      (subst (λ few. (p : ℕ) → p < length few → cyclic_index (entry_at few p) < more) (sym same_front) low_more)
       (subst (λ (few : List Entry). (p : ℕ) → p < length few → (entry_at few p).moment ≤ never) (sym same_front) few.used)
       (λ none. let l = t.long in front 0 (omega (arith, l)) ∙ t.front refl none)
 

@@ -19,28 +19,28 @@ abbrev pub size_of : HeapView → ℕ
 size_of heap = length heap.slots
 
 -- the number of indexes in use (`cyp_nelems` of sys/cyclic_impl.h)
-abbrev pub len_of : HeapView → ℕ
-len_of heap = count_by is_some heap.slots
+abbrev pub used_count : HeapView → ℕ
+used_count heap = count_by is_some heap.slots
 
 -- the expiration of an index, none where the index is free or not below the size
 abbrev pub expiration_at : HeapView → ℕ → Option Expiration
 expiration_at heap i = slice_index_or heap.slots i None
 
 -- the same cyclic's expiration at another moment
-abbrev pub at_moment : ℕ → Expiration → Expiration
-at_moment m e = record e { moment = m }
+abbrev pub expiration_moved : ℕ → Expiration → Expiration
+expiration_moved m e = record e { moment = m }
 
 -- the slots with another moment for this index
-abbrev pub with_moment : List (Option Expiration) → ℕ → ℕ → List (Option Expiration)
-with_moment slots i m = slice_set slots i (option_map (at_moment m) (slice_index_or slots i None))
+abbrev pub slots_moved : List (Option Expiration) → ℕ → ℕ → List (Option Expiration)
+slots_moved slots i m = slice_set slots i (option_map (expiration_moved m) (slice_index_or slots i None))
 
 -- an expiration as its moment and its id
 abbrev pub pair_of : Expiration → ℕ × ℕ
 pair_of e = (e.moment, e.id)
 
 -- no index is in use
-abbrev pub IsEmpty : HeapView → Type 0
-IsEmpty heap = (i : ℕ) → expiration_at heap i ≡ None
+abbrev pub IsEmptyHeap : HeapView → Type 0
+IsEmptyHeap heap = (i : ℕ) → expiration_at heap i ≡ None
 
 -- the index has this expiration, and no index has one that comes before it
 pub record IsLeast (heap : HeapView) (i : ℕ) (e : Expiration) : Type 0 where

@@ -14,14 +14,14 @@ abbrev pub nowhere : Entry
 nowhere = record { moment = 0; word = 0 }
 
 -- the id and the index of an entry's cyclic, which stand in one word, the id in the high bits
-abbrev pub id_of : Entry → ℕ
-id_of e = e.word / cyclics
+abbrev pub id_in_word : Entry → ℕ
+id_in_word e = e.word / cyclics
 
-abbrev pub index_of : Entry → ℕ
-index_of e = e.word % cyclics
+abbrev pub cyclic_index : Entry → ℕ
+cyclic_index e = e.word % cyclics
 
 abbrev pub key : Entry → Expiration
-key e = record { moment = e.moment; id = id_of e }
+key e = record { moment = e.moment; id = id_in_word e }
 
 abbrev pub entry_at : List Entry → ℕ → Entry
 entry_at entries p = slice_index_or entries p nowhere
@@ -45,7 +45,7 @@ last_position leaves = 2 * (leaves - 1)
 -- its index, none where all indexes are free
 abbrev pub winner_of : ℕ → List Entry → Option ℕ
 winner_of leaves entries = (if nat_lt never (entry_at entries (last_position leaves)).moment then None
-    else Some (index_of (entry_at entries (last_position leaves))))
+    else Some (cyclic_index (entry_at entries (last_position leaves))))
 
 -- a comes no later than b: it has the earlier moment, or the same one and no greater id; of one id the smaller index comes first
 abbrev pub comes : Entry → Entry → Bool
@@ -73,7 +73,7 @@ IsPlayedBut left_out leaves entries = (g : ℕ) → suc g < leaves → g ≢ lef
 -- of the indexes that were ever given, which are the smaller ones: a leaf that is not free has its own index, and these are free
 -- again, each once
 pub record IsListed (given : ℕ) (entries : List Entry) (free : List ℕ) : Type 0 where
-  pub own : (i : ℕ) → i < given → (entry_at entries i).moment ≤ never → index_of (entry_at entries i) ≡ i
+  pub own : (i : ℕ) → i < given → (entry_at entries i).moment ≤ never → cyclic_index (entry_at entries i) ≡ i
   pub low : (p : ℕ) → p < length free → slice_index_or free p 0 < given
   pub none : (p : ℕ) → p < length free → never < (entry_at entries (slice_index_or free p 0)).moment
   pub apart : (p q : ℕ) → p < q → q < length free → slice_index_or free p 0 ≢ slice_index_or free q 0

@@ -3,8 +3,8 @@
 ghost use Rattle.std.specs.Prelude.{◌≡◌, ◌<◌, ◌≤◌, ◌+◌, ◌*◌, ◌/◌, ℕ, length, take, is_some, count_by, vec_capacity, true, false};
 ghost use Rattle.cyc_types.specs.Limits.{cyclics};
 ghost use Rattle.cyc_types.specs.Series.{never};
-ghost use Rattle.cyc_heap.specs.Tournament.{entry_at, index_of, free_entry, slots};
-ghost use Rattle.cyc_heap.specs.Few.{most_few, HasNo, StandsIn, IsHeap, shown, IsTree};
+ghost use Rattle.cyc_heap.specs.Tournament.{entry_at, cyclic_index, free_entry, slots};
+ghost use Rattle.cyc_heap.specs.Few.{most_few, HasNoIndex, StandsIn, IsHeap, shown, IsTree};
 
 use crate::entry::Entry;
 use crate::few::put;
@@ -32,9 +32,9 @@ fn clear(leaves: &mut [Entry])
 /// Puts each of the few into the leaf of its index.
 fn enter_few(few: &[Entry], leaves: &mut [Entry])
     requires heap { IsHeap few.now }
-    requires low { (p : ℕ) → p < length few.now → index_of (entry_at few.now p) < length leaves.old }
+    requires low { (p : ℕ) → p < length few.now → cyclic_index (entry_at few.now p) < length leaves.old }
     ensures here { StandsIn leaves.new few.now }
-    ensures others { (i : ℕ) → i < length leaves.old → HasNo i few.now → entry_at leaves.new i ≡ entry_at leaves.old i }
+    ensures others { (i : ℕ) → i < length leaves.old → HasNoIndex i few.now → entry_at leaves.new i ≡ entry_at leaves.old i }
     ensures long { length leaves.new ≡ length leaves.old }
 {
     for entry in few {
@@ -48,9 +48,10 @@ fn leave_front(leaves: &mut [Entry], behind: &mut [Entry], held: usize)
     requires within { held ≤ length leaves.old }
     requires space { held ≤ length behind.old }
     requires heap { IsHeap (take held leaves.old) }
-    requires low { (p : ℕ) → p < length (take held leaves.old) → index_of (entry_at (take held leaves.old) p) < length leaves.old }
+    requires low { (p : ℕ) → p < length (take held leaves.old)
+        → cyclic_index (entry_at (take held leaves.old) p) < length leaves.old }
     ensures here { StandsIn leaves.new (take held leaves.old) }
-    ensures free { (i : ℕ) → i < length leaves.old → HasNo i (take held leaves.old) → entry_at leaves.new i ≡ free_entry }
+    ensures free { (i : ℕ) → i < length leaves.old → HasNoIndex i (take held leaves.old) → entry_at leaves.new i ≡ free_entry }
     ensures long { length leaves.new ≡ length leaves.old }
     ensures long_behind { length behind.new ≡ length behind.old }
 {
@@ -65,7 +66,7 @@ fn spread_few(entries: &mut [Entry], held: usize, leaves: usize)
     requires low { held < leaves }
     requires tree { IsTree true held leaves entries.old }
     ensures here { StandsIn entries.new (take held entries.old) }
-    ensures free { (i : ℕ) → i < leaves → HasNo i (take held entries.old) → entry_at entries.new i ≡ free_entry }
+    ensures free { (i : ℕ) → i < leaves → HasNoIndex i (take held entries.old) → entry_at entries.new i ≡ free_entry }
     ensures long { length entries.new ≡ length entries.old }
 {
     let (front, behind) = entries.split_at_mut(leaves);
@@ -90,7 +91,8 @@ pub(crate) fn play_few(entries: &mut Vec<Entry>, held: usize, leaves: usize)
 pub(crate) fn gather(entries: &mut Vec<Entry>, leaves: usize) -> usize
     requires some { 0 < leaves }
     requires leaves { leaves ≤ cyclics }
-    requires own { (i : ℕ) → i < leaves → (entry_at entries.old.items i).moment ≤ never → index_of (entry_at entries.old.items i) ≡ i }
+    requires own { (i : ℕ) → i < leaves → (entry_at entries.old.items i).moment ≤ never
+        → cyclic_index (entry_at entries.old.items i) ≡ i }
     requires tree { IsTree false 0 leaves entries.old.items }
     ensures tree { IsTree true result leaves entries.new.items }
     ensures kept { (i : ℕ) → i < leaves → entry_at (shown true result entries.new.items) i ≡ entry_at entries.old.items i }

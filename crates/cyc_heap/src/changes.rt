@@ -3,7 +3,7 @@
 ghost use Rattle.std.specs.Prelude.{◌≡◌, ◌≢◌, ◌<◌, ◌≤◌, ◌+◌, ◌-◌, ◌*◌, ℕ, length, vec_capacity, true, false};
 ghost use Rattle.cyc_types.specs.Limits.{cyclics};
 ghost use Rattle.cyc_types.specs.Series.{never};
-ghost use Rattle.cyc_heap.specs.Tournament.{entry_at, index_of, free_entry};
+ghost use Rattle.cyc_heap.specs.Tournament.{entry_at, cyclic_index, free_entry};
 ghost use Rattle.cyc_heap.specs.Few.{shown, IsTree, IsChanged};
 
 use crate::entry::Entry;
@@ -29,7 +29,8 @@ pub(crate) fn lower_first(entries: &mut Vec<Entry>, held: usize, leaves: usize, 
     requires some { 0 < held }
     requires tree { IsTree true held leaves entries.old.items }
     ensures tree { IsTree true held leaves entries.new.items }
-    ensures changed { IsChanged leaves (index_of (entry_at entries.old.items 0)) (record (entry_at entries.old.items 0) { moment = moment })
+    ensures changed { IsChanged leaves (cyclic_index (entry_at entries.old.items 0))
+        (record (entry_at entries.old.items 0) { moment = moment })
         (shown true held entries.old.items) (shown true held entries.new.items) }
     ensures valid { moment ≤ never }
     ensures room { vec_capacity entries.new ≡ vec_capacity entries.old }
@@ -50,9 +51,9 @@ fn change_few(entries: &mut Vec<Entry>, held: usize, leaves: usize, index: Index
     ensures valid { moment ≤ never }
     ensures room { vec_capacity entries.new ≡ vec_capacity entries.old }
 {
-    let place = find(&entries.as_slice()[..held], index).unwrap();
-    let entry = at_moment(&entries[place], moment);
-    put(entries, held, place, entry);
+    let position = find(&entries.as_slice()[..held], index).unwrap();
+    let entry = at_moment(&entries[position], moment);
+    put(entries, held, position, entry);
 }
 
 /// One of many has another moment. A fire calls this, so that in its loop over few the games take no place.
@@ -67,9 +68,9 @@ pub(crate) fn change_many(entries: &mut Vec<Entry>, leaves: usize, index: Index,
     ensures valid { moment ≤ never }
     ensures room { vec_capacity entries.new ≡ vec_capacity entries.old }
 {
-    let position = usize::from(index.number());
-    let entry = at_moment(&entries[position], moment);
-    enter(entries, leaves, position, entry);
+    let leaf = usize::from(index.number());
+    let entry = at_moment(&entries[leaf], moment);
+    enter(entries, leaves, leaf, entry);
 }
 
 /// The expiration of this index has another moment.
@@ -103,7 +104,7 @@ pub(crate) fn change(
 fn add_few(entries: &mut Vec<Entry>, held: usize, leaves: usize, index: Index, entry: Entry)
     requires leaves { leaves ≤ cyclics }
     requires index { index < leaves }
-    requires own { index_of entry ≡ index }
+    requires own { cyclic_index entry ≡ index }
     requires valid { entry.moment ≤ never }
     requires free { never < (entry_at (shown true held entries.old.items) index).moment }
     requires space { held < length entries.old.items }
@@ -126,7 +127,7 @@ pub(crate) fn add(
 ) -> usize
     requires leaves { leaves ≤ cyclics }
     requires index { index < leaves }
-    requires own { index_of entry ≡ index }
+    requires own { cyclic_index entry ≡ index }
     requires valid { entry.moment ≤ never }
     requires free { never < (entry_at (shown is_few held entries.old.items) index).moment }
     requires space { held < length entries.old.items }
@@ -147,7 +148,7 @@ pub(crate) fn add(
     0
 }
 
-/// The index is free from now on, where they are few: the last of them is put into its place (`cyclic_remove_here`).
+/// The index is free from now on, where they are few: the last of them is put where it was (`cyclic_remove_here`).
 fn take_few(entries: &mut Vec<Entry>, held: usize, leaves: usize, index: Index)
     requires leaves { leaves ≤ cyclics }
     requires index { index < leaves }
@@ -155,15 +156,16 @@ fn take_few(entries: &mut Vec<Entry>, held: usize, leaves: usize, index: Index)
     requires tree { IsTree true held leaves entries.old.items }
     ensures some { 0 < held }
     ensures tree { IsTree true (held - 1) leaves entries.new.items }
-    ensures changed { IsChanged leaves index free_entry (shown true held entries.old.items) (shown true (held - 1) entries.new.items) }
+    ensures changed { IsChanged leaves index free_entry (shown true held entries.old.items)
+        (shown true (held - 1) entries.new.items) }
     ensures room { vec_capacity entries.new ≡ vec_capacity entries.old }
 {
-    let place = find(&entries.as_slice()[..held], index).unwrap();
+    let position = find(&entries.as_slice()[..held], index).unwrap();
     let last = held - 1;
     let moved = entries[last];
     entries[last] = Entry::free();
-    if place < last {
-        put(entries, last, place, moved);
+    if position < last {
+        put(entries, last, position, moved);
     }
 }
 
@@ -181,7 +183,8 @@ pub(crate) fn take(
     requires many { is_few ≡ false → held ≡ 0 }
     requires tree { IsTree is_few held leaves entries.old.items }
     ensures tree { IsTree is_few result leaves entries.new.items }
-    ensures changed { IsChanged leaves index free_entry (shown is_few held entries.old.items) (shown is_few result entries.new.items) }
+    ensures changed { IsChanged leaves index free_entry (shown is_few held entries.old.items)
+        (shown is_few result entries.new.items) }
     ensures few { is_few ≡ true → result + 1 ≡ held }
     ensures many { is_few ≡ false → result ≡ 0 }
     ensures room { vec_capacity entries.new ≡ vec_capacity entries.old }

@@ -4,7 +4,7 @@ ghost use Rattle.std.specs.Prelude.{◌≡◌, ◌≢◌, ◌+◌, ◌*◌, ◌/
 ghost use Rattle.std.specs.Bool.{OnTrue, OnFalse};
 ghost use Rattle.cyc_types.specs.Limits.{cyclics, last_id};
 ghost use Rattle.cyc_types.specs.Series.{never};
-ghost use Rattle.cyc_heap.specs.Tournament.{id_of, index_of, comes, free_entry};
+ghost use Rattle.cyc_heap.specs.Tournament.{id_in_word, cyclic_index, comes, free_entry};
 
 use cyc_types::{CYCLICS, CyclicId, Index, Moment};
 use std::marker::Model;
@@ -79,7 +79,8 @@ impl Word {
 /// The moment at which a free index has its turn: it comes after every moment.
 const FREE: u64 = u64::MAX;
 
-/// An expiration and the index of its cyclic. Where the index is free, its moment is after every other, and the word means nothing.
+/// An expiration and the index of its cyclic. Where the index is free, its moment is after every other, and the word means
+/// nothing.
 #[derive(Clone, Copy)]
 pub(crate) struct Entry {
     pub moment: u64,
@@ -91,8 +92,8 @@ impl Entry {
     pub(crate) fn new(moment: Moment, id: CyclicId, index: Index) -> Entry
         ensures moment { result.moment ≡ moment }
         ensures valid { result.moment ≤ never }
-        ensures id { id_of result ≡ id }
-        ensures index { index_of result ≡ index }
+        ensures id { id_in_word result ≡ id }
+        ensures index { cyclic_index result ≡ index }
     {
         Entry {
             moment: moment.nanoseconds(),
@@ -121,22 +122,22 @@ impl Entry {
 
     /// The id of the cyclic.
     pub(crate) fn id(&self) -> CyclicId
-        ensures { result ≡ id_of self.now }
+        ensures { result ≡ id_in_word self.now }
     {
         self.word.id()
     }
 
     /// The index of the cyclic.
     pub(crate) fn index(&self) -> Index
-        ensures { result ≡ index_of self.now }
+        ensures { result ≡ cyclic_index self.now }
     {
         self.word.index()
     }
 
     /// Whether it is the entry of the cyclic with this index.
     pub(crate) fn is_of(&self, index: Index) -> bool
-        ensures there { OnTrue result (index_of self.now ≡ index) }
-        ensures elsewhere { OnFalse result (index_of self.now ≢ index) }
+        ensures there { OnTrue result (cyclic_index self.now ≡ index) }
+        ensures elsewhere { OnFalse result (cyclic_index self.now ≢ index) }
     {
         self.word.is_of(index)
     }

@@ -2,18 +2,20 @@
 //! foretold, where a game waits for what it compares.
 
 ghost use Rattle.std.specs.Prelude.{◌≡◌, ◌≢◌, ◌≤◌, ◌⊎◌, ℕ, ◌+◌, ◌*◌, ◌<◌, length, take, drop, vec_capacity, true, IfSome, IfNone};
-ghost use Rattle.cyc_heap.specs.Tournament.{entry_at, index_of, comes};
-ghost use Rattle.cyc_heap.specs.Few.{IsHeap, IsHeapBut, IsBelow, IsSame, IsFilled, HasNo};
+ghost use Rattle.cyc_heap.specs.Tournament.{entry_at, cyclic_index, comes};
+ghost use Rattle.cyc_heap.specs.Few.{IsHeap, IsHeapBut, IsBelow, IsSame, IsFilled, HasNoIndex};
 
 use crate::entry::Entry;
 use cyc_types::Index;
 
-/// The place of the entry of this index, None where there is none (the walk of `cyclic_remove_here` and `cyclic_reprogram_here`).
+/// The position of the entry of this index, None where there is none (the walk of `cyclic_remove_here` and
+/// `cyclic_reprogram_here`).
 ///
-/// It looks at the last one first: one that is armed again and again mostly expires after all others, and then stands behind them.
+/// It looks at the last one first: one that is armed again and again mostly expires after all others, and then stands behind
+/// them.
 pub(crate) fn find(few: &[Entry], index: Index) -> Option<usize>
-    ensures none { IfNone result (HasNo index few.now) }
-    ensures some { IfSome result (λ p. (p < length few.now) × (index_of (entry_at few.now p) ≡ index)) }
+    ensures none { IfNone result (HasNoIndex index few.now) }
+    ensures some { IfSome result (λ p. (p < length few.now) × (cyclic_index (entry_at few.now p) ≡ index)) }
 {
     if few.last().is_some_and(|last| last.is_of(index)) {
         return Some(few.len() - 1);
@@ -21,16 +23,17 @@ pub(crate) fn find(few: &[Entry], index: Index) -> Option<usize>
     few.iter().position(|entry| entry.is_of(index))
 }
 
-/// The place below this one whose entry expires first, of a place that has one below it.
+/// The position below this one whose entry expires first, of a position that has one below it.
 #[inline(always)]
-fn first_child(few: &[Entry], place: usize) -> usize
-    requires some { 2 * place + 1 < length few.now }
+fn first_child(few: &[Entry], position: usize) -> usize
+    requires some { 2 * position + 1 < length few.now }
     ensures low { result < length few.now }
-    ensures child { (result ≡ 2 * place + 1) ⊎ (result ≡ 2 * place + 2) }
-    ensures left { comes (entry_at few.now result) (entry_at few.now (2 * place + 1)) ≡ true }
-    ensures right { 2 * place + 2 < length few.now → comes (entry_at few.now result) (entry_at few.now (2 * place + 2)) ≡ true }
+    ensures child { (result ≡ 2 * position + 1) ⊎ (result ≡ 2 * position + 2) }
+    ensures left { comes (entry_at few.now result) (entry_at few.now (2 * position + 1)) ≡ true }
+    ensures right { 2 * position + 2 < length few.now
+        → comes (entry_at few.now result) (entry_at few.now (2 * position + 2)) ≡ true }
 {
-    let left = 2 * place + 1;
+    let left = 2 * position + 1;
     if left + 1 == few.len() {
         return left;
     }
@@ -38,15 +41,15 @@ fn first_child(few: &[Entry], place: usize) -> usize
 }
 
 /// Moves the hole up while the entry above expires after this one, and says where the hole is (`cyclic_upheap`).
-fn rise(few: &mut [Entry], place: usize, entry: &Entry) -> usize
-    requires place { place < length few.old }
-    requires heap { IsHeapBut place few.old }
+fn rise(few: &mut [Entry], position: usize, entry: &Entry) -> usize
+    requires position { position < length few.old }
+    requires heap { IsHeapBut position few.old }
     ensures low { result < length few.new }
     ensures heap { IsHeapBut result few.new }
     ensures below { IsBelow entry.now result few.new }
-    ensures same { IsSame place few.old result few.new }
+    ensures same { IsSame position few.old result few.new }
 {
-    let mut hole = place;
+    let mut hole = position;
     while hole > 0 {
         let parent = (hole - 1) / 2;
         let moved = few[parent];
@@ -61,15 +64,15 @@ fn rise(few: &mut [Entry], place: usize, entry: &Entry) -> usize
 
 /// Moves the hole down while an entry below expires before this one, and puts this one there (`cyclic_downheap`).
 #[inline(always)]
-fn sink(few: &mut [Entry], place: usize, entry: Entry)
-    requires place { place < length few.old }
-    requires heap { IsHeapBut place few.old }
-    requires below { IsBelow entry place few.old }
-    requires apart { (p : ℕ) → p < length few.old → p ≢ place → index_of (entry_at few.old p) ≢ index_of entry }
+fn sink(few: &mut [Entry], position: usize, entry: Entry)
+    requires position { position < length few.old }
+    requires heap { IsHeapBut position few.old }
+    requires below { IsBelow entry position few.old }
+    requires apart { (p : ℕ) → p < length few.old → p ≢ position → cyclic_index (entry_at few.old p) ≢ cyclic_index entry }
     ensures heap { IsHeap few.new }
-    ensures filled { IsFilled place few.old entry few.new }
+    ensures filled { IsFilled position few.old entry few.new }
 {
-    let mut hole = place;
+    let mut hole = position;
     while 2 * hole + 1 < few.len() {
         let child = first_child(few, hole);
         let moved = few[child];
@@ -82,32 +85,32 @@ fn sink(few: &mut [Entry], place: usize, entry: Entry)
     few[hole] = entry;
 }
 
-/// Puts an entry where it belongs in place of the one at this place.
-fn settle(few: &mut [Entry], place: usize, entry: Entry)
-    requires place { place < length few.old }
-    requires heap { IsHeapBut place few.old }
-    requires apart { (p : ℕ) → p < length few.old → p ≢ place → index_of (entry_at few.old p) ≢ index_of entry }
+/// Puts an entry where it belongs in place of the one at this position.
+fn settle(few: &mut [Entry], position: usize, entry: Entry)
+    requires position { position < length few.old }
+    requires heap { IsHeapBut position few.old }
+    requires apart { (p : ℕ) → p < length few.old → p ≢ position → cyclic_index (entry_at few.old p) ≢ cyclic_index entry }
     ensures heap { IsHeap few.new }
-    ensures filled { IsFilled place few.old entry few.new }
+    ensures filled { IsFilled position few.old entry few.new }
 {
-    let hole = rise(few, place, &entry);
+    let hole = rise(few, position, &entry);
     sink(few, hole, entry);
 }
 
 /// The same among so many that stand in front.
-pub(crate) fn put(entries: &mut Vec<Entry>, held: usize, place: usize, entry: Entry)
+pub(crate) fn put(entries: &mut Vec<Entry>, held: usize, position: usize, entry: Entry)
     requires held { held ≤ length entries.old.items }
-    requires place { place < held }
-    requires heap { IsHeapBut place (take held entries.old.items) }
-    requires apart { (p : ℕ) → p < held → p ≢ place → index_of (entry_at entries.old.items p) ≢ index_of entry }
+    requires position { position < held }
+    requires heap { IsHeapBut position (take held entries.old.items) }
+    requires apart { (p : ℕ) → p < held → p ≢ position → cyclic_index (entry_at entries.old.items p) ≢ cyclic_index entry }
     ensures heap { IsHeap (take held entries.new.items) }
-    ensures filled { IsFilled place (take held entries.old.items) entry (take held entries.new.items) }
+    ensures filled { IsFilled position (take held entries.old.items) entry (take held entries.new.items) }
     ensures behind { drop held entries.new.items ≡ drop held entries.old.items }
     ensures long { length entries.new.items ≡ length entries.old.items }
     ensures room { vec_capacity entries.new ≡ vec_capacity entries.old }
 {
     let (front, _behind) = entries.as_mut_slice().split_at_mut(held);
-    settle(front, place, entry);
+    settle(front, position, entry);
 }
 
 /// The same in place of the first.
@@ -116,7 +119,7 @@ pub(crate) fn put_first(entries: &mut Vec<Entry>, held: usize, entry: Entry)
     requires held { held ≤ length entries.old.items }
     requires some { 0 < held }
     requires heap { IsHeapBut 0 (take held entries.old.items) }
-    requires apart { (p : ℕ) → p < held → p ≢ 0 → index_of (entry_at entries.old.items p) ≢ index_of entry }
+    requires apart { (p : ℕ) → p < held → p ≢ 0 → cyclic_index (entry_at entries.old.items p) ≢ cyclic_index entry }
     ensures heap { IsHeap (take held entries.new.items) }
     ensures filled { IsFilled 0 (take held entries.old.items) entry (take held entries.new.items) }
     ensures behind { drop held entries.new.items ≡ drop held entries.old.items }

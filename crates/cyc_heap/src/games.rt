@@ -36,8 +36,8 @@ fn play(entries: &mut [Entry], leaves: usize, position: usize) -> usize
     won
 }
 
-/// Plays the next games from this position on, at most four. The answer is where the last of their winners stands, which has games to
-/// come or has won all. None where it has won all earlier.
+/// Plays the next games from this position on, at most four. The answer is where the last of their winners stands, which has
+/// games to come or has won all. None where it has won all earlier.
 #[inline(always)]
 fn play_four(entries: &mut [Entry], leaves: usize, position: usize) -> Option<usize>
     requires few { leaves ≤ cyclics }
@@ -70,8 +70,8 @@ fn play_four(entries: &mut [Entry], leaves: usize, position: usize) -> Option<us
     Some(play(entries, leaves, position))
 }
 
-/// Puts an entry into the leaf of an index, and plays the games above it again: at most twelve. There is no loop, so that each winner
-/// is chosen with no branch, and none is read that was just written.
+/// Puts an entry into the leaf of an index, and plays the games above it again: at most twelve. There is no loop, so that each
+/// winner is chosen with no branch, and none is read that was just written.
 #[inline(never)]
 fn replay(entries: &mut [Entry], leaves: usize, index: usize, entry: Entry)
     requires few { leaves ≤ cyclics }

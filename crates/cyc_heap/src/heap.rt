@@ -1,15 +1,16 @@
 //! The heap of expirations, with a look-up by index.
 
-ghost use Rattle.std.specs.Prelude.{◌≡◌, ℕ, ◌+◌, ◌-◌, ◌*◌, ◌/◌, ◌<◌, ◌≤◌, ◌⊎◌, ◌↔◌, ◌++◌, [], ◌∷◌, true, false, max, length, replicate, slice_set};
+ghost use Rattle.std.specs.Prelude.{◌≡◌, ℕ, ◌+◌, ◌-◌, ◌*◌, ◌/◌, ◌<◌, ◌≤◌, ◌⊎◌, ◌↔◌, ◌++◌, [], ◌∷◌, true, false};
+ghost use Rattle.std.specs.Prelude.{max, length, replicate, slice_set};
 ghost use Rattle.std.specs.Prelude.{option_map, Some, None, IsSome, IfSome, IfNone, IfOk, IfErr, OnOk, OnErr, vec_len};
 ghost use Rattle.std.specs.Prelude.{vec_capacity, is_some, count_by};
 ghost use Rattle.cyc_types.specs.Limits.{cyclics};
 ghost use Rattle.cyc_types.specs.declared.refusal.Refusal.TheVariants.{Memory};
 ghost use Rattle.cyc_types.specs.Expirations.{Expiration};
 ghost use Rattle.cyc_types.specs.Series.{never};
-ghost use Rattle.cyc_heap.specs.Tournament.{key, index_of, entry_at, free_entry, slots, IsPlayed};
+ghost use Rattle.cyc_heap.specs.Tournament.{key, cyclic_index, entry_at, free_entry, slots, IsPlayed};
 ghost use Rattle.cyc_heap.specs.Few.{most_few, root_position, shown, IsTree};
-ghost use Rattle.cyc_heap.specs.Heap.{HeapView, new_heap, size_of, len_of, expiration_at, with_moment, pair_of, IsEmpty, IsLeast};
+ghost use Rattle.cyc_heap.specs.Heap.{HeapView, new_heap, size_of, used_count, expiration_at, slots_moved, pair_of, IsEmptyHeap, IsLeast};
 
 use crate::between::{few_at_most, gather, play_few};
 use crate::changes::{add, change, change_many, lower_first, take};
@@ -25,11 +26,12 @@ use std::marker::Model;
 ///
 /// Few expirations are a heap in an array, as the kernel's, and many are a tournament (our own): a change of any expiration sifts
 /// it among the few, or plays the games above its index again, at most twelve. An insertion that leads from few to many plays all
-/// games, and a removal that leads back sifts all that are left; of the same leaves at least 16 others lie between two such calls.
+/// games, and a removal that leads back sifts all that are left; of the same leaves at least 16 others lie between two such
+/// calls.
 #[derive(Drop)]
 pub struct ExpiryHeap {
-    /// Few expirations as a heap in front, where what stands behind means nothing; or the leaves, and after them the winner of each
-    /// game.
+    /// Few expirations as a heap in front, where what stands behind means nothing; or the leaves, and after them the winner of
+    /// each game.
     entries: Vec<Entry>,
     /// Where the least expiration stands: in front, or as the last winner.
     root: usize,
@@ -54,7 +56,7 @@ impl Model for ExpiryHeap {
     ghost use Rattle.std.specs.Prelude.{suc, ◌*◌, ◌≤◌, vec_capacity, take};
     ghost use Rattle.cyc_heap.specs.Heap.{HeapView};
     ghost use Rattle.cyc_heap.specs.Tournament.{slots};
-    ghost use Rattle.cyc_heap.specs.Few.{shown, root_of, IsTournament, IsFront};
+    ghost use Rattle.cyc_heap.specs.Few.{shown, root_of, IsTournament, IsFront, extent};
 
     ghost Value = { HeapView };
 
@@ -65,8 +67,9 @@ impl Model for ExpiryHeap {
       room = h.room;
     } };
 
-    ghost invariant = { λ h. IsTournament h.is_few (take h.held h.entries.items) h.leaves h.size h.given
-        (shown h.is_few h.held h.entries.items) h.free.items × IsFront h.is_few h.held h.root h.leaves h.given h.entries.items h.free.items
+    ghost invariant = { λ h. IsTournament h.is_few (take h.held h.entries.items) (extent h.leaves h.size h.given)
+        (shown h.is_few h.held h.entries.items) h.free.items
+        × IsFront h.is_few h.held h.root (extent h.leaves h.size h.given) h.entries.items h.free.items
         × (h.size ≤ h.room) × (2 * h.room ≤ suc (vec_capacity h.entries)) × (h.room ≤ vec_capacity h.free) };
 }
 
@@ -111,8 +114,9 @@ impl ExpiryHeap {
         Ok(())
     }
 
-    /// Adds free indexes up to this size (`cyclic_expand`). Takes no memory. O(1), but for a call that lays out more leaves, twice as
-    /// many where the memory is there: it writes fewer than twice `CYCLICS` entries, and where many play it plays all games.
+    /// Adds free indexes up to this size (`cyclic_expand`). Takes no memory. O(1), but for a call that lays out more leaves,
+    /// twice as many where the memory is there: it writes fewer than twice `CYCLICS` entries, and where many play it plays all
+    /// games.
     pub fn widen(&mut self, size: usize)
         requires few { size ≤ cyclics }
         requires reserved { size ≤ self.old.room }
@@ -129,7 +133,7 @@ impl ExpiryHeap {
 
     /// Puts in an expiration, and gives the index that it has from now on: one that was free. Takes no memory.
     pub fn insert(&mut self, moment: Moment, id: CyclicId) -> Index
-        requires { len_of self.old < size_of self.old }
+        requires { used_count self.old < size_of self.old }
         ensures below { result < size_of self.old }
         ensures free { expiration_at self.old result ≡ None }
         ensures slots { self.new.slots ≡ slice_set self.old.slots result (Some (record { moment = moment; id = id })) }
@@ -152,8 +156,8 @@ impl ExpiryHeap {
 
     /// The least expiration by its moment and then its id, and its index. None where no index is in use.
     pub fn root(&self) -> Option<(Index, Moment, CyclicId)>
-        ensures some { IsSome result ↔ (0 < len_of self.now) }
-        ensures empty { IfNone result (IsEmpty self.now) }
+        ensures some { IsSome result ↔ (0 < used_count self.now) }
+        ensures empty { IfNone result (IsEmptyHeap self.now) }
         ensures root { self.now.root ≡ option_map (λ found. found.0) result }
         ensures least { IfSome result (λ found. IsLeast self.now found.0 (record { moment = found.1; id = found.2 })) }
     {
@@ -163,10 +167,10 @@ impl ExpiryHeap {
     }
 
     /// The root where its moment has come: its index, how long ago that was, in nanoseconds, and its id. None where the moment is
-    /// later than `now`, and where no index is in use: one subtraction tells both, since the entry of a free index comes after every
-    /// moment.
+    /// later than `now`, and where no index is in use: one subtraction tells both, since the entry of a free index comes after
+    /// every moment.
     pub fn due_root(&self, now: Moment) -> Option<(Index, u64, CyclicId)>
-        ensures none { IfNone result (IsEmpty self.now ⊎ ((i : ℕ) × (e : Expiration) × IsLeast self.now i e × (now < e.moment))) }
+        ensures none { IfNone result (IsEmptyHeap self.now ⊎ ((i : ℕ) × (e : Expiration) × IsLeast self.now i e × (now < e.moment))) }
         ensures due { IfSome result (λ found. found.1 ≤ now) }
         ensures root { IfSome result (λ found. self.now.root ≡ Some found.0) }
         ensures least { IfSome result (λ found. IsLeast self.now found.0 (record { moment = now - found.1; id = found.2 })) }
@@ -179,9 +183,9 @@ impl ExpiryHeap {
     /// The entry at the root, which may be that of a free index.
     #[inline(always)]
     fn first(&self) -> Entry
-        ensures free { never < result.moment → IsEmpty self.now × (self.now.root ≡ None) }
-        ensures used { result.moment ≤ never → IsLeast self.now (index_of result) (key result)
-            × (self.now.root ≡ Some (index_of result)) }
+        ensures free { never < result.moment → IsEmptyHeap self.now × (self.now.root ≡ None) }
+        ensures used { result.moment ≤ never → IsLeast self.now (cyclic_index result) (key result)
+            × (self.now.root ≡ Some (cyclic_index result)) }
     {
         self.entries[self.root]
     }
@@ -190,7 +194,7 @@ impl ExpiryHeap {
     #[inline(always)]
     pub fn lower_root(&mut self, moment: Moment)
         requires { IsSome self.old.root }
-        ensures slots { IfSome self.old.root (λ index. self.new.slots ≡ with_moment self.old.slots index moment) }
+        ensures slots { IfSome self.old.root (λ index. self.new.slots ≡ slots_moved self.old.slots index moment) }
         ensures room { self.new.room ≡ self.old.room }
     {
         let held = self.held;
@@ -205,7 +209,7 @@ impl ExpiryHeap {
     /// Gives the expiration of this index another moment, earlier or later (`cyclic_reprogram_cyclic`).
     pub fn replace(&mut self, index: Index, moment: Moment)
         requires { IsSome (expiration_at self.old index) }
-        ensures slots { self.new.slots ≡ with_moment self.old.slots index moment }
+        ensures slots { self.new.slots ≡ slots_moved self.old.slots index moment }
         ensures room { self.new.room ≡ self.old.room }
     {
         change(
@@ -259,7 +263,7 @@ impl ExpiryHeap {
     {
         if self.is_few {
             return match find(&self.entries.as_slice()[..self.held], index) {
-                Some(place) => self.entries[place],
+                Some(position) => self.entries[position],
                 None => Entry::free(),
             };
         }
@@ -272,7 +276,7 @@ impl ExpiryHeap {
 
     /// How many indexes are in use.
     pub fn len(&self) -> usize
-        ensures value { result ≡ len_of self.now }
+        ensures value { result ≡ used_count self.now }
         ensures few { result ≤ size_of self.now }
     {
         self.given - self.free.len()
@@ -335,7 +339,7 @@ fn is_few_now(
     requires leaves { leaves ≤ cyclics }
     requires none { is_few ≡ false → held.old ≡ 0 }
     requires own { (i : ℕ) → i < leaves → (entry_at (shown is_few held.old entries.old.items) i).moment ≤ never
-        → index_of (entry_at (shown is_few held.old entries.old.items) i) ≡ i }
+        → cyclic_index (entry_at (shown is_few held.old entries.old.items) i) ≡ i }
     requires tree { IsTree is_few held.old leaves entries.old.items }
     ensures tree { IsTree result held.new leaves entries.new.items }
     ensures long { length entries.new.items ≡ length entries.old.items }

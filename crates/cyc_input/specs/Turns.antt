@@ -19,7 +19,7 @@ IsWithin (Ok Interrupted) buffer = Unit {0}
 IsWithin (Err e) buffer = Unit {0}
 
 -- a turn gave the reader's next bytes, none only at its end or with no room; an interrupted or failed one left them all
-abbrev pub Gives : {E : Type 0} → Option (List ℕ) → Option (List ℕ) → Result Turn E → List ℕ → Type 0
-Gives old new (Ok (Bytes n)) buffer = Consumes old new (take n buffer) × (n ≡ 0 → 0 < length buffer → IsAtEnd new)
-Gives old new (Ok Interrupted) buffer = Keeps old new
-Gives old new (Err e) buffer = Keeps old new
+abbrev pub GivesBytes : {E : Type 0} → Option (List ℕ) → Option (List ℕ) → Result Turn E → List ℕ → Type 0
+GivesBytes old new (Ok (Bytes n)) buffer = Consumes old new (take n buffer) × (n ≡ 0 → 0 < length buffer → IsAtEnd new)
+GivesBytes old new (Ok Interrupted) buffer = Keeps old new
+GivesBytes old new (Err e) buffer = Keeps old new

@@ -1,7 +1,7 @@
 //! A reader that is asked at most so often.
 
 ghost use Rattle.std.specs.Prelude.{◌≡◌, ◌≤◌, ◌<◌, false, true, is_ok, if◌then◌else◌, IsErr, IfErr, OnOk};
-ghost use Rattle.cyc_input.specs.Turns.{most_turns, turn_after, IsWithin, Gives};
+ghost use Rattle.cyc_input.specs.Turns.{most_turns, turn_after, IsWithin, GivesBytes};
 
 use crate::fault::InputFault;
 use std::io::{ErrorKind, Read};
@@ -48,7 +48,7 @@ impl<R: Read> BoundedReader<R> {
     /// the reader is not asked.
     pub(crate) fn turn(&mut self, buffer: &mut [u8]) -> Result<Turn, InputFault>
         ensures bound { IsWithin result buffer.new }
-        ensures bytes { Gives (R.remaining self.old.reader) (R.remaining self.new.reader) result buffer.new }
+        ensures bytes { GivesBytes (R.remaining self.old.reader) (R.remaining self.new.reader) result buffer.new }
         ensures turns { self.new.turns ≡ turn_after self.old.turns }
         ensures later { OnOk result (self.old.turns < self.new.turns) }
         ensures spent { self.old.turns ≡ most_turns → IsErr result × (self.new.reader ≡ self.old.reader) }

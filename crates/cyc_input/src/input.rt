@@ -2,7 +2,7 @@
 
 ghost use Rattle.std.specs.Prelude.{◌≡◌, ◌≤◌, ◌<◌, ◌++◌, ◌⊎◌, List, ℕ, length, vec_len, false, IfOk, OnErr, OnOk};
 ghost use Rattle.std.specs.Io.KnownBytes.{Consumes};
-ghost use Rattle.cyc_input.specs.Input.{most_bytes, IsComplete, GrowsBy, is_read_fault, LosesAtMost};
+ghost use Rattle.cyc_input.specs.Input.{most_input_bytes, IsComplete, GrowsBy, is_read_fault, LosesAtMost};
 ghost use Rattle.cyc_input.specs.Turns.{most_turns};
 
 use crate::bounded::{BoundedReader, Turn};
@@ -19,7 +19,7 @@ fn read_turn<R: Read>(
     buffer: &mut [u8],
     bytes: &mut Vec<u8>,
 ) -> Result<bool, InputFault>
-    requires room { vec_len bytes.old < most_bytes }
+    requires room { vec_len bytes.old < most_input_bytes }
     requires buffer { 0 < length buffer.old }
     requires whole { reader.old.failed ≡ false }
     ensures bytes { GrowsBy (R.remaining reader.old.reader) (R.remaining reader.new.reader)
@@ -49,7 +49,7 @@ pub fn read_input<R: Read>(
     requires { reader.old.failed ≡ false }
     ensures bytes { IfOk result (λ bytes. Consumes (R.remaining reader.old.reader) (R.remaining reader.new.reader) bytes.items) }
     ensures complete { IfOk result (λ bytes. IsComplete (R.remaining reader.new.reader) bytes.items) }
-    ensures lost { OnErr result (LosesAtMost most_bytes (R.remaining reader.old.reader) (R.remaining reader.new.reader)) }
+    ensures lost { OnErr result (LosesAtMost most_input_bytes (R.remaining reader.old.reader) (R.remaining reader.new.reader)) }
     ensures turns { reader.new.turns ≤ most_turns }
     ensures failed { reader.new.failed ≡ is_read_fault result }
 {

@@ -11,7 +11,16 @@ use Rattle.cyc_level.specs.Level.{AdmittedCyclic, Cyclics, SoftLevel, count_in, 
 use Rattle.cyc_level.specs.Lawful.{one_if_any, Lawful}
 use Rattle.cyc_level.specs.Events.{changed_at, admitted_cyclic, cyclic_after_expire, cyclic_after_lose, cyclic_after_finish}
 use Rattle.cyc_level.specs.Events.{after_finish, reached, AllEnabled}
-use Rattle.cyc_level.specs.Runs.{firing_events, expirations, losses, StayCounts, one_more, current_stay, stay_list, past_stays}
+use Rattle.cyc_level.specs.Runs.{
+  firing_events,
+  expirations_of_id,
+  losses,
+  StayCounts,
+  one_more,
+  current_stay,
+  stay_list,
+  past_stays,
+}
 use Rattle.cyc_level.specs.Runs.{stay_calls, past_calls, finishes, stay_finishes, past_finishes, AreFinished}
 use Rattle.cyc_level.specs.Runs.{IsConservedOverStays}
 use Rattle.cyc_level.proofs.Maps.{some_of, some_and, at_cases, hand_here, hand_else}
@@ -145,7 +154,7 @@ module _ (m : Cyclics) where
 
 module _ (ceiling id : ℕ) where
   total : (es : List Event) → AllEnabled ceiling es
-      → expirations id es ≡ finishes ceiling id es + count (reached ceiling es) id + losses id es
+      → expirations_of_id id es ≡ finishes ceiling id es + count (reached ceiling es) id + losses id es
   total [] on = refl
   total (Admit a index ∷ es) on = let h = total es on.1 in let x = count_admit (reached ceiling es).cyclics a index id on.0.2 in
       omega (arith, h, x)
@@ -260,7 +269,7 @@ module _ (ceiling id : ℕ) where
   over_stays es on = record { total = total es on; ended = past es on }
 
 -- what a run says of the firing side is said by the events of that side
-pub expirations_firing : (id : ℕ) (es : List Event) → expirations id (firing_events es) ≡ expirations id es
+pub expirations_firing : (id : ℕ) (es : List Event) → expirations_of_id id (firing_events es) ≡ expirations_of_id id es
 expirations_firing id [] = refl
 expirations_firing id (Admit a index ∷ es) = expirations_firing id es
 expirations_firing id (Expire a ∷ es) = ap (λ (n : ℕ). cond (eqb id a) 1 0 + n) (expirations_firing id es)

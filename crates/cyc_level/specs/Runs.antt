@@ -31,11 +31,11 @@ soft_events [] = []
 soft_events (e ∷ es) = if is_soft_event e then e ∷ soft_events es else soft_events es
 
 -- how often an id expired, in all its stays
-abbrev pub expirations : ℕ → List Event → ℕ
-expirations id [] = 0
-expirations id (Expire a ∷ es) = (if id == a then 1 else 0) + expirations id es
-expirations id (Lose a ∷ es) = (if id == a then 1 else 0) + expirations id es
-expirations id (_ ∷ es) = expirations id es
+abbrev pub expirations_of_id : ℕ → List Event → ℕ
+expirations_of_id id [] = 0
+expirations_of_id id (Expire a ∷ es) = (if id == a then 1 else 0) + expirations_of_id id es
+expirations_of_id id (Lose a ∷ es) = (if id == a then 1 else 0) + expirations_of_id id es
+expirations_of_id id (_ ∷ es) = expirations_of_id id es
 
 -- how many of these expirations were lost
 abbrev pub losses : ℕ → List Event → ℕ
@@ -114,7 +114,7 @@ AreFinished (s ∷ stays) [] = ⊥
 -- over all stays of an id, admitted or not, its expirations are the finished calls, the outstanding ones and the
 -- losses; and each ended stay has no call outstanding
 pub record IsConservedOverStays (ceiling : ℕ) (es : List Event) (id : ℕ) : Type 0 where
-  pub total : expirations id es ≡ finishes ceiling id es + count (reached ceiling es) id + losses id es
+  pub total : expirations_of_id id es ≡ finishes ceiling id es + count (reached ceiling es) id + losses id es
   pub ended : AreFinished (past_stays id es) (past_finishes ceiling id es)
 
 -- how often an id was admitted

@@ -14,15 +14,15 @@ use Rattle.cyc_level.specs.declared.Event.TheVariants.{Admit, Expire, Lose, Publ
 use Rattle.cyc_level.specs.Level.{SoftLevel, Cyclics, AdmittedCyclic, bank_size, count}
 use Rattle.cyc_level.specs.Events.{after, after_finish, changed_at, admitted_cyclic, cyclic_after_expire, cyclic_after_lose}
 use Rattle.cyc_level.specs.Events.{cyclic_after_finish}
-use Rattle.cyc_types.specs.Expirations.{Expiration, after as timer_after}
+use Rattle.cyc_types.specs.Expirations.{Expiration, after_expirations as timer_after}
 use Rattle.cyc_model.specs.Acts.{Act, At, Call, at_own}
-use Rattle.cyc_model.specs.Cpu.{Cyclic, Cpu, cpu_after, happen, here, is_of, handler_level_of, others, new_cpu, with_moment}
-use Rattle.cyc_model.specs.Firing.{raised, expiry, expire_here, fired}
+use Rattle.cyc_model.specs.Cpu.{CyclicState, Cpu, cpu_after, happen, here, is_of, handler_level_of, others, begun_cpu, cyclic_at}
+use Rattle.cyc_model.specs.Firing.{raised, expiry, expire_here, fired_cyclic}
 use Rattle.cyc_model.specs.Serving.{level_at, level_after, looks, look, Interrupt, after_look, serve, serve_here}
 use Rattle.cyc_model.specs.Moving.{switch_here, place_here, put_in, moment_at}
 use Rattle.cyc_model.specs.State.{absent}
 use Rattle.cyc_types.specs.Levels.{as_level}
-use Rattle.cyc_model.specs.Agreement.{Agrees, AllAgree}
+use Rattle.cyc_model.specs.Agreement.{StateAgrees, AllAgree}
 
 -- an event that neither ends a stay nor leaves a bank
 abbrev IsCalm : Event → Type 0
@@ -141,26 +141,27 @@ onward_acts (a ∷ acts) c calm =
     }
 
 -- the level of an id among these cyclics
-abbrev level_in : ℕ → List Cyclic → Level
+abbrev level_in : ℕ → List CyclicState → Level
 level_in id cs = option_map_or (λ x. x.timer.level) (find (is_of id) cs) level.High
 
-agrees_onward : (c d : Cpu) → Onward c d → Agrees c → Agrees d
+agrees_onward : (c d : Cpu) → Onward c d → StateAgrees c → StateAgrees d
 agrees_onward c d on h = record {
   one_bank = on.low ∙ h.one_bank ∙ sym on.lock;
   size = on.size ∙ h.size ∙ ap bank_size (sym on.lock);
   admitted = λ id soft is. on.admitted id soft (h.admitted id soft (ap (level_in id) (sym on.cyclics) ∙ is));
 }
 
-pub agrees_here : (acts : List Act) (c : Cpu) → AllCalm acts → Agrees c → Agrees (here acts c).cpu
+pub agrees_here : (acts : List Act) (c : Cpu) → AllCalm acts → StateAgrees c → StateAgrees (here acts c).cpu
 agrees_here acts c calm h = agrees_onward c (happen acts c) (onward_acts acts c calm) h
 
 -- ---- the cyclics get other moments and counts
 
 -- the function keeps the id and the level
-abbrev pub SameLevel : (Cyclic → Cyclic) → Type 0
-SameLevel f = (x : Cyclic) → ((f x).timer.id ≡ x.timer.id) × ((f x).timer.level ≡ x.timer.level)
+abbrev pub SameLevel : (CyclicState → CyclicState) → Type 0
+SameLevel f = (x : CyclicState) → ((f x).timer.id ≡ x.timer.id) × ((f x).timer.level ≡ x.timer.level)
 
-level_map : (f : Cyclic → Cyclic) → SameLevel f → (id : ℕ) (cs : List Cyclic) → level_in id (map f cs) ≡ level_in id cs
+level_map : (f : CyclicState → CyclicState) → SameLevel f → (id : ℕ) (cs : List CyclicState)
+    → level_in id (map f cs) ≡ level_in id cs
 level_map f same id [] = refl
 level_map f same id (x ∷ xs) =
     ap (λ (j : ℕ). option_map_or (λ y. y.timer.level) (cond (j == id) (Some (f x)) (find (is_of id) (map f xs))) level.High)
@@ -175,7 +176,7 @@ level_map f same id (x ∷ xs) =
 
 -- the same levels and size, and each id at its level
 pub agrees_with : (c d : Cpu) → d.lock ≡ c.lock → d.low ≡ c.low → d.size ≡ c.size
-    → ((id : ℕ) → level_in id d.cyclics ≡ level_in id c.cyclics) → Agrees c → Agrees d
+    → ((id : ℕ) → level_in id d.cyclics ≡ level_in id c.cyclics) → StateAgrees c → StateAgrees d
 agrees_with c d lock low size own h = record {
   one_bank = ap (λ (l : SoftLevel). l.hard_bank) low ∙ h.one_bank ∙ sym (ap (λ (l : SoftLevel). l.hard_bank) lock);
   size = size ∙ h.size ∙ ap (λ (l : SoftLevel). bank_size l.hard_bank) (sym lock);
@@ -190,40 +191,40 @@ agrees_with c d lock low size own h = record {
 pub moment_same : (id moment : ℕ) → SameLevel (moment_at id moment)
 moment_same id moment x = by (is_of id x)
   where
-    by : (b : Bool) → ((cond b (with_moment moment x) x).timer.id ≡ x.timer.id)
-        × ((cond b (with_moment moment x) x).timer.level ≡ x.timer.level)
+    by : (b : Bool) → ((cond b (cyclic_at moment x) x).timer.id ≡ x.timer.id)
+        × ((cond b (cyclic_at moment x) x).timer.level ≡ x.timer.level)
     by true = (refl, refl)
     by false = (refl, refl)
 
-pub fired_same : (now : ℕ) (made : List Expiration) (acts : List Act) → SameLevel (fired now made acts)
+pub fired_same : (now : ℕ) (made : List Expiration) (acts : List Act) → SameLevel (fired_cyclic now made acts)
 unfolding timer_after
 fired_same now made acts x = (refl, refl)
 
 -- ---- one comes, or goes
 
 -- the level of an id among these, where the test says whether the first has it
-abbrev seen : Bool → ℕ → Cyclic → List Cyclic → Level
+abbrev seen : Bool → ℕ → CyclicState → List CyclicState → Level
 seen b id y ys = option_map_or (λ z. z.timer.level) (cond b (Some y) (find (is_of id) ys)) level.High
 
 module _ (P : Level → Type 0) (id : ℕ) where
-  into_same : (x : Cyclic) (xs : List Cyclic) → x.timer.id ≡ id → P x.timer.level → P (level_in id (x ∷ xs))
+  into_same : (x : CyclicState) (xs : List CyclicState) → x.timer.id ≡ id → P x.timer.level → P (level_in id (x ∷ xs))
   into_same x xs e h = subst (λ (b : Bool). P (seen b id x xs)) (sym (eq-eqb x.timer.id id e)) h
 
-  from_same : (x : Cyclic) (xs : List Cyclic) → x.timer.id ≡ id → P (level_in id (x ∷ xs)) → P x.timer.level
+  from_same : (x : CyclicState) (xs : List CyclicState) → x.timer.id ≡ id → P (level_in id (x ∷ xs)) → P x.timer.level
   from_same x xs e h = subst (λ (b : Bool). P (seen b id x xs)) (eq-eqb x.timer.id id e) h
 
-  into_rest : (x : Cyclic) (xs : List Cyclic) → x.timer.id ≢ id → P (level_in id xs) → P (level_in id (x ∷ xs))
+  into_rest : (x : CyclicState) (xs : List CyclicState) → x.timer.id ≢ id → P (level_in id xs) → P (level_in id (x ∷ xs))
   into_rest x xs ne h = subst (λ (b : Bool). P (seen b id x xs)) (sym (ne_eqb x.timer.id id ne)) h
 
-  from_rest : (x : Cyclic) (xs : List Cyclic) → x.timer.id ≢ id → P (level_in id (x ∷ xs)) → P (level_in id xs)
+  from_rest : (x : CyclicState) (xs : List CyclicState) → x.timer.id ≢ id → P (level_in id (x ∷ xs)) → P (level_in id xs)
   from_rest x xs ne h = subst (λ (b : Bool). P (seen b id x xs)) (ne_eqb x.timer.id id ne) h
 
-  place_either : (b : Bool) (xs ys : List Cyclic) → P (level_in id xs) → P (level_in id ys) → P (level_in id (cond b xs ys))
+  place_either : (b : Bool) (xs ys : List CyclicState) → P (level_in id xs) → P (level_in id ys) → P (level_in id (cond b xs ys))
   place_either true xs ys h i = h
   place_either false xs ys h i = i
 
   -- what holds of the level of an id, and of the new one's where it has this id, holds of its level with the new one
-  level_put : (x : Cyclic) → (x.timer.id ≡ id → P x.timer.level) → (cs : List Cyclic) → P (level_in id cs)
+  level_put : (x : CyclicState) → (x.timer.id ≡ id → P x.timer.level) → (cs : List CyclicState) → P (level_in id cs)
       → P (level_in id (put_in x cs))
   level_put x new [] h = dite (ℕ_discrete x.timer.id id) (λ e. into_same x [] e (new e)) (λ ne. into_rest x [] ne h)
   level_put x new (y ∷ ys) h = place_either (nat_lt x.timer.id y.timer.id) (x ∷ y ∷ ys) (y ∷ put_in x ys)
@@ -233,7 +234,7 @@ module _ (P : Level → Type 0) (id : ℕ) where
       (λ ne. into_rest y (put_in x ys) ne (level_put x new ys (from_rest y ys ne h))))
 
   -- and of its level without the cyclics of one id
-  level_others : (gone : ℕ) → P level.High → (cs : List Cyclic) → (id ≢ gone → P (level_in id cs))
+  level_others : (gone : ℕ) → P level.High → (cs : List CyclicState) → (id ≢ gone → P (level_in id cs))
       → P (level_in id (others gone cs))
   level_others gone high [] h = high
   level_others gone high (x ∷ xs) h = dite (ℕ_discrete x.timer.id gone)
@@ -265,12 +266,12 @@ admitted_own n id index level.High Low c is = absurd (let no : level.High ≡ le
 admitted_own n id index level.High Lock c is = absurd (let no : level.High ≡ level.Lock = is in cc)
 
 -- the levels of a CPU whose cyclics are changed
-same_at : (c : Cpu) (cs : List Cyclic) (r : Option ℕ) (soft : Soft)
+same_at : (c : Cpu) (cs : List CyclicState) (r : Option ℕ) (soft : Soft)
     → level_at soft (record c { cyclics = cs; removal = r }) ≡ level_at soft c
 same_at c cs r Low = refl
 same_at c cs r Lock = refl
 
-pub agrees_place : (n index : ℕ) (x : Cyclic) (c : Cpu) → Agrees c → Agrees (place_here n index x c).cpu
+pub agrees_place : (n index : ℕ) (x : CyclicState) (c : Cpu) → StateAgrees c → StateAgrees (place_here n index x c).cpu
 agrees_place n index x c h = record {
   one_bank = on.low ∙ h.one_bank ∙ sym on.lock;
   size = on.size ∙ h.size ∙ ap bank_size (sym on.lock);
@@ -324,8 +325,8 @@ pub high_is_not : (soft : Soft) → level.High ≢ as_level soft
 high_is_not Low is = absurd (let no : level.High ≡ level.Low = is in cc)
 high_is_not Lock is = absurd (let no : level.High ≡ level.Lock = is in cc)
 
-pub agrees_gone : (n id : ℕ) (l : Level) (r : Option ℕ) (c : Cpu) → Agrees c
-    → Agrees (here (at_own n l (Clear id)) (record c { cyclics = others id c.cyclics; removal = r })).cpu
+pub agrees_gone : (n id : ℕ) (l : Level) (r : Option ℕ) (c : Cpu) → StateAgrees c
+    → StateAgrees (here (at_own n l (Clear id)) (record c { cyclics = others id c.cyclics; removal = r })).cpu
 agrees_gone n id l r c h = record {
   one_bank = past.low ∙ h.one_bank ∙ sym past.lock;
   size = past.size ∙ h.size ∙ ap bank_size (sym past.lock);
@@ -362,13 +363,13 @@ calm_expiry n level.High id c = (tt, tt)
 calm_expiry n level.Lock id c = calm_raised n Lock id c.lock
 calm_expiry n level.Low id c = calm_raised n Low id c.low
 
-pub agrees_expire : (n id : ℕ) (c : Cpu) → Agrees c → Agrees (expire_here n id c).cpu
+pub agrees_expire : (n id : ℕ) (c : Cpu) → StateAgrees c → StateAgrees (expire_here n id c).cpu
 agrees_expire n id c h = agrees_here (expiry n (handler_level_of id c) id c) c (calm_expiry n (handler_level_of id c) id c) h
 
-pub agrees_fired : (now : ℕ) (made : List Expiration) (acts : List Act) (c : Cpu) → Agrees c
-    → Agrees (record c { cyclics = map (fired now made acts) c.cyclics })
-agrees_fired now made acts c h = agrees_with c (record c { cyclics = map (fired now made acts) c.cyclics }) refl refl refl
-    (λ id. level_map (fired now made acts) (fired_same now made acts) id c.cyclics) h
+pub agrees_fired : (now : ℕ) (made : List Expiration) (acts : List Act) (c : Cpu) → StateAgrees c
+    → StateAgrees (record c { cyclics = map (fired_cyclic now made acts) c.cyclics })
+agrees_fired now made acts c h = agrees_with c (record c { cyclics = map (fired_cyclic now made acts) c.cyclics }) refl refl refl
+    (λ id. level_map (fired_cyclic now made acts) (fired_same now made acts) id c.cyclics) h
 
 -- what holds of Take, Finish and Follow holds of all that a soft interrupt does
 module _ (Q : Event → Type 0) (take : Q Take) (finish : Q Finish) (follow : Q Follow) where
@@ -401,11 +402,11 @@ module _ (Q : Event → Type 0) (take : Q Take) (finish : Q Finish) (follow : Q 
       acts_after n soft (look l) (level_after (look l) l) (serve n soft budget) (acts_of_look n soft l)
       (acts_of_serve n soft budget) (level_after (look l) l).drainer_hand
 
-pub agrees_serve : (n : ℕ) (soft : Soft) (budget : ℕ) (c : Cpu) → Agrees c → Agrees (serve_here n soft budget c).cpu
+pub agrees_serve : (n : ℕ) (soft : Soft) (budget : ℕ) (c : Cpu) → StateAgrees c → StateAgrees (serve_here n soft budget c).cpu
 agrees_serve n soft budget c h = agrees_here (serve n soft budget (level_at soft c)).acts c
     (acts_of_serve IsCalm tt tt tt n soft budget (level_at soft c)) h
 
-pub agrees_switch : (n bank : ℕ) (c : Cpu) → Agrees c → Agrees (switch_here n bank c).cpu
+pub agrees_switch : (n bank : ℕ) (c : Cpu) → StateAgrees c → StateAgrees (switch_here n bank c).cpu
 agrees_switch n bank c h = record { one_bank = refl; size = refl; admitted = by }
   where
     by : (id : ℕ) (soft : Soft) → handler_level_of id c ≡ as_level soft
@@ -413,30 +414,30 @@ agrees_switch n bank c h = record { one_bank = refl; size = refl; admitted = by 
     by id Low is = h.admitted id Low is
     by id Lock is = h.admitted id Lock is
 
-pub agrees_own : (n : ℕ) (l : Level) (id : ℕ) (c : Cpu) → Agrees c → Agrees (here (at_own n l (Mark id)) c).cpu
+pub agrees_own : (n : ℕ) (l : Level) (id : ℕ) (c : Cpu) → StateAgrees c → StateAgrees (here (at_own n l (Mark id)) c).cpu
 agrees_own n l id c h = agrees_here (at_own n l (Mark id)) c (calm_own n l (Mark id) tt) h
 
-pub agrees_moment : (id moment : ℕ) (r : Option ℕ) (c : Cpu) → Agrees c
-    → Agrees (record c { cyclics = map (moment_at id moment) c.cyclics; removal = r })
+pub agrees_moment : (id moment : ℕ) (r : Option ℕ) (c : Cpu) → StateAgrees c
+    → StateAgrees (record c { cyclics = map (moment_at id moment) c.cyclics; removal = r })
 agrees_moment id moment r c h =
     agrees_with c (record c { cyclics = map (moment_at id moment) c.cyclics; removal = r }) refl refl refl
     (λ j. level_map (moment_at id moment) (moment_same id moment) j c.cyclics) h
 
 -- ---- the CPUs of a machine
 
-pub new_agrees : (ceiling : ℕ) (online : Bool) → Agrees (record (new_cpu ceiling) { online = online })
+pub new_agrees : (ceiling : ℕ) (online : Bool) → StateAgrees (record (begun_cpu ceiling) { online = online })
 new_agrees ceiling online = record { one_bank = refl; size = refl; admitted = λ id soft is. absurd (high_is_not soft is) }
 
-pub agree_at : (cs : List Cpu) → AllAgree cs → (n : ℕ) → Agrees (slice_index_or cs n absent)
+pub agree_at : (cs : List Cpu) → AllAgree cs → (n : ℕ) → StateAgrees (slice_index_or cs n absent)
 agree_at [] h n = new_agrees 0 false
 agree_at (c ∷ cs) h zero = h.0
 agree_at (c ∷ cs) h (suc n) = agree_at cs h.1 n
 
-pub agree_set : (cs : List Cpu) (d : Cpu) → AllAgree cs → Agrees d → (n : ℕ) → AllAgree (slice_set cs n d)
+pub agree_set : (cs : List Cpu) (d : Cpu) → AllAgree cs → StateAgrees d → (n : ℕ) → AllAgree (slice_set cs n d)
 agree_set [] d h one n = tt
 agree_set (c ∷ cs) d h one zero = (one, h.1)
 agree_set (c ∷ cs) d h one (suc n) = (h.0, agree_set cs d h.1 one n)
 
-pub agree_new : (n ceiling : ℕ) → AllAgree (replicate n (new_cpu ceiling))
+pub agree_new : (n ceiling : ℕ) → AllAgree (replicate n (begun_cpu ceiling))
 agree_new zero ceiling = tt
 agree_new (suc n) ceiling = (new_agrees ceiling true, agree_new n ceiling)

@@ -8,11 +8,11 @@ use Rattle.cyc_level.proofs.Maps.{none_some, some_same}
 use Rattle.cyc_script.specs.declared.step.Softint.{Softint as SoftintStep}
 use Rattle.cyc_model.specs.Cpu.{Cpu, has_cyclic}
 use Rattle.cyc_model.specs.Questions.{plain}
-use Rattle.cyc_model.specs.State.{State, Outcome, Placement, On, OnAll, cpu_of, nothing, each, numbers, cpus_with}
-use Rattle.cyc_model.specs.Places.{id_of, placement_of, is_unknown, forgotten}
+use Rattle.cyc_model.specs.State.{State, Outcome, Placement, On, OnAll, cpu_of, nothing, each, numbers, cpus_having}
+use Rattle.cyc_model.specs.Places.{id_of, placement_of, is_no_cyclic, forgotten}
 use Rattle.cyc_types.specs.Reasons.{when, first_refusal, busy}
 use Rattle.cyc_model.specs.Report.{counts_of}
-use Rattle.cyc_model.specs.Remove.{busy_on_each, remove_refusal, poll, begin, answered, begun, with_answer, remove, ended_expired}
+use Rattle.cyc_model.specs.Remove.{busy_on_any, remove_refusal, poll, begin, answered, begun, with_answer, remove, ended_expired}
 use Rattle.cyc_model.specs.Remove.{ended_lost}
 use Rattle.cyc_model.specs.Softint.{softint_refusal, interrupt, is_open, text_of_id, polled, with_poll, poll_id, leaving_ids}
 use Rattle.cyc_model.specs.Softint.{poll_all, softint}
@@ -63,36 +63,36 @@ module _ (id : ℕ) (s : State) (g : Good s) (ns : List ℕ) (o : Outcome) (h : 
   }
 
 -- the calls of its line are all calls that were made of it
-pub calls_answered : (id : ℕ) (s : State) (o : Outcome) → Removing id s o.state → cpus_with id o.state ≡ []
+pub calls_answered : (id : ℕ) (s : State) (o : Outcome) → Removing id s o.state → cpus_having id o.state ≡ []
     → ended_expired id o.state - ended_lost id o.state ≡ o.state.called id
 calls_answered id s o h none = let a = all_ended id o.state h.steady.base (none_with id o.state none) in omega (arith, a)
 
 -- what a removal comes to after these parts of it
 module _ (id : ℕ) (s : State) (g : Good s) (o : Outcome) (goes : Goes o.acts s o.state) (h : Removing id s o.state) where
-  well_answered : (step : ℕ) (text : List ℕ) → cpus_with id o.state ≡ [] → Well (answered step text id o) s
+  well_answered : (step : ℕ) (text : List ℕ) → cpus_having id o.state ≡ [] → Well (answered step text id o) s
   well_answered step text none = (
     goes_to o.acts s o.state (forgotten id o.state) goes refl refl (λ j gone. forgotten_gone id j o.state gone),
     good_answered id s o.state g h (none_with id o.state none),
   )
 
   well_begun : (step : ℕ) (text : List ℕ) → Well (with_answer plain step text id o) s
-  well_begun step text = by (cpus_with id o.state) refl
+  well_begun step text = by (cpus_having id o.state) refl
     where
-      by : (ns : List ℕ) → cpus_with id o.state ≡ ns → Well (begun plain step text id ns o) s
+      by : (ns : List ℕ) → cpus_having id o.state ≡ ns → Well (begun plain step text id ns o) s
       by [] is = well_answered step text is
       by (n ∷ ns) is = (goes, good_kept id s o.state g h n (first_with id n ns o.state is))
 
   well_polled : (step : ℕ) (text : List ℕ) → Well (with_poll step text id o) s
-  well_polled step text = by (cpus_with id o.state) refl
+  well_polled step text = by (cpus_having id o.state) refl
     where
-      by : (ns : List ℕ) → cpus_with id o.state ≡ ns → Well (polled step text id ns o) s
+      by : (ns : List ℕ) → cpus_having id o.state ≡ ns → Well (polled step text id ns o) s
       by [] is = well_answered step text is
       by (n ∷ ns) is = (goes, good_kept id s o.state g h n (first_with id n ns o.state is))
 
 -- no answer changes a count
 counts_begun : (id step : ℕ) (text : List ℕ) (o : Outcome) (s : State) → ((j : ℕ) → counts_of j o.state ≡ counts_of j s) → (j : ℕ)
     → counts_of j (with_answer plain step text id o).state ≡ counts_of j s
-counts_begun id step text o s same j = by (cpus_with id o.state)
+counts_begun id step text o s same j = by (cpus_having id o.state)
   where
     by : (ns : List ℕ) → counts_of j (begun plain step text id ns o).state ≡ counts_of j s
     by [] = same j
@@ -101,7 +101,7 @@ counts_begun id step text o s same j = by (cpus_with id o.state)
 counts_polled : (id step : ℕ) (text : List ℕ) (o : Outcome) (s : State) → ((j : ℕ) → counts_of j o.state ≡ counts_of j s)
     → (j : ℕ)
     → counts_of j (with_poll step text id o).state ≡ counts_of j s
-counts_polled id step text o s same j = by (cpus_with id o.state)
+counts_polled id step text o s same j = by (cpus_having id o.state)
   where
     by : (ns : List ℕ) → counts_of j (polled step text id ns o).state ≡ counts_of j s
     by [] = same j
@@ -109,48 +109,49 @@ counts_polled id step text o s same j = by (cpus_with id o.state)
 
 -- ---- remove
 
-busy_each : (ns : List ℕ) (s : State) → first_refusal (busy_on_each plain ns s) ≡ None → (m : ℕ) → Has m ns
+busy_each : (ns : List ℕ) (s : State) → first_refusal (busy_on_any plain ns s) ≡ None → (m : ℕ) → Has m ns
     → (cpu_of m s).removal ≡ None
 busy_each [] s h m has = absurd has
 busy_each (n ∷ ns) s h m has =
-    let one = none_first (busy (cpu_of n s).removal) (busy_on_each plain ns s) h in
+    let one = none_first (busy (cpu_of n s).removal) (busy_on_any plain ns s) h in
     ⊎_elim (λ e. subst (λ k. (cpu_of k s).removal ≡ None) (sym e) (not_busy (cpu_of n s).removal one.0))
     (λ r. busy_each ns s one.1 m r) has
 
 module _ (name : ℕ) (s : State) (g : Good s) (why : remove_refusal plain name s ≡ None) where
-  free_each : (m : ℕ) → Has m (cpus_with (id_of name s) s) → (cpu_of m s).removal ≡ None
-  free_each = busy_each (cpus_with (id_of name s) s) s
-      (none_first (when (is_unknown (id_of name s) s) NoCyclic) (busy_on_each plain (cpus_with (id_of name s) s) s) why).1
+  free_each : (m : ℕ) → Has m (cpus_having (id_of name s) s) → (cpu_of m s).removal ≡ None
+  free_each = busy_each (cpus_having (id_of name s) s) s
+      (none_first (when (is_no_cyclic (id_of name s) s) NoCyclic) (busy_on_any plain (cpus_having (id_of name s) s) s) why).1
 
-  begins : Looped (λ m c d. Begun (id_of name s) c d) (Steady s) (cpus_with (id_of name s) s) s
-      (each (begin plain (id_of name s)) (cpus_with (id_of name s) s) s)
+  begins : Looped (λ m c d. Begun (id_of name s) c d) (Steady s) (cpus_having (id_of name s) s) s
+      (each (begin plain (id_of name s)) (cpus_having (id_of name s) s) s)
   begins =
       let id = id_of name s in
       looped (begin plain id) (λ n c. (c.removal ≡ None) × IsSome (found id c.cyclics)) (λ m c d. Begun id c d) (Steady s)
-      (λ n t within inv ready. begin_turn s id n t within inv ready) 0 (cpus_with id s) s (numbers_rise (has_cyclic id) 0 s.cpus)
+      (λ n t within inv ready. begin_turn s id n t within inv ready) 0 (cpus_having id s) s (numbers_rise (has_cyclic id) 0
+      s.cpus)
       (λ m has. (numbers_pass (has_cyclic id) m s has).0) (steady_refl s g)
       (λ m has. (free_each m has, sym (any_found id (cpu_of m s).cyclics) ∙ (numbers_pass (has_cyclic id) m s has).1))
 
-  pub begun_removal : Removing (id_of name s) s (each (begin plain (id_of name s)) (cpus_with (id_of name s) s) s).state
+  pub begun_removal : Removing (id_of name s) s (each (begin plain (id_of name s)) (cpus_having (id_of name s) s) s).state
   begun_removal =
       let id = id_of name s in
-      removing id s g (cpus_with id s) (each (begin plain id) (cpus_with id s) s) begins
+      removing id s g (cpus_having id s) (each (begin plain id) (cpus_having id s) s) begins
       (λ m has j is. none_some (j ≡ id) j (cpu_of m s).removal (free_each m has) is)
       (λ m away some. absurd (away (pass_numbers (has_cyclic id) m s (has_number s m id some) (any_found id (cpu_of m s).cyclics
       ∙ some))))
 
   pub well_remove : (step : ℕ) (text : List ℕ) → Well (remove plain step text name s) s
-  well_remove step text = well_begun (id_of name s) s g (each (begin plain (id_of name s)) (cpus_with (id_of name s) s) s)
+  well_remove step text = well_begun (id_of name s) s g (each (begin plain (id_of name s)) (cpus_having (id_of name s) s) s)
       begins.goes begun_removal step text
 
   pub counts_removed : (step : ℕ) (text : List ℕ) (j : ℕ) → counts_of j (remove plain step text name s).state ≡ counts_of j s
-  counts_removed step text = counts_begun (id_of name s) step text (each (begin plain (id_of name s)) (cpus_with
+  counts_removed step text = counts_begun (id_of name s) step text (each (begin plain (id_of name s)) (cpus_having
       (id_of name s) s) s) s
       begins.inv.counts
 
 -- ---- polls
 
-open_is : (id : ℕ) (c : Cpu) → is_open id c ≡ true → c.removal ≡ Some id
+pub open_is : (id : ℕ) (c : Cpu) → is_open id c ≡ true → c.removal ≡ Some id
 open_is id c h = by c.removal refl h
   where
     by : (r : Option ℕ) → c.removal ≡ r → option_map_or (λ busy. busy == id) r false ≡ true → c.removal ≡ Some id
@@ -214,7 +215,7 @@ module _ (id : ℕ) (s : State) (g : Good s) where
   pub well_poll : (texts : List (List ℕ)) (step : ℕ) → Well (poll_id plain texts step id s) s
   well_poll texts step = by (numbers (is_open id) s) refl
     where
-      closed : (ns : List ℕ) → cpus_with id s ≡ ns → numbers (is_open id) s ≡ []
+      closed : (ns : List ℕ) → cpus_having id s ≡ ns → numbers (is_open id) s ≡ []
           → Well (polled step (text_of_id id texts s.names) id ns (nothing s)) s
       closed [] none shut = well_answered id s g (nothing s) (goes_nothing s s refl refl (λ j gone. gone))
           (subst (λ ns. Removing id s (each (poll plain id) ns s).state) shut
@@ -225,7 +226,7 @@ module _ (id : ℕ) (s : State) (g : Good s) where
 
       by : (ns : List ℕ) → numbers (is_open id) s ≡ ns → Well (poll_id plain texts step id s) s
       by [] shut = subst (λ ns. Well (with_poll step (text_of_id id texts s.names) id (each (poll plain id) ns s)) s) (sym shut)
-          (closed (cpus_with id s) refl shut)
+          (closed (cpus_having id s) refl shut)
       by (k ∷ ks) is = well_open texts step k (open_here k (subst (λ ns. Has k ns) (sym is) (inl refl)))
 
 pub well_polls : (texts : List (List ℕ)) (step : ℕ) (ids : List ℕ) (s : State) → Good s

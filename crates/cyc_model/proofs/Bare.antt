@@ -16,10 +16,21 @@ use Rattle.cyc_level.specs.Level.{AdmittedCyclic, SoftLevel, count, count_in}
 use Rattle.cyc_level.specs.Events.{after, after_finish, admitted_cyclic, cyclic_after_expire, cyclic_after_lose}
 use Rattle.cyc_level.specs.Events.{cyclic_after_finish, hand_after_expire, hand_after_finish}
 use Rattle.cyc_types.specs.Expirations.{Expiration}
-use Rattle.cyc_model.specs.Acts.{Act, At, Call, at_own, call_of, calls_of, calls_in, loss_of, losses_of, is_loss, losses_in}
-use Rattle.cyc_model.specs.Cpu.{Cyclic, Cpu, Here, cpu_after, happen, here, nothing_here, acts_first, then_here, handler_level_of}
+use Rattle.cyc_model.specs.Acts.{Act, At, Call, at_own, call_in, calls_of, handler_calls, loss_of, losses_of, is_loss, all_losses}
+use Rattle.cyc_model.specs.Cpu.{
+  CyclicState,
+  Cpu,
+  Here,
+  cpu_after,
+  happen,
+  here,
+  nothing_here,
+  acts_first,
+  then_here,
+  handler_level_of,
+}
 use Rattle.cyc_model.specs.Cpu.{others}
-use Rattle.cyc_model.specs.Firing.{raised, expiry, expire_here, expire_all, due_here, fired, with_fired, fire_here}
+use Rattle.cyc_model.specs.Firing.{raised, expiry, expire_here, expire_all, due_here, fired_cyclic, with_fired, fire_here}
 use Rattle.cyc_model.specs.Serving.{level_after, look, Interrupt, calling, found_nothing, after_look, looks, serve}
 use Rattle.cyc_model.specs.Serving.{interrupt_here, serve_here}
 use Rattle.cyc_model.specs.Moving.{must_grow, switch_here, bank_for, widen_here, place_here, enter_here, take_here, mark_here}
@@ -118,9 +129,9 @@ module _ (relabel : ℕ → ℕ) where
   pub calls_bare : (id : ℕ) (acts : List Act) → calls_of id (map bare_act acts) ≡ calls_of id acts
   calls_bare id [] = refl
   calls_bare id (At n soft e ∷ acts) = ap (λ k. 0 + k) (calls_bare id acts)
-  calls_bare id (Call j ∷ acts) = ap (λ k. call_of id (Call j) + k) (calls_bare id acts)
+  calls_bare id (Call j ∷ acts) = ap (λ k. call_in id (Call j) + k) (calls_bare id acts)
 
-  pub calls_in_bare : (acts : List Act) → calls_in (map bare_act acts) ≡ calls_in acts
+  pub calls_in_bare : (acts : List Act) → handler_calls (map bare_act acts) ≡ handler_calls acts
   calls_in_bare [] = refl
   calls_in_bare (At n soft e ∷ acts) = ap (λ k. 0 + k) (calls_in_bare acts)
   calls_in_bare (Call j ∷ acts) = ap (λ k. 1 + k) (calls_in_bare acts)
@@ -155,10 +166,10 @@ module _ (relabel : ℕ → ℕ) where
   is_loss_bare (Switch bank) = refl
   is_loss_bare Follow = refl
 
-  pub losses_in_bare : (acts : List Act) → losses_in (map bare_act acts) ≡ losses_in acts
+  pub losses_in_bare : (acts : List Act) → all_losses (map bare_act acts) ≡ all_losses acts
   losses_in_bare [] = refl
   losses_in_bare (At n soft e ∷ acts) =
-      ap (λ k. k + losses_in (map bare_act acts)) (is_loss_bare e) ∙ ap (λ k. is_loss e + k) (losses_in_bare acts)
+      ap (λ k. k + all_losses (map bare_act acts)) (is_loss_bare e) ∙ ap (λ k. is_loss e + k) (losses_in_bare acts)
   losses_in_bare (Call j ∷ acts) = losses_in_bare acts
 
   own_bare : (n : ℕ) (l : Level) (e : Event) → map bare_act (at_own n l e) ≡ at_own n l (bare_event e)
@@ -240,7 +251,7 @@ module _ (relabel : ℕ → ℕ) where
     acts = map bare_act d.acts;
     cpu = record (bare_cpu d.cpu) {
       cyclics = map (λ x. record
-          (fired now made d.acts x) { lost = x.lost + (sym (losses_bare x.timer.id d.acts)) z }) d.cpu.cyclics;
+          (fired_cyclic now made d.acts x) { lost = x.lost + (sym (losses_bare x.timer.id d.acts)) z }) d.cpu.cyclics;
     };
   }
 
@@ -316,12 +327,12 @@ module _ (relabel : ℕ → ℕ) where
   pub widen_bare : (n more : ℕ) (c : Cpu) → bare_here (widen_here n more c) ≡ widen_here n more (bare_cpu c)
   widen_bare n more c = widen_as (must_grow more c) n (bank_for (length c.cyclics + more)) c
 
-  pub place_bare : (n index : ℕ) (x : Cyclic) (c : Cpu) → bare_here (place_here n index x c)
+  pub place_bare : (n index : ℕ) (x : CyclicState) (c : Cpu) → bare_here (place_here n index x c)
       ≡ place_here n (relabel index) x (bare_cpu c)
   place_bare n index x c =
       here_as _ _ (record c { cyclics = put_in x c.cyclics }) (own_bare n x.timer.level (Admit x.timer.id index))
 
-  pub enter_bare_here : (n index : ℕ) (x : Cyclic) (c : Cpu) → bare_here (enter_here n index x c)
+  pub enter_bare_here : (n index : ℕ) (x : CyclicState) (c : Cpu) → bare_here (enter_here n index x c)
       ≡ enter_here n (relabel index) x (bare_cpu c)
   enter_bare_here n index x c =
       then_bare (widen_here n 1 c) _ (place_here n index x) (place_here n (relabel index) x) (widen_bare n 1 c)

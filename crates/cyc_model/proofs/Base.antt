@@ -8,13 +8,13 @@ use native.Mathlib.Decide.{ℕ_discrete}
 use Rattle.cyc_types.specs.Limits.{last_id as greatest_id}
 use Rattle.cyc_types.specs.declared.level.Soft.{Soft}
 use Rattle.cyc_model.specs.Acts.{Act, events_at, calls_of, losses_of}
-use Rattle.cyc_model.specs.Cpu.{Cyclic, Cpu, Here}
+use Rattle.cyc_model.specs.Cpu.{CyclicState, Cpu, Here}
 use Rattle.cyc_model.specs.Questions.{outstanding_here}
-use Rattle.cyc_model.specs.State.{State, Outcome, Placement, On, OnAll, on, absent, cpu_of, nothing, followed_by}
+use Rattle.cyc_model.specs.State.{State, Outcome, Placement, On, OnAll, on_number, absent, cpu_of, nothing, followed_by}
 use Rattle.cyc_model.specs.Places.{placement_of}
 use Rattle.cyc_model.specs.Remove.{ended_expired, ended_lost}
 use Rattle.cyc_model.specs.Report.{expired_here, lost_here}
-use Rattle.cyc_model.specs.Laws.{level_on, Tells, RiseTo}
+use Rattle.cyc_model.specs.Laws.{level_on, ActsTell, RiseTo}
 use Rattle.cyc_model.specs.Serving.{level_at, level_after}
 use Rattle.cyc_model.proofs.Events.{events_append, calls_append}
 use Rattle.cyc_model.proofs.Local.{Local, other_events}
@@ -32,7 +32,7 @@ IsAt n (Some (On m bound)) = m ≡ n
 IsAt n (Some (OnAll e)) = ⊤
 
 -- the machine, with a cyclic on its way perhaps
-pub record Base (way : Option Cyclic) (s : State) : Type 0 where
+pub record Base (way : Option CyclicState) (s : State) : Type 0 where
   pub whole : (n : ℕ) → Whole (cpu_of n s)
   pub homes : (n id : ℕ) → IsSome (found id (cpu_of n s).cyclics) → IsAt n (placement_of id s)
   pub rise : RiseTo 0 s.placed s.last_id
@@ -45,7 +45,7 @@ IsGone id s = (id ≤ s.last_id) × (placement_of id s ≡ None)
 
 -- what the acts of a word do
 pub record Goes (acts : List Act) (s t : State) : Type 0 where
-  pub tells : Tells acts s t
+  pub tells : ActsTell acts s t
   pub rest : (n : ℕ) → n < length s.cpus → (soft : Soft) → AllRest (events_at n soft acts) (level_on n soft s)
   pub outside : (n : ℕ) → length s.cpus ≤ n → (soft : Soft) → events_at n soft acts ≡ []
   -- an id whose removal has answered isn't called, and stays gone
@@ -111,11 +111,11 @@ goes_from acts s r t h cpus called gone = record {
 }
 
 -- an id that is gone is on no CPU
-pub gone_away : (way : Option Cyclic) (s : State) → Base way s → (id : ℕ) → placement_of id s ≡ None → (n : ℕ)
+pub gone_away : (way : Option CyclicState) (s : State) → Base way s → (id : ℕ) → placement_of id s ≡ None → (n : ℕ)
     → found id (cpu_of n s).cyclics ≡ None
 gone_away way s b id none n = by (found id (cpu_of n s).cyclics) refl
   where
-    by : (o : Option Cyclic) → found id (cpu_of n s).cyclics ≡ o → found id (cpu_of n s).cyclics ≡ None
+    by : (o : Option CyclicState) → found id (cpu_of n s).cyclics ≡ o → found id (cpu_of n s).cyclics ≡ None
     by None is = is
     by (Some x) is = absurd (subst (IsAt n) none (b.homes n id (ap is_some is)))
 
@@ -123,14 +123,14 @@ gone_away way s b id none n = by (found id (cpu_of n s).cyclics) refl
 
 module _ (n : ℕ) (f : Cpu → Here) (made : ℕ → ℕ) (s : State) (within : n < length s.cpus)
     (done : Done n made (cpu_of n s) (f (cpu_of n s))) where
-  pub cpu_there : cpu_of n (on n f s).state ≡ (f (cpu_of n s)).cpu
+  pub cpu_there : cpu_of n (on_number n f s).state ≡ (f (cpu_of n s)).cpu
   cpu_there = get_or-set_same s.cpus n (f (cpu_of n s)).cpu absent within
 
-  pub cpu_elsewhere : (m : ℕ) → m ≢ n → cpu_of m (on n f s).state ≡ cpu_of m s
+  pub cpu_elsewhere : (m : ℕ) → m ≢ n → cpu_of m (on_number n f s).state ≡ cpu_of m s
   cpu_elsewhere m ne = get_or-set_other s.cpus n m (f (cpu_of n s)).cpu absent ne
 
-  pub goes_on : (way : Option Cyclic) → Base way s → ((c : Cpu) → Local n c (f c))
-      → ((id : ℕ) → found id (cpu_of n s).cyclics ≡ None → made id ≡ 0) → Goes (on n f s).acts s (on n f s).state
+  pub goes_on : (way : Option CyclicState) → Base way s → ((c : Cpu) → Local n c (f c))
+      → ((id : ℕ) → found id (cpu_of n s).cyclics ≡ None → made id ≡ 0) → Goes (on_number n f s).acts s (on_number n f s).state
   goes_on way b local none = record {
     tells = told_on n f local s;
     rest = λ m at soft. dite (ℕ_discrete m n)
@@ -145,8 +145,8 @@ module _ (n : ℕ) (f : Cpu → Here) (made : ℕ → ℕ) (s : State) (within :
   }
 
   -- the counts of the machine after it
-  pub expired_on : (way to : Option Cyclic) → Base way s → Shift way to made (cpu_of n s) (f (cpu_of n s)) → (id : ℕ)
-      → expired_in id (on n f s).state + carried expired_of id to ≡ expired_in id s + carried expired_of id way + made id
+  pub expired_on : (way to : Option CyclicState) → Base way s → Shift way to made (cpu_of n s) (f (cpu_of n s)) → (id : ℕ)
+      → expired_in id (on_number n f s).state + carried expired_of id to ≡ expired_in id s + carried expired_of id way + made id
   expired_on way to b shift id =
       let d = f (cpu_of n s) in
       let e = sum_set (expired_here id) s.cpus n d.cpu within in
@@ -154,8 +154,8 @@ module _ (n : ℕ) (f : Cpu → Here) (made : ℕ → ℕ) (s : State) (within :
       let e2 = tally_found expired_of 0 id d.cpu.cyclics done.whole.rising in
       let x = shift.expired id in
       let u = ap (λ ns. sum_by (λ m. (s.ended id m).expired) ns) (all_set 0 s.cpus n d.cpu) in
-      totals (ended_expired id s) (ended_expired id (on n f s).state) (sum_by (expired_here id) s.cpus)
-      (sum_by (expired_here id) (on n f s).state.cpus) (expired_here id (cpu_of n s)) (expired_here id d.cpu)
+      totals (ended_expired id s) (ended_expired id (on_number n f s).state) (sum_by (expired_here id) s.cpus)
+      (sum_by (expired_here id) (on_number n f s).state.cpus) (expired_here id (cpu_of n s)) (expired_here id d.cpu)
       (of_found expired_of (found id (cpu_of n s).cyclics)) (of_found expired_of (found id d.cpu.cyclics))
       (carried expired_of id way) (carried expired_of id to) (made id) u e e1 e2 x
     where
@@ -163,8 +163,8 @@ module _ (n : ℕ) (f : Cpu → Here) (made : ℕ → ℕ) (s : State) (within :
           → ee2 + se2 + te ≡ ee + se + we + m
       totals ee ee2 se se2 ce de fe ge we te m a b c e h = omega (arith, a, b, c, e, h)
 
-  pub lost_on : (way to : Option Cyclic) → Base way s → Shift way to made (cpu_of n s) (f (cpu_of n s)) → (id : ℕ)
-      → lost_in id (on n f s).state + carried lost_of id to ≡ lost_in id s + carried lost_of id way
+  pub lost_on : (way to : Option CyclicState) → Base way s → Shift way to made (cpu_of n s) (f (cpu_of n s)) → (id : ℕ)
+      → lost_in id (on_number n f s).state + carried lost_of id to ≡ lost_in id s + carried lost_of id way
       + losses_of id (f (cpu_of n s)).acts
   lost_on way to b shift id =
       let d = f (cpu_of n s) in
@@ -173,8 +173,8 @@ module _ (n : ℕ) (f : Cpu → Here) (made : ℕ → ℕ) (s : State) (within :
       let e2 = tally_found lost_of 0 id d.cpu.cyclics done.whole.rising in
       let x = shift.lost id in
       let u = ap (λ ns. sum_by (λ m. (s.ended id m).lost) ns) (all_set 0 s.cpus n d.cpu) in
-      totals (ended_lost id s) (ended_lost id (on n f s).state) (sum_by (lost_here id) s.cpus)
-      (sum_by (lost_here id) (on n f s).state.cpus) (lost_here id (cpu_of n s)) (lost_here id d.cpu)
+      totals (ended_lost id s) (ended_lost id (on_number n f s).state) (sum_by (lost_here id) s.cpus)
+      (sum_by (lost_here id) (on_number n f s).state.cpus) (lost_here id (cpu_of n s)) (lost_here id d.cpu)
       (of_found lost_of (found id (cpu_of n s).cyclics)) (of_found lost_of (found id d.cpu.cyclics))
       (carried lost_of id way) (carried lost_of id to) (losses_of id d.acts) u e e1 e2 x
     where
@@ -182,36 +182,37 @@ module _ (n : ℕ) (f : Cpu → Here) (made : ℕ → ℕ) (s : State) (within :
           → ee2 + se2 + te ≡ ee + se + we + m
       totals ee ee2 se se2 ce de fe ge we te m a b c e h = omega (arith, a, b, c, e, h)
 
-  pub pending_on : (id : ℕ) → pending_in id (on n f s).state + calls_of id (f (cpu_of n s)).acts
+  pub pending_on : (id : ℕ) → pending_in id (on_number n f s).state + calls_of id (f (cpu_of n s)).acts
       + losses_of id (f (cpu_of n s)).acts
       ≡ pending_in id s + made id
   pending_on id =
       let d = f (cpu_of n s) in
       let e = sum_set (outstanding_here id) s.cpus n d.cpu within in
       let x = done.books id in
-      totals (sum_by (outstanding_here id) s.cpus) (sum_by (outstanding_here id) (on n f s).state.cpus)
+      totals (sum_by (outstanding_here id) s.cpus) (sum_by (outstanding_here id) (on_number n f s).state.cpus)
       (outstanding_here id (cpu_of n s)) (outstanding_here id d.cpu) (calls_of id d.acts) (losses_of id d.acts) (made id) e x
     where
       totals : (sp sp2 cp dp calls losses m : ℕ) → sp2 + cp ≡ sp + dp → dp + calls + losses ≡ cp + m
           → sp2 + calls + losses ≡ sp + m
       totals sp sp2 cp dp calls losses m a b = omega (arith, a, b)
 
-  pub base_on : (way to : Option Cyclic) → Base way s → Shift way to made (cpu_of n s) (f (cpu_of n s))
-      → ((id : ℕ) → IsSome (found id (f (cpu_of n s)).cpu.cyclics) → IsAt n (placement_of id s)) → Base to (on n f s).state
+  pub base_on : (way to : Option CyclicState) → Base way s → Shift way to made (cpu_of n s) (f (cpu_of n s))
+      → ((id : ℕ) → IsSome (found id (f (cpu_of n s)).cpu.cyclics) → IsAt n (placement_of id s)) → Base to (on_number n f s).state
   base_on way to b shift ids = record {
     whole = λ m. dite (ℕ_discrete m n)
-        (λ e. subst (λ k. Whole (cpu_of k (on n f s).state)) (sym e) (subst (λ c. Whole c) (sym cpu_there) done.whole))
+        (λ e. subst (λ k. Whole (cpu_of k (on_number n f s).state)) (sym e) (subst (λ c. Whole c) (sym cpu_there) done.whole))
         (λ ne. subst (λ c. Whole c) (sym (cpu_elsewhere m ne)) (b.whole m));
     homes = λ m id some. dite (ℕ_discrete m n)
         (λ e. subst (λ k. IsAt k (placement_of id s)) (sym e) (ids id (subst (λ c. IsSome (found id c.cyclics)) cpu_there
-        (subst (λ k. IsSome (found id (cpu_of k (on n f s).state).cyclics)) e some))))
+        (subst (λ k. IsSome (found id (cpu_of k (on_number n f s).state).cyclics)) e some))))
         (λ ne. b.homes m id (subst (λ c. IsSome (found id c.cyclics)) (cpu_elsewhere m ne) some));
     rise = b.rise;
     few = b.few;
     books = λ id. let e = expired_on way to b shift id in let l = lost_on way to b shift id in let p = pending_on id in
         let was = b.books id in
-        balance (expired_in id s) (lost_in id s) (pending_in id s) (expired_in id (on n f s).state) (lost_in id (on n f s).state)
-        (pending_in id (on n f s).state) (carried expired_of id way) (carried lost_of id way) (carried expired_of id to)
+        balance (expired_in id s) (lost_in id s) (pending_in id s) (expired_in id (on_number n f s).state) (lost_in id
+        (on_number n f s).state)
+        (pending_in id (on_number n f s).state) (carried expired_of id way) (carried lost_of id way) (carried expired_of id to)
         (carried lost_of id to) (s.called id) (calls_of id (f (cpu_of n s)).acts) (losses_of id (f (cpu_of n s)).acts) (made id)
         e l p was;
   }

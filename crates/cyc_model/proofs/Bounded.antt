@@ -8,11 +8,11 @@ use Rattle.cyc_text.specs.declared.lines.Counts.{Counts}
 use Rattle.cyc_script.specs.declared.step.Step.{Step}
 use Rattle.cyc_script.specs.declared.step.Step.TheVariants.{Add, Omni, Bind, Unbind, Reprogram, Remove, Advance, Softint, Juggle}
 use Rattle.cyc_script.specs.declared.step.Step.TheVariants.{Offline, Online, Suspend, Resume}
-use Rattle.cyc_model.specs.Cpu.{Cyclic, Cpu, new_cpu}
+use Rattle.cyc_model.specs.Cpu.{CyclicState, Cpu, begun_cpu}
 use Rattle.cyc_model.specs.Serving.{serve_here}
 use Rattle.cyc_model.specs.Questions.{plain}
-use Rattle.cyc_model.specs.State.{State, On, OnAll, Everywhere, absent, cpu_of, each, numbers_from, online_cpus}
-use Rattle.cyc_model.specs.Places.{id_of, destination, given}
+use Rattle.cyc_model.specs.State.{State, On, OnAll, Everywhere, absent, cpu_of, each, cpus_from, cpus_online}
+use Rattle.cyc_model.specs.Places.{id_of, destination_of, given}
 use Rattle.cyc_model.specs.Refusals.{unless, magnitude}
 use Rattle.cyc_model.specs.Add.{added, enter}
 use Rattle.cyc_model.specs.Omni.{component, everywhere}
@@ -63,7 +63,7 @@ module _ (texts : List (List ℕ)) (f : ℕ → ℕ) (step : ℕ) (s : State) (g
   grows_does (Add a) why = record {
     last = omega arith;
     expired = λ id.
-        let n = destination None s in
+        let n = destination_of None s in
         let h = grows_enter id n (f s.admissions) (added a s) (given a.name (On n false) s) refl in
         let before : expired_in id (given a.name (On n false) s) ≡ expired_in id s = refl in
         omega (arith, h, before);
@@ -71,9 +71,9 @@ module _ (texts : List (List ℕ)) (f : ℕ → ℕ) (step : ℕ) (s : State) (g
   grows_does (Omni a) why =
       let t = given a.name (OnAll (everywhere a)) s in
       record {
-        last = let h = (still_enters f (s.last_id + 1) (everywhere a) (online_cpus t) t).last in omega (arith, h);
+        last = let h = (still_enters f (s.last_id + 1) (everywhere a) (cpus_online t) t).last in omega (arith, h);
         expired = λ id.
-            let h = grows_enters f id (s.last_id + 1) (everywhere a) (online_cpus t) t in
+            let h = grows_enters f id (s.last_id + 1) (everywhere a) (cpus_online t) t in
             let before : expired_in id (given a.name (OnAll (everywhere a)) s) ≡ expired_in id s = refl in
             omega (arith, h, before);
       }
@@ -90,9 +90,9 @@ module _ (texts : List (List ℕ)) (f : ℕ → ℕ) (step : ℕ) (s : State) (g
       grows_kept s (does plain texts f step (Remove name) s).state (still_remove step (text_in texts name) name s)
       (counts_removed name s g why step (text_in texts name))
   grows_does (Advance now) why = record {
-    last = let h = (still_fires now (online_cpus s) (record s { clock = now })).last in omega (arith, h);
+    last = let h = (still_fires now (cpus_online s) (record s { clock = now })).last in omega (arith, h);
     expired = λ id.
-        let h = (grows_fires now (online_cpus s) (record s { clock = now }) (good_clock now s g) (fires_before now s why)
+        let h = (grows_fires now (cpus_online s) (record s { clock = now }) (good_clock now s g) (fires_before now s why)
         (λ m has. (numbers_pass (λ (c : Cpu). c.online) m s has).0)).1 id in
         let n = numbers_few (λ (c : Cpu). c.online) 0 s.cpus in
         let before : expired_in id (record s { clock = now }) ≡ expired_in id s = refl in
@@ -105,7 +105,7 @@ module _ (texts : List (List ℕ)) (f : ℕ → ℕ) (step : ℕ) (s : State) (g
         expired = λ id.
             let a = ap (λ (c : Counts). c.expired) (counts_polls texts step (leaving_ids o.state) o.state
             (well_interrupt step i s g why).1 id) in
-            let same = ap (λ cs. sum_by (λ (x : Cyclic). cond (x.timer.id == id) x.timer.expired 0) cs)
+            let same = ap (λ cs. sum_by (λ (x : CyclicState). cond (x.timer.id == id) x.timer.expired 0) cs)
             (same_serve i.cpu i.budget i.level (cpu_of i.cpu s)).cyclics in
             let b = grows_on id i.cpu 0 (serve_here i.cpu i.level i.budget) s (omega (arith, same)) in
             omega (arith, a, b);
@@ -149,7 +149,7 @@ few_steps texts f step (x ∷ xs) s g few =
 
 pub none_at_first : (cpus ceiling names id : ℕ) → expired_in id (start cpus ceiling names) ≡ 0
 none_at_first cpus ceiling names id =
-    let e = none_ended (numbers_from 0 (λ c. true) (replicate cpus (new_cpu ceiling))) in
+    let e = none_ended (cpus_from 0 (λ c. true) (replicate cpus (begun_cpu ceiling))) in
     let a = sum_of_none (expired_here id) ceiling cpus refl in omega (arith, e, a)
 
 pub sum_at : (id n : ℕ) (cs : List Cpu) → expired_here id (slice_index_or cs n absent) ≤ sum_by (expired_here id) cs

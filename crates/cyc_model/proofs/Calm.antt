@@ -11,15 +11,27 @@ use Rattle.cyc_types.specs.Expirations.{times_of}
 use Rattle.cyc_script.specs.declared.step.Reprogram.{Reprogram as ReprogramStep}
 use Rattle.cyc_script.specs.declared.step.Softint.{Softint as SoftintStep}
 use Rattle.cyc_model.specs.Cpu.{Cpu, Here}
-use Rattle.cyc_model.specs.Firing.{due_here, fired, fire_here}
+use Rattle.cyc_model.specs.Firing.{due_here, fired_cyclic, fire_here}
 use Rattle.cyc_model.specs.Serving.{serve_here}
 use Rattle.cyc_model.specs.Moving.{moment_at, reprogram_here}
-use Rattle.cyc_model.specs.State.{State, Outcome, Placement, On, OnAll, on, cpu_of, each, nothing, followed_by, online_cpus}
-use Rattle.cyc_model.specs.Places.{id_of, placement_of, put_at, home_of, home_at, is_everywhere}
+use Rattle.cyc_model.specs.State.{
+  State,
+  Outcome,
+  Placement,
+  On,
+  OnAll,
+  on_number,
+  cpu_of,
+  each,
+  nothing,
+  followed_by,
+  cpus_online,
+}
+use Rattle.cyc_model.specs.Places.{id_of, placement_of, put_at, home_of, home_at, is_placed_everywhere}
 use Rattle.cyc_types.specs.Reasons.{when, first_refusal}
-use Rattle.cyc_model.specs.Refusals.{no_cpu, offline_cpu, magnitude}
-use Rattle.cyc_model.specs.Bind.{no_cyclic, omnipresent, unbind_refusal, unbind}
-use Rattle.cyc_model.specs.Reprogram.{no_component, cpu_refusals, reprogram_refusal, cpu_meant, reprogram}
+use Rattle.cyc_model.specs.Refusals.{is_no_cpu, cpu_is_offline, magnitude}
+use Rattle.cyc_model.specs.Bind.{cyclic_is_absent, cyclic_is_omni, unbind_refusal, unbind}
+use Rattle.cyc_model.specs.Reprogram.{has_no_component, cpu_refusals, reprogram_refusal, cpu_meant, reprogram}
 use Rattle.cyc_model.specs.Advance.{advance, advance_refusal}
 use Rattle.cyc_model.specs.Softint.{softint_refusal, interrupt}
 use Rattle.cyc_model.proofs.Agreement.{moment_same, fired_same}
@@ -59,20 +71,20 @@ some_map f (Some x) = refl
 module _ (n : ℕ) (f : Cpu → Here) (made : ℕ → ℕ) (s : State) (g : Good s) (within : n < length s.cpus)
     (done : Done n made (cpu_of n s) (f (cpu_of n s))) (shift : Shift None None made (cpu_of n s) (f (cpu_of n s)))
     (view : SameView (cpu_of n s) (f (cpu_of n s)).cpu) where
-  pub views_on : (m : ℕ) → SameView (cpu_of m s) (cpu_of m (on n f s).state)
+  pub views_on : (m : ℕ) → SameView (cpu_of m s) (cpu_of m (on_number n f s).state)
   views_on m = dite (ℕ_discrete m n)
-      (λ e. subst (λ k. SameView (cpu_of k s) (cpu_of k (on n f s).state)) (sym e)
+      (λ e. subst (λ k. SameView (cpu_of k s) (cpu_of k (on_number n f s).state)) (sym e)
       (subst (λ c. SameView (cpu_of n s) c) (sym (cpu_there n f made s within done)) view))
       (λ ne. subst (λ c. SameView (cpu_of m s) c) (sym (cpu_elsewhere n f made s within done m ne)) (view_refl (cpu_of m s)))
 
   pub well_on : ((c : Cpu) → Local n c (f c)) → ((id : ℕ) → found id (cpu_of n s).cyclics ≡ None → made id ≡ 0)
-      → Well (on n f s) s
+      → Well (on_number n f s) s
   well_on local none =
       let goes = goes_on n f made s within done None g.base local none in (
         goes,
         record {
           base = base_on n f made s within done None None g.base shift (λ id some. g.base.homes n id (sym (view.ids id) ∙ some));
-          spread = spread_view s (on n f s).state goes.tells.as_many (λ j. refl) views_on g.spread;
+          spread = spread_view s (on_number n f s).state goes.tells.as_many (λ j. refl) views_on g.spread;
         },
       )
 
@@ -81,14 +93,15 @@ module _ (n : ℕ) (f : Cpu → Here) (made : ℕ → ℕ) (s : State) (g : Good
 view_fire : (n now : ℕ) (s : State) → Good s → now < never → SameView (cpu_of n s) (fire_here n now (cpu_of n s)).cpu
 view_fire n now s g before = record {
   ids = λ j. ap is_some (ap (found j) (fired_cyclics n now (cpu_of n s) (g.base.whole n) before)
-      ∙ found_map (fired now (due_here now (cpu_of n s)) (fire_here n now (cpu_of n s)).acts)
+      ∙ found_map (fired_cyclic now (due_here now (cpu_of n s)) (fire_here n now (cpu_of n s)).acts)
       (λ x. (fired_same now (due_here now (cpu_of n s)) (fire_here n now (cpu_of n s)).acts x).0) j (cpu_of n s).cyclics)
-      ∙ some_map (fired now (due_here now (cpu_of n s)) (fire_here n now (cpu_of n s)).acts) (found j (cpu_of n s).cyclics);
+      ∙ some_map (fired_cyclic now (due_here now (cpu_of n s)) (fire_here n now (cpu_of n s)).acts) (found j (cpu_of n
+      s).cyclics);
   removal = (fired_alike n now (cpu_of n s) (g.base.whole n) before).0;
   online = (fired_alike n now (cpu_of n s) (g.base.whole n) before).1;
 }
 
-pub well_fire : (n now : ℕ) (s : State) → Good s → n < length s.cpus → now < never → Well (on n (fire_here n now) s) s
+pub well_fire : (n now : ℕ) (s : State) → Good s → n < length s.cpus → now < never → Well (on_number n (fire_here n now) s) s
 well_fire n now s g within before =
     let w = g.base.whole n in
     let done = done_fire n now (cpu_of n s) w before in
@@ -98,12 +111,12 @@ well_fire n now s g within before =
     (λ id none. times_found now 0 id (cpu_of n s).cyclics w.rising ∙ ap (due_of_found now) none)
 
 well_fires : (now : ℕ) (ns : List ℕ) (s : State) → Good s → now < never → ((m : ℕ) → Has m ns → m < length s.cpus)
-    → Well (each (λ n. on n (fire_here n now)) ns s) s
+    → Well (each (λ n. on_number n (fire_here n now)) ns s) s
 well_fires now [] s g before within = well_nothing s g
 well_fires now (n ∷ ns) s g before within =
     let one = well_fire n now s g (within n (inl refl)) before in
-    well_then (on n (fire_here n now) s) (each (λ m. on m (fire_here m now)) ns) s one
-    (λ g2. well_fires now ns (on n (fire_here n now) s).state g2 before
+    well_then (on_number n (fire_here n now) s) (each (λ m. on_number m (fire_here m now)) ns) s one
+    (λ g2. well_fires now ns (on_number n (fire_here n now) s).state g2 before
     (λ m has. subst (λ k. m < k) (sym one.0.tells.as_many) (within m (inr has))))
 
 -- neither the clock nor whether the system is suspended matters to the CPUs
@@ -123,7 +136,7 @@ well_set now suspended s g =
 
 pub well_advance : (step now : ℕ) (s : State) → Good s → advance_refusal now s ≡ None → Well (advance step now s) s
 well_advance step now s g why =
-    let o = well_fires now (online_cpus s) (record s { clock = now }) (good_clock now s g) (fires_before now s why)
+    let o = well_fires now (cpus_online s) (record s { clock = now }) (good_clock now s g) (fires_before now s why)
     (λ m has. (numbers_pass (λ (c : Cpu). c.online) m s has).0) in
     (goes_from _ s (record s { clock = now }) _ o.0 refl refl (λ id h. h), o.1)
 
@@ -156,17 +169,18 @@ meant_there : (cpu : Option ℕ) (id : ℕ) (s : State) → Good s → IsSome (p
     → first_refusal (cpu_refusals cpu id s) ≡ None
     → cpu_meant cpu id s < length s.cpus
 meant_there None id s g known h =
-    let all = (none_first (omnipresent id s) [] h).0 in
+    let all = (none_first (cyclic_is_omni id s) [] h).0 in
     let at = is_single (placement_of id s) known (not_omnipresent id s all) in
     subst (λ o. home_at o < length s.cpus) (sym at.2) (is_there s g.spread id at.0 at.1 at.2)
-meant_there (Some n) id s g known h = is_cpu n s (none_first (no_cpu n s) (offline_cpu n s ∷ no_component id n s ∷ []) h).0
+meant_there (Some n) id s g known h = is_cpu n s (none_first (is_no_cpu n s) (cpu_is_offline n s ∷ has_no_component id n s ∷
+    []) h).0
 
 pub well_reprogram : (step : ℕ) (r : ReprogramStep) (s : State) → Good s → reprogram_refusal r s ≡ None
     → Well (reprogram step r s) s
 well_reprogram step r s g why =
     let id = id_of r.name s in
-    let one = none_first (when (int_lt r.moment (pos 0)) BadWhen) (no_cyclic id s ∷ cpu_refusals r.cpu id s) why in
-    let two = none_first (no_cyclic id s) (cpu_refusals r.cpu id s) one.1 in
+    let one = none_first (when (int_lt r.moment (pos 0)) BadWhen) (cyclic_is_absent id s ∷ cpu_refusals r.cpu id s) why in
+    let two = none_first (cyclic_is_absent id s) (cpu_refusals r.cpu id s) one.1 in
     let known = is_cyclic id s two.0 in
     let n = cpu_meant r.cpu id s in
     let o = well_on n (reprogram_here id (magnitude r.moment)) (λ j. 0) s g (meant_there r.cpu id s g known.0 two.1)
@@ -214,7 +228,7 @@ well_put id n bound was s g at =
           stands = λ j e is. dite (ℕ_discrete j id)
               (λ same. absurd (let no : Some (On n bound) ≡ Some (OnAll e) =
               sym (ap (λ (k : ℕ). placement_of k t) same ∙ place_put_same id (On n bound) s (On n was) at) ∙ is in
-              let no2 : false ≡ true = ap is_everywhere no in cc))
+              let no2 : false ≡ true = ap is_placed_everywhere no in cc))
               (λ ne. g.spread.stands j e (sym (place_put_other id j (On n bound) s ne) ∙ is));
         };
       },
@@ -223,9 +237,9 @@ well_put id n bound was s g at =
 pub well_unbind : (step name : ℕ) (s : State) → Good s → unbind_refusal name s ≡ None → Well (unbind step name s) s
 well_unbind step name s g why =
     let id = id_of name s in
-    let one = none_first (no_cyclic id s) (omnipresent id s ∷ []) why in
+    let one = none_first (cyclic_is_absent id s) (cyclic_is_omni id s ∷ []) why in
     let known = is_cyclic id s one.0 in
-    let at = is_single (placement_of id s) known.0 (not_omnipresent id s (none_first (omnipresent id s) [] one.1).0) in
+    let at = is_single (placement_of id s) known.0 (not_omnipresent id s (none_first (cyclic_is_omni id s) [] one.1).0) in
     let home : home_of id s ≡ at.0 = ap home_at at.2 in
     let o = subst (λ n. Well (nothing (put_at id (On n false) s)) s) (sym home) (well_put id at.0 false at.1 s g at.2) in
     (o.0, o.1)

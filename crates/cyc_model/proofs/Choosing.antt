@@ -20,7 +20,7 @@ use Rattle.cyc_model.specs.Cpu.{Cpu, handler_level_of}
 use Rattle.cyc_model.specs.Firing.{raised, expiry, expire_here, expire_all, due_here, fire_here}
 use Rattle.cyc_model.specs.Questions.{plain}
 use Rattle.cyc_model.specs.Serving.{level_after}
-use Rattle.cyc_model.specs.State.{State, on, cpu_of, each, online_cpus}
+use Rattle.cyc_model.specs.State.{State, on_number, cpu_of, each, cpus_online}
 use Rattle.cyc_model.specs.Refusals.{unless}
 use Rattle.cyc_model.specs.Script.{refusal_of, does, word, steps_from, start, names_of, run_on, run_of}
 use Rattle.cyc_model.specs.Laws.{level_on}
@@ -130,13 +130,14 @@ all_no_admit n [] c = tt
 all_no_admit n (p ∷ ps) c = acts_append IsNoAdmit (expire_here n p.id c).acts (expire_all n ps (expire_here n p.id c).cpu).acts
     (expiry_no_admit n p.id (handler_level_of p.id c) c) (all_no_admit n ps (expire_here n p.id c).cpu)
 
-fresh_fires : (now : ℕ) (ns : List ℕ) (s : State) → Fresh s.admissions (each (λ n. on n (fire_here n now)) ns s).acts
-    (each (λ n. on n (fire_here n now)) ns s).state.admissions
+fresh_fires : (now : ℕ) (ns : List ℕ) (s : State) → Fresh s.admissions (each (λ n. on_number n (fire_here n now)) ns s).acts
+    (each (λ n. on_number n (fire_here n now)) ns s).state.admissions
 fresh_fires now [] s = omega arith
 fresh_fires now (n ∷ ns) s =
-    let t = (on n (fire_here n now) s).state in
-    fresh_append (fire_here n now (cpu_of n s)).acts (each (λ m. on m (fire_here m now)) ns t).acts s.admissions s.admissions
-    (each (λ m. on m (fire_here m now)) ns t).state.admissions
+    let t = (on_number n (fire_here n now) s).state in
+    fresh_append (fire_here n now (cpu_of n s)).acts (each (λ m. on_number m (fire_here m now)) ns t).acts s.admissions
+    s.admissions
+    (each (λ m. on_number m (fire_here m now)) ns t).state.admissions
     (fresh_none (fire_here n now (cpu_of n s)).acts s.admissions (all_no_admit n (due_here now (cpu_of n s)) (cpu_of n s)))
     (fresh_fires now ns t)
 
@@ -152,7 +153,7 @@ shaped_fresh texts step x s is = shaped_does own_number (λ acts a b. Fresh a ac
 
 fresh_does : (texts : List (List ℕ)) (step : ℕ) (x : Step) (s : State)
     → Fresh s.admissions (does plain texts own_number step x s).acts (does plain texts own_number step x s).state.admissions
-fresh_does texts step (Advance now) s = fresh_fires now (online_cpus s) (record s { clock = now })
+fresh_does texts step (Advance now) s = fresh_fires now (cpus_online s) (record s { clock = now })
 fresh_does texts step (Add a) s = shaped_fresh texts step (Add a) s tt
 fresh_does texts step (Omni a) s = shaped_fresh texts step (Omni a) s tt
 fresh_does texts step (Bind b) s = shaped_fresh texts step (Bind b) s tt

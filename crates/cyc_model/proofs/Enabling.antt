@@ -10,7 +10,7 @@ use Rattle.cyc_level.specs.Lawful.{Lawful}
 use Rattle.cyc_level.specs.Events.{after}
 use Rattle.cyc_level.proofs.Keeps.{empty_lawful, keeps_law}
 use Rattle.cyc_model.specs.Acts.{events_at}
-use Rattle.cyc_model.specs.Cpu.{new_cpu}
+use Rattle.cyc_model.specs.Cpu.{begun_cpu}
 use Rattle.cyc_model.specs.Questions.{plain}
 use Rattle.cyc_model.specs.Serving.{level_at}
 use Rattle.cyc_model.specs.State.{absent}
@@ -52,7 +52,7 @@ all_happen (e ∷ es) l law firing soft ready =
     (can, all_happen es (after e l) (keeps_law l law e can) firing.1 soft.1 ready.1)
 
 pub new_level : (k n ceiling : ℕ) (soft : Soft) → n < k → level_at soft
-    (slice_index_or (replicate k (new_cpu ceiling)) n absent) ≡ empty_level ceiling
+    (slice_index_or (replicate k (begun_cpu ceiling)) n absent) ≡ empty_level ceiling
 new_level zero n ceiling soft within = absurd (omega (arith, within))
 new_level (suc k) zero ceiling Low within = refl
 new_level (suc k) zero ceiling Lock within = refl

@@ -9,13 +9,13 @@ use Rattle.cyc_types.specs.declared.refusal.Refusal.TheVariants.{BadWhen, BadInt
 use Rattle.cyc_level.specs.Lawful.{IsId}
 use Rattle.cyc_script.specs.declared.step.Add.{Add as AddStep}
 use Rattle.cyc_script.specs.declared.step.Omni.{Omni as OmniStep}
-use Rattle.cyc_model.specs.Cpu.{Cyclic, Cpu, Here, is_of}
+use Rattle.cyc_model.specs.Cpu.{CyclicState, Cpu, Here, is_of}
 use Rattle.cyc_model.specs.Moving.{put_in, enter_here}
 use Rattle.cyc_model.specs.Questions.{plain}
-use Rattle.cyc_model.specs.State.{State, Placement, On, OnAll, Everywhere, absent, on, cpu_of, each, online_cpus}
-use Rattle.cyc_model.specs.Places.{placement_of, given, destination, home_at, is_everywhere}
+use Rattle.cyc_model.specs.State.{State, Placement, On, OnAll, Everywhere, absent, on_number, cpu_of, each, cpus_online}
+use Rattle.cyc_model.specs.Places.{placement_of, given, destination_of, home_at, is_placed_everywhere}
 use Rattle.cyc_types.specs.Reasons.{when, first_refusal, bad_now}
-use Rattle.cyc_model.specs.Refusals.{ids_spent, no_room}
+use Rattle.cyc_model.specs.Refusals.{no_id_left, no_room}
 use Rattle.cyc_model.specs.Add.{enter, add_refusal, added, add}
 use Rattle.cyc_model.specs.Omni.{component, no_room_on_each, omni_refusal, everywhere, omni}
 use Rattle.cyc_model.proofs.Local.{local_enter}
@@ -37,7 +37,7 @@ use Rattle.cyc_model.proofs.Calm.{Well}
 
 -- ---- one cyclic comes to one CPU
 
-module _ (indexes : ℕ → ℕ) (n : ℕ) (x : Cyclic) (s : State) (within : n < length s.cpus) (b : Base (Some x) s)
+module _ (indexes : ℕ → ℕ) (n : ℕ) (x : CyclicState) (s : State) (within : n < length s.cpus) (b : Base (Some x) s)
     (new : found x.timer.id (cpu_of n s).cyclics ≡ None) (is_id : IsId x.timer.id) (can : CanGrow 1 (cpu_of n s))
     (at : IsAt n (placement_of x.timer.id s)) where
   abbrev f : Cpu → Here
@@ -47,7 +47,7 @@ module _ (indexes : ℕ → ℕ) (n : ℕ) (x : Cyclic) (s : State) (within : n 
   done_there = done_enter n (indexes s.admissions) x (cpu_of n s) (b.whole n) is_id new can
 
   pub enter_goes : Goes (enter indexes n x s).acts s (enter indexes n x s).state
-  enter_goes = goes_to _ s (on n (enter_here n (indexes s.admissions) x) s).state _
+  enter_goes = goes_to _ s (on_number n (enter_here n (indexes s.admissions) x) s).state _
       (goes_on n (enter_here n (indexes s.admissions) x) (λ j. 0) s within done_there (Some x) b
       (local_enter n (indexes s.admissions) x) (λ id none. refl)) refl refl (λ id g. g)
 
@@ -106,14 +106,14 @@ module _ (indexes : ℕ → ℕ) (n : ℕ) (x : Cyclic) (s : State) (within : n 
 
 -- ---- a cyclic that has not expired
 
-carried_none : (g : Cyclic → ℕ) (id : ℕ) (x : Cyclic) → g x ≡ 0 → carried g id (Some x) ≡ 0
+carried_none : (g : CyclicState → ℕ) (id : ℕ) (x : CyclicState) → g x ≡ 0 → carried g id (Some x) ≡ 0
 carried_none g id x none = by (is_of id x)
   where
     by : (b : Bool) → cond b (g x) 0 ≡ 0
     by true = none
     by false = refl
 
-pub base_fresh : (x : Cyclic) (s : State) → expired_of x ≡ 0 → lost_of x ≡ 0 → Base None s → Base (Some x) s
+pub base_fresh : (x : CyclicState) (s : State) → expired_of x ≡ 0 → lost_of x ≡ 0 → Base None s → Base (Some x) s
 base_fresh x s expired lost b = record {
   whole = b.whole;
   homes = b.homes;
@@ -160,17 +160,18 @@ pub well_add : (indexes : ℕ → ℕ) (step : ℕ) (a : AddStep) (s : State) �
 well_add indexes step a s g why =
     let b = g.base in
     let one = none_first (when (int_lt a.start (pos 0)) BadWhen)
-    (when (int_lt a.interval (pos 1)) BadInterval ∷ bad_now s.clock ∷ ids_spent s
-    ∷ no_room plain (destination None s) (s.last_id + 1) 1 (cpu_of (destination None s) s) ∷ []) why in
-    let two = none_first (when (int_lt a.interval (pos 1)) BadInterval) (bad_now s.clock ∷ ids_spent s
-    ∷ no_room plain (destination None s) (s.last_id + 1) 1 (cpu_of (destination None s) s) ∷ []) one.1 in
-    let three = none_first (bad_now s.clock) (ids_spent s
-    ∷ no_room plain (destination None s) (s.last_id + 1) 1 (cpu_of (destination None s) s) ∷ []) two.1 in
-    let four = none_first (ids_spent s) (no_room plain (destination None s) (s.last_id
-    + 1) 1 (cpu_of (destination None s) s) ∷ []) three.1 in
-    let room = (none_first (no_room plain (destination None s) (s.last_id + 1) 1 (cpu_of (destination None s) s)) [] four.1).0 in
+    (when (int_lt a.interval (pos 1)) BadInterval ∷ bad_now s.clock ∷ no_id_left s
+    ∷ no_room plain (destination_of None s) (s.last_id + 1) 1 (cpu_of (destination_of None s) s) ∷ []) why in
+    let two = none_first (when (int_lt a.interval (pos 1)) BadInterval) (bad_now s.clock ∷ no_id_left s
+    ∷ no_room plain (destination_of None s) (s.last_id + 1) 1 (cpu_of (destination_of None s) s) ∷ []) one.1 in
+    let three = none_first (bad_now s.clock) (no_id_left s
+    ∷ no_room plain (destination_of None s) (s.last_id + 1) 1 (cpu_of (destination_of None s) s) ∷ []) two.1 in
+    let four = none_first (no_id_left s) (no_room plain (destination_of None s) (s.last_id
+    + 1) 1 (cpu_of (destination_of None s) s) ∷ []) three.1 in
+    let room = (none_first (no_room plain (destination_of None s) (s.last_id + 1) 1 (cpu_of (destination_of None s) s)) []
+    four.1).0 in
     let few = few_ids s four.0 in
-    let n = destination None s in
+    let n = destination_of None s in
     let x = added a s in
     let r = given a.name (On n false) s in
     let dest = destination_online None s g.spread.some.0
@@ -205,7 +206,7 @@ well_add indexes step a s g why =
           stands = λ j e is. dite (ℕ_discrete j (s.last_id + 1))
               (λ same. absurd (let no : Some (On n false) ≡ Some (OnAll e) = sym (ap (λ (k : ℕ). placement_of k r) same ∙ here)
               ∙ is in
-              let no2 : false ≡ true = ap is_everywhere no in cc))
+              let no2 : false ≡ true = ap is_placed_everywhere no in cc))
               (λ ne. stands_still j s t (let st = still j ne in record { ids = st.ids; removal = st.removal; online = st.online })
               (g.spread.stands j e (older a.name (On n false) s j (OnAll e) b ne is)));
         };
@@ -264,15 +265,15 @@ pub well_omni : (indexes : ℕ → ℕ) (step : ℕ) (a : OmniStep) (s : State) 
 well_omni indexes step a s g why =
     let b = g.base in let id = s.last_id + 1 in let e = everywhere a in
     let one = none_first (when (int_lt a.start (pos 0)) BadWhen)
-    (when (int_lt a.interval (pos 1)) BadInterval ∷ bad_now s.clock ∷ ids_spent s
+    (when (int_lt a.interval (pos 1)) BadInterval ∷ bad_now s.clock ∷ no_id_left s
     ∷ no_room_on_each plain id s) why in
     let two = none_first (when (int_lt a.interval (pos 1)) BadInterval)
-    (bad_now s.clock ∷ ids_spent s ∷ no_room_on_each plain id s) one.1 in
-    let three = none_first (bad_now s.clock) (ids_spent s ∷ no_room_on_each plain id s) two.1 in
-    let four = none_first (ids_spent s) (no_room_on_each plain id s) three.1 in
+    (bad_now s.clock ∷ no_id_left s ∷ no_room_on_each plain id s) one.1 in
+    let three = none_first (bad_now s.clock) (no_id_left s ∷ no_room_on_each plain id s) two.1 in
+    let four = none_first (no_id_left s) (no_room_on_each plain id s) three.1 in
     let few = few_ids s four.0 in
     let r = given a.name (OnAll e) s in
-    let ns = online_cpus s in
+    let ns = cpus_online s in
     let here = place_given_new a.name (OnAll e) s b.rise in
     let is_id = new_id a.name (OnAll e) s b few in
     let all = looped (λ n t. enter indexes n (component id n e t.clock) t) (λ n c. (found id c.cyclics ≡ None)
@@ -311,12 +312,12 @@ well_omni indexes step a s g why =
           home = λ j m bound is. dite (ℕ_discrete j id)
               (λ q. absurd (let no : Some (OnAll e) ≡ Some (On m bound) = sym (ap (λ (k : ℕ). placement_of k r) q ∙ here)
               ∙ sym (kept j) ∙ is in
-              let no2 : true ≡ false = ap is_everywhere no in cc))
+              let no2 : true ≡ false = ap is_placed_everywhere no in cc))
               (λ ne. ids j ne m ∙ g.spread.home j m bound (older a.name (OnAll e) s j (On m bound) b ne (sym (kept j) ∙ is)));
           stands = λ j k is. dite (ℕ_discrete j id)
               (λ q. subst (λ i. Stands i t) (sym q) (inl (
-                (λ m on. (came m (pass_numbers (λ (c : Cpu). c.online) m s (online_number m s (sym (online m)
-                    ∙ on)) (sym (online m) ∙ on))).has),
+                (λ m on_number. (came m (pass_numbers (λ (c : Cpu). c.online) m s (online_number m s (sym (online m)
+                    ∙ on_number)) (sym (online m) ∙ on_number))).has),
                 (λ m open_. none_and_some ⊥ (found id (cpu_of m s).cyclics) (new_away s b m)
                     ((b.whole m).held id (sym (removal m) ∙ open_))),
               )))

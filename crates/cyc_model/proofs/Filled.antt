@@ -13,9 +13,9 @@ use Rattle.cyc_script.specs.declared.step.Add.{Add as AddStep}
 use Rattle.cyc_script.specs.declared.step.Step.TheVariants.{Add}
 use Rattle.cyc_model.specs.Cpu.{Cpu}
 use Rattle.cyc_model.specs.Moving.{must_grow}
-use Rattle.cyc_model.specs.Questions.{plain, has_followed}
+use Rattle.cyc_model.specs.Questions.{plain, soft_has_followed}
 use Rattle.cyc_model.specs.State.{State, cpu_of}
-use Rattle.cyc_model.specs.Places.{destination}
+use Rattle.cyc_model.specs.Places.{destination_of}
 use Rattle.cyc_model.specs.Refusals.{no_room, unless}
 use Rattle.cyc_model.specs.Add.{add_refusal}
 use Rattle.cyc_model.specs.Script.{word, does}
@@ -30,10 +30,10 @@ not_up_to : (a b : ℕ) → b < a → nat_le a b ≡ false
 not_up_to a b high = grind (arith, nat_tests)
 
 -- where nothing is to be waited for, it has room up to the limit
-a_cpu_with_fewer_has_room : (n id : ℕ) (c : Cpu) → length c.cyclics < most_cyclics → c.removal ≡ None → has_followed c ≡ true
+a_cpu_with_fewer_has_room : (n id : ℕ) (c : Cpu) → length c.cyclics < most_cyclics → c.removal ≡ None → soft_has_followed c ≡ true
     → no_room plain n id 1 c ≡ None
 a_cpu_with_fewer_has_room n id c few none followed =
-    by (nat_lt most_cyclics (length c.cyclics + 1)) (must_grow 1 c) (has_followed c) c.removal
+    by (nat_lt most_cyclics (length c.cyclics + 1)) (must_grow 1 c) (soft_has_followed c) c.removal
     (not_below most_cyclics (length c.cyclics + 1) (omega (arith, few))) none followed
   where
     by : (full grows up : Bool) (open_ : Option ℕ) → full ≡ false → open_ ≡ None → up ≡ true
@@ -48,18 +48,18 @@ a_cpu_with_fewer_has_room n id c few none followed =
 a_cpu_with_the_most_is_full : (n id : ℕ) (c : Cpu) → most_cyclics ≤ length c.cyclics → no_room plain n id 1 c ≡ Some Full
 a_cpu_with_the_most_is_full n id c many =
     ap (λ b. or_else (when b Full) (first_refusal (only_if (must_grow 1 c) (busy c.removal)
-    ∷ only_if (must_grow 1 c) (when (not (has_followed c)) Expanding) ∷ [])))
+    ∷ only_if (must_grow 1 c) (when (not (soft_has_followed c)) Expanding) ∷ [])))
     (below most_cyclics (length c.cyclics + 1) (omega (arith, many)))
 
 -- and an add that is refused for nothing else is refused for that
 module _ (a : AddStep) (s : State) (start : int_lt a.start (pos 0) ≡ false) (interval : int_lt a.interval (pos 1) ≡ false)
     (early : s.clock < never) (ids : s.last_id < greatest_id)
-    (many : most_cyclics ≤ length (cpu_of (destination None s) s).cyclics) where
+    (many : most_cyclics ≤ length (cpu_of (destination_of None s) s).cyclics) where
   no_add_has_room : add_refusal plain a s ≡ Some Full
   no_add_has_room = by (int_lt a.start (pos 0)) (int_lt a.interval (pos 1)) (nat_le never s.clock) (nat_le greatest_id s.last_id)
-      (no_room plain (destination None s) (s.last_id + 1) 1 (cpu_of (destination None s) s))
+      (no_room plain (destination_of None s) (s.last_id + 1) 1 (cpu_of (destination_of None s) s))
       start interval (not_up_to never s.clock early) (not_up_to greatest_id s.last_id ids)
-      (a_cpu_with_the_most_is_full (destination None s) (s.last_id + 1) (cpu_of (destination None s) s) many)
+      (a_cpu_with_the_most_is_full (destination_of None s) (s.last_id + 1) (cpu_of (destination_of None s) s) many)
     where
       by : (when_ interval_ now spent : Bool) (room : Option Refusal) → when_ ≡ false → interval_ ≡ false → now ≡ false
           → spent ≡ false → room ≡ Some Full

@@ -13,10 +13,10 @@ use Rattle.cyc_level.specs.declared.Event.{Event}
 use Rattle.cyc_level.specs.declared.Event.TheVariants.{Expire, Lose, Publish}
 use Rattle.cyc_level.specs.Level.{SoftLevel, count}
 use Rattle.cyc_level.proofs.Maps.{some_same, some_of}
-use Rattle.cyc_types.specs.Expirations.{Expiration, times_of, after}
+use Rattle.cyc_types.specs.Expirations.{Expiration, times_of, after_expirations}
 use Rattle.cyc_model.specs.Acts.{Act, At, events_at, calls_of, losses_of}
-use Rattle.cyc_model.specs.Cpu.{Cyclic, Cpu, handler_level_of}
-use Rattle.cyc_model.specs.Firing.{raised, expiry, expire_here, expire_all, due_here, fired, fire_here}
+use Rattle.cyc_model.specs.Cpu.{CyclicState, Cpu, handler_level_of}
+use Rattle.cyc_model.specs.Firing.{raised, expiry, expire_here, expire_all, due_here, fired_cyclic, fire_here}
 use Rattle.cyc_model.specs.Questions.{outstanding_here}
 use Rattle.cyc_model.specs.Serving.{level_at}
 use Rattle.cyc_model.proofs.Agreement.{AllActs, agrees_with, fired_same}
@@ -150,18 +150,19 @@ done_expire_all n (p ∷ ps) c w far =
 -- ---- the cyclics get other moments and counts
 
 -- the function keeps the id and the level of a cyclic
-abbrev pub Retimes : (Cyclic → Cyclic) → Type 0
-Retimes f = (x : Cyclic) → ((f x).timer.id ≡ x.timer.id) × ((f x).timer.level ≡ x.timer.level)
+abbrev pub Retimes : (CyclicState → CyclicState) → Type 0
+Retimes f = (x : CyclicState) → ((f x).timer.id ≡ x.timer.id) × ((f x).timer.level ≡ x.timer.level)
 
 -- the level of a cyclic that was found
-abbrev pub level_found : Option Cyclic → Level
-level_found o = option_map_or (λ (x : Cyclic). x.timer.level) o level.High
+abbrev pub level_found : Option CyclicState → Level
+level_found o = option_map_or (λ (x : CyclicState). x.timer.level) o level.High
 
-pub level_mapped : (f : Cyclic → Cyclic) → Retimes f → (o : Option Cyclic) → level_found (option_map f o) ≡ level_found o
+pub level_mapped : (f : CyclicState → CyclicState) → Retimes f → (o : Option CyclicState)
+    → level_found (option_map f o) ≡ level_found o
 level_mapped f same None = refl
 level_mapped f same (Some x) = (same x).1
 
-pub retimed_level : (f : Cyclic → Cyclic) → Retimes f → (id : ℕ) (cs : List Cyclic)
+pub retimed_level : (f : CyclicState → CyclicState) → Retimes f → (id : ℕ) (cs : List CyclicState)
     → level_found (found id (map f cs)) ≡ level_found (found id cs)
 retimed_level f same id cs = ap level_found (found_map f (λ x. (same x).0) id cs) ∙ level_mapped f same (found id cs)
 
@@ -173,8 +174,8 @@ pub is_some_mapped : {A B : Type 0} (f : A → B) (o : Option A) → IsSome o �
 is_some_mapped f None h = absurd (cc)
 is_some_mapped f (Some x) h = refl
 
-pub whole_retimed : (f : Cyclic → Cyclic) → Retimes f → (c : Cpu) → Whole c
-    → ((id : ℕ) (y : Cyclic) → c.removal ≡ Some id → found id c.cyclics ≡ Some y → (f y).timer.moment ≡ never)
+pub whole_retimed : (f : CyclicState → CyclicState) → Retimes f → (c : Cpu) → Whole c
+    → ((id : ℕ) (y : CyclicState) → c.removal ≡ Some id → found id c.cyclics ≡ Some y → (f y).timer.moment ≡ never)
     → Whole (record c { cyclics = map f c.cyclics })
 whole_retimed f same c w calm = record {
   agrees = agrees_with c (record c { cyclics = map f c.cyclics }) refl refl refl (λ id. retimed_level f same id c.cyclics)
@@ -189,7 +190,7 @@ whole_retimed f same c w calm = record {
   rising = rising_map f (λ x. (same x).0) 0 c.cyclics w.rising;
   room = subst (λ k. k ≤ c.size) (sym (length_mapped f c.cyclics)) w.room;
   still = λ id x is at. let y = some_mapped f (found id c.cyclics) x (sym (found_map f (λ z. (same z).0) id c.cyclics) ∙ at) in
-      sym (ap (λ (z : Cyclic). z.timer.moment) y.2) ∙ calm id y.0 is y.1;
+      sym (ap (λ (z : CyclicState). z.timer.moment) y.2) ∙ calm id y.0 is y.1;
   held = λ id is. subst (λ o. IsSome o) (sym (found_map f (λ z. (same z).0) id c.cyclics))
       (is_some_mapped f (found id c.cyclics) (w.held id is));
 }
@@ -205,9 +206,10 @@ whole_retimed f same c w calm = record {
     back_level Lock P h = h
 
 whole_fired : (now : ℕ) (made : List Expiration) (acts : List Act) (c : Cpu) → Whole c
-    → ((id : ℕ) → c.removal ≡ Some id → times_of id made ≡ 0) → Whole (record c { cyclics = map (fired now made acts) c.cyclics })
-unfolding after
-whole_fired now made acts c w none = whole_retimed (fired now made acts) (fired_same now made acts) c w
+    → ((id : ℕ) → c.removal ≡ Some id → times_of id made ≡ 0)
+    → Whole (record c { cyclics = map (fired_cyclic now made acts) c.cyclics })
+unfolding after_expirations
+whole_fired now made acts c w none = whole_retimed (fired_cyclic now made acts) (fired_same now made acts) c w
     (λ id y is at.
     ap (λ (k : ℕ). cond (k == 0) y.timer.moment (cond (k == due y.timer.moment y.timer.interval now)
     (next y.timer.moment y.timer.interval now) (y.timer.moment + k * y.timer.interval)))
@@ -249,11 +251,11 @@ done_fire n now c w before =
 
 -- its cyclics are those that were there, each after its expirations
 pub fired_cyclics : (n now : ℕ) (c : Cpu) → Whole c → now < never
-    → (fire_here n now c).cpu.cyclics ≡ map (fired now (due_here now c) (fire_here n now c).acts) c.cyclics
+    → (fire_here n now c).cpu.cyclics ≡ map (fired_cyclic now (due_here now c) (fire_here n now c).acts) c.cyclics
 fired_cyclics n now c w before =
     let made = due_here now c in
     let all = done_expire_all n made c w (all_far c.removal made (removed_none now c w before)) in
-    ap (map (fired now made (expire_all n made c).acts)) all.1.cyclics
+    ap (map (fired_cyclic now made (expire_all n made c).acts)) all.1.cyclics
 
 pub fired_alike : (n now : ℕ) (c : Cpu) → Whole c → now < never
     → ((fire_here n now c).cpu.removal ≡ c.removal) × ((fire_here n now c).cpu.online ≡ c.online)

@@ -20,7 +20,7 @@ use Rattle.cyc_level.proofs.Keeps.{once_pos, once_le, raised_here, raised_else, 
 use Rattle.cyc_level.proofs.Keeps.{changed_all, listed_times, called_count}
 use Rattle.cyc_model.specs.Serving.{level_after}
 use Rattle.cyc_model.specs.Laws.{CanAsSoft, AllCanAsSoft}
-use Rattle.cyc_model.specs.Agreement.{IsReady, AllReady}
+use Rattle.cyc_model.specs.Agreement.{IsReadyToExpire, AllReady}
 
 -- the laws of a level that don't speak of indexes
 pub record Fit (l : SoftLevel) : Type 0 where
@@ -236,7 +236,7 @@ module _ (l : SoftLevel) (law : Fit l) where
     bank_bound = law.bank_bound;
   }
 
-  pub keeps_fit : (e : Event) → CanAsSoft e l → IsReady e l → Rest e l → Fit (after e l)
+  pub keeps_fit : (e : Event) → CanAsSoft e l → IsReadyToExpire e l → Rest e l → Fit (after e l)
   keeps_fit (Admit id index) soft ready rest = admits id index rest.1
   keeps_fit (Expire id) soft ready rest = let c = some_of (l.cyclics id) ready.1 in expires id ready.0 c.0 c.1 ready.2
   keeps_fit (Lose id) soft ready rest = let c = some_of (l.cyclics id) ready.1 in loses id c.0 c.1
@@ -256,7 +256,7 @@ module _ (l : SoftLevel) (law : Fit l) where
   keeps_fit Follow soft ready rest = follows soft.1
 
   -- the outstanding calls of an id after an event
-  pub count_step : (e : Event) (j : ℕ) → CanAsSoft e l → IsReady e l → Rest e l
+  pub count_step : (e : Event) (j : ℕ) → CanAsSoft e l → IsReadyToExpire e l → Rest e l
       → count (after e l) j + finishes j e l ≡ count l j + brings j e
   count_step (Admit id index) j soft ready rest =
       changed_count l.cyclics id (λ o. Some (admitted_cyclic index)) j 0 0

@@ -9,7 +9,7 @@ use Rattle.cyc_model.specs.Acts.{calls_of}
 use Rattle.cyc_model.specs.Cpu.{Cpu}
 use Rattle.cyc_model.specs.Firing.{fire_here}
 use Rattle.cyc_model.specs.Questions.{plain, outstanding_here}
-use Rattle.cyc_model.specs.State.{State, Outcome, Ended, OnAll, cpu_of, on, each, numbers_from, online_cpus}
+use Rattle.cyc_model.specs.State.{State, Outcome, Ended, OnAll, cpu_of, on_number, each, cpus_from, cpus_online}
 use Rattle.cyc_model.specs.Places.{given}
 use Rattle.cyc_model.specs.Refusals.{unless}
 use Rattle.cyc_model.specs.Add.{enter}
@@ -31,7 +31,7 @@ use Rattle.cyc_model.proofs.Answering.{counts_removed, counts_polls}
 use Rattle.cyc_model.proofs.Printing.{unknown_gone}
 use Rattle.cyc_model.proofs.Reaching.{safe_does, well_does, well_word, run_good}
 
-same_numbers : (k : ℕ) (cs ds : List Cpu) → length cs ≡ length ds → numbers_from k (λ c. true) cs ≡ numbers_from k (λ c. true) ds
+same_numbers : (k : ℕ) (cs ds : List Cpu) → length cs ≡ length ds → cpus_from k (λ c. true) cs ≡ cpus_from k (λ c. true) ds
 same_numbers k [] [] long = refl
 same_numbers k [] (d ∷ ds) long = absurd (omega (arith, long))
 same_numbers k (c ∷ cs) [] long = absurd (omega (arith, long))
@@ -104,13 +104,16 @@ module _ (texts : List (List ℕ)) (indexes : ℕ → ℕ) (step id : ℕ) (s : 
   gone_does (Omni a) why =
       let t = given a.name (OnAll (everywhere a)) s in
       alike (Omni a) why
-      (ended_each (λ n u. enter indexes n (component (s.last_id + 1) n (everywhere a) u.clock) u) (λ n u. refl) (online_cpus t) t)
+      (ended_each (λ n u. enter indexes n (component (s.last_id + 1) n (everywhere a) u.clock) u) (λ n u. refl) (cpus_online t) t)
   gone_does (Bind b) why = (safe_does texts indexes step (Bind b) s tt g why).counts id
   gone_does (Unbind name) why = (safe_does texts indexes step (Unbind name) s tt g why).counts id
   gone_does (Reprogram r) why = alike (Reprogram r) why refl
   gone_does (Remove name) why = counts_removed name s g why step (text_in texts name) id
   gone_does (Advance now) why =
-      alike (Advance now) why (ended_each (λ n. on n (fire_here n now)) (λ n u. refl) (online_cpus s) (record s { clock = now }))
+      alike (Advance now) why (ended_each (λ n. on_number n (fire_here n now)) (λ n u. refl) (cpus_online s) (record s {
+        clock
+            = now;
+      }))
   gone_does (Softint i) why =
       let o = interrupt step i s in
       counts_polls texts step (leaving_ids o.state) o.state (well_interrupt step i s g why).1 id

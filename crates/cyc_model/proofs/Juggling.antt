@@ -8,16 +8,27 @@ use native.Mathlib.Decide.{ℕ_discrete}
 use Rattle.cyc_types.specs.declared.refusal.Refusal.{Refusal}
 use Rattle.cyc_types.specs.declared.refusal.Refusal.TheVariants.{LastCpu, Pending}
 use Rattle.cyc_script.specs.declared.step.Bind.{Bind as BindStep}
-use Rattle.cyc_model.specs.Cpu.{Cyclic, Cpu}
+use Rattle.cyc_model.specs.Cpu.{CyclicState, Cpu}
 use Rattle.cyc_model.specs.Questions.{plain, outstanding_here}
-use Rattle.cyc_model.specs.State.{State, Outcome, Placement, On, OnAll, cpu_of, nothing, followed_by, online_cpus}
-use Rattle.cyc_model.specs.Places.{id_of, placement_of, put_at, home_of, home_at, is_bound, is_omnipresent, is_everywhere}
-use Rattle.cyc_model.specs.Places.{destination}
+use Rattle.cyc_model.specs.State.{State, Outcome, Placement, On, OnAll, cpu_of, nothing, followed_by, cpus_online}
+use Rattle.cyc_model.specs.Places.{id_of, placement_of, put_at, home_of, home_at, is_bound, is_omni, is_placed_everywhere}
+use Rattle.cyc_model.specs.Places.{destination_of}
 use Rattle.cyc_types.specs.Reasons.{first_refusal, busy}
-use Rattle.cyc_model.specs.Refusals.{no_cpu, offline_cpu, last_cpu, no_room}
-use Rattle.cyc_model.specs.Bind.{no_cyclic, omnipresent, pending, move, move_refusals, unless_there, bind_refusal}
+use Rattle.cyc_model.specs.Refusals.{is_no_cpu, cpu_is_offline, is_last_online, no_room}
+use Rattle.cyc_model.specs.Bind.{cyclic_is_absent, cyclic_is_omni, pending, move, move_refusals, unless_there, bind_refusal}
 use Rattle.cyc_model.specs.Bind.{move_unless_there, bind, unbind_refusal, unbind}
-use Rattle.cyc_model.specs.Juggle.{Turn, IsBound, IsPending, IsRefused, Moves, turn, take_turn, juggle_each, single_ids, juggled}
+use Rattle.cyc_model.specs.Juggle.{
+  Turn,
+  IsBound,
+  IsPending,
+  IsRefused,
+  Moves,
+  turn,
+  take_turn,
+  juggle_each,
+  single_ids_of,
+  juggled,
+}
 use Rattle.cyc_model.specs.Juggle.{juggle_refusal, juggle}
 use Rattle.cyc_model.specs.Kept.{Kept}
 use Rattle.cyc_model.proofs.Rising.{Rising, found, first_is, first_not}
@@ -42,7 +53,7 @@ put_down id n s was g at = let w = well_put id n true was s g at in (w.0, w.1, k
 moved_down : (id n : ℕ) (s : State) (o : Outcome) → Moved id n s o
     → Safe (followed_by o (λ t. nothing (put_at id (On n true) t))) s
 moved_down id n s o m =
-    let d = put_down id n o.state m.place.0 m.good m.place.1 in (
+    let d = put_down id n o.state m.placement.0 m.good m.placement.1 in (
       goes_append o.acts [] s o.state (put_at id (On n true) o.state) m.goes d.0,
       d.1,
       kept_then s o.state
@@ -54,10 +65,10 @@ pub safe_bind : (indexes : ℕ → ℕ) (step : ℕ) (b : BindStep) (s : State) 
 safe_bind indexes step b s g why =
     let id = id_of b.name s in let n = b.cpu in
     let rest = unless_there (home_of id s == n) (move_refusals plain id (home_of id s) n s) in
-    let one = none_first (no_cyclic id s) (omnipresent id s ∷ no_cpu n s ∷ offline_cpu n s ∷ rest) why in
-    let two = none_first (omnipresent id s) (no_cpu n s ∷ offline_cpu n s ∷ rest) one.1 in
-    let three = none_first (no_cpu n s) (offline_cpu n s ∷ rest) two.1 in
-    let four = none_first (offline_cpu n s) rest three.1 in
+    let one = none_first (cyclic_is_absent id s) (cyclic_is_omni id s ∷ is_no_cpu n s ∷ cpu_is_offline n s ∷ rest) why in
+    let two = none_first (cyclic_is_omni id s) (is_no_cpu n s ∷ cpu_is_offline n s ∷ rest) one.1 in
+    let three = none_first (is_no_cpu n s) (cpu_is_offline n s ∷ rest) two.1 in
+    let four = none_first (cpu_is_offline n s) rest three.1 in
     let at = is_single (placement_of id s) (is_cyclic id s one.0).0 (not_omnipresent id s two.0) in
     let home : home_of id s ≡ at.0 = ap home_at at.2 in
     let r = by id n (home_of id s == n) refl at.1 (at.2 ∙ ap (λ k. Some (On k at.1)) (sym home)) (is_cpu n s three.0)
@@ -87,9 +98,9 @@ safe_bind indexes step b s g why =
 pub safe_unbind : (step name : ℕ) (s : State) → Good s → unbind_refusal name s ≡ None → Safe (unbind step name s) s
 safe_unbind step name s g why =
     let id = id_of name s in
-    let one = none_first (no_cyclic id s) (omnipresent id s ∷ []) why in
+    let one = none_first (cyclic_is_absent id s) (cyclic_is_omni id s ∷ []) why in
     let at = is_single (placement_of id s) (is_cyclic id s one.0).0
-    (not_omnipresent id s (none_first (omnipresent id s) [] one.1).0) in
+    (not_omnipresent id s (none_first (cyclic_is_omni id s) [] one.1).0) in
     let home : home_of id s ≡ at.0 = ap home_at at.2 in
     let w = well_unbind step name s g why in
     (w.0, w.1, subst (λ n. Kept s (put_at id (On n false) s)) (sym home) (kept_put id at.0 false at.1 s at.2))
@@ -141,7 +152,7 @@ module _ (indexes : ℕ → ℕ) (source other : ℕ) (apart : other ≢ source)
   one_turn id s g can bound at IsPending is = stays id s g
   one_turn id s g can bound at IsRefused is = stays id s g
   one_turn id s g can bound at (Moves target) is =
-      let d = destination (Some source) s in
+      let d = destination_of (Some source) s in
       let w = moves_where (is_bound id s) (nat_lt 0 (outstanding_here id (cpu_of source s))) (no_room plain d id 1 (cpu_of d s))
       d target is in
       let le = ltb-false 0 (outstanding_here id (cpu_of source s)) w.0 in
@@ -191,20 +202,20 @@ module _ (indexes : ℕ → ℕ) (source other : ℕ) (apart : other ≢ source)
 
 -- ---- the ids of a CPU's cyclics
 
-abbrev pub ids_in : List Cyclic → List ℕ
+abbrev pub ids_in : List CyclicState → List ℕ
 ids_in cs = map (λ x. x.timer.id) cs
 
-pub ids_rise : (low : ℕ) (cs : List Cyclic) → Rising low cs → RiseFrom (low + 1) (ids_in cs)
+pub ids_rise : (low : ℕ) (cs : List CyclicState) → Rising low cs → RiseFrom (low + 1) (ids_in cs)
 ids_rise low [] h = tt
 ids_rise low (x ∷ xs) h = (let a = h.0 in omega (arith, a), ids_rise x.timer.id xs h.1)
 
-pub has_ids : (j : ℕ) (cs : List Cyclic) → Has j (ids_in cs) → IsSome (found j cs)
+pub has_ids : (j : ℕ) (cs : List CyclicState) → Has j (ids_in cs) → IsSome (found j cs)
 has_ids j [] has = absurd has
 has_ids j (x ∷ xs) has = dite (ℕ_discrete x.timer.id j)
     (λ e. ap is_some (first_is j x xs e))
     (λ ne. ⊎_elim (λ e. absurd (ne (sym e))) (λ h. ap is_some (first_not j x xs ne) ∙ has_ids j xs h) has)
 
-pub ids_have : (j : ℕ) (cs : List Cyclic) → IsSome (found j cs) → Has j (ids_in cs)
+pub ids_have : (j : ℕ) (cs : List CyclicState) → IsSome (found j cs) → Has j (ids_in cs)
 ids_have j [] some = absurd (cc)
 ids_have j (x ∷ xs) some = dite (ℕ_discrete x.timer.id j)
     (λ e. inl (sym e))
@@ -253,22 +264,23 @@ others_online n low (a ∷ b ∷ ns) rise many = dite (ℕ_discrete a n)
     (λ e. (b, inr (inl refl), λ (q : b ≡ n). let r = rise.1.0 in omega (arith, e, q, r)))
     (λ ne. (a, inl refl, ne))
 
-pub another : (n : ℕ) (s : State) → last_cpu n s ≡ None → (m : ℕ) × (m < length s.cpus) × ((cpu_of m s).online ≡ true) × (m ≢ n)
+pub another : (n : ℕ) (s : State) → is_last_online n s ≡ None → (m : ℕ) × (m < length s.cpus) × ((cpu_of m s).online ≡ true)
+    × (m ≢ n)
 another n s h =
-    let many = leb-false (length (online_cpus s)) 1 (not_when (nat_le (length (online_cpus s)) 1) LastCpu h) in
-    let o = others_online n 0 (online_cpus s) (numbers_rise (λ (c : Cpu). c.online) 0 s.cpus) (omega (arith, many)) in
+    let many = leb-false (length (cpus_online s)) 1 (not_when (nat_le (length (cpus_online s)) 1) LastCpu h) in
+    let o = others_online n 0 (cpus_online s) (numbers_rise (λ (c : Cpu). c.online) 0 s.cpus) (omega (arith, many)) in
     let p = numbers_pass (λ (c : Cpu). c.online) o.0 s o.1 in (o.0, p.0, p.1, o.2)
 
 -- ---- juggle
 
 -- the single cyclics of a CPU are there
-single_there : (n : ℕ) (s : State) → Good s → (j : ℕ) → Has j (single_ids n s)
+single_there : (n : ℕ) (s : State) → Good s → (j : ℕ) → Has j (single_ids_of n s)
     → (bound : Bool) × (placement_of j s ≡ Some (On n bound))
 single_there n s g j has =
-    let f = filtered (λ id. not (is_omnipresent id s)) j (ids_in (cpu_of n s).cyclics) has in
-    by (placement_of j s) (not-true (is_omnipresent j s) f.1) (g.base.homes n j (has_ids j (cpu_of n s).cyclics f.0))
+    let f = filtered (λ id. not (is_omni id s)) j (ids_in (cpu_of n s).cyclics) has in
+    by (placement_of j s) (not-true (is_omni j s) f.1) (g.base.homes n j (has_ids j (cpu_of n s).cyclics f.0))
   where
-    by : (o : Option Placement) → is_everywhere o ≡ false → IsAt n o → (bound : Bool) × (o ≡ Some (On n bound))
+    by : (o : Option Placement) → is_placed_everywhere o ≡ false → IsAt n o → (bound : Bool) × (o ≡ Some (On n bound))
     by None single at = absurd at
     by (Some (On m bound)) single at = (bound, ap (λ k. Some (On k bound)) at)
     by (Some (OnAll e)) single at = absurd (cc)
@@ -281,13 +293,13 @@ pub juggling : (indexes : ℕ → ℕ) (n : ℕ) (s : State) → Good s → jugg
     × ((k : ℕ) → (cpu_of k (juggled plain indexes n s).outcome.state).removal ≡ (cpu_of k s).removal)
     × ((k : ℕ) → (cpu_of k (juggled plain indexes n s).outcome.state).online ≡ (cpu_of k s).online)
 juggling indexes n s g why =
-    let one = none_first (no_cpu n s) (offline_cpu n s ∷ last_cpu n s ∷ busy (cpu_of n s).removal ∷ []) why in
-    let two = none_first (offline_cpu n s) (last_cpu n s ∷ busy (cpu_of n s).removal ∷ []) one.1 in
-    let three = none_first (last_cpu n s) (busy (cpu_of n s).removal ∷ []) two.1 in
+    let one = none_first (is_no_cpu n s) (cpu_is_offline n s ∷ is_last_online n s ∷ busy (cpu_of n s).removal ∷ []) why in
+    let two = none_first (cpu_is_offline n s) (is_last_online n s ∷ busy (cpu_of n s).removal ∷ []) one.1 in
+    let three = none_first (is_last_online n s) (busy (cpu_of n s).removal ∷ []) two.1 in
     let free = not_busy (cpu_of n s).removal (none_first (busy (cpu_of n s).removal) [] three.1).0 in
     let m = another n s three.0 in
-    let all = shuffled indexes n m.0 m.3 1 (single_ids n s) s
-    (filter_rise (λ id. not (is_omnipresent id s)) 1 (ids_in (cpu_of n s).cyclics)
+    let all = shuffled indexes n m.0 m.3 1 (single_ids_of n s) s
+    (filter_rise (λ id. not (is_omni id s)) 1 (ids_in (cpu_of n s).cyclics)
     (ids_rise 0 (cpu_of n s).cyclics (g.base.whole n).rising))
     g (free, m.1, m.2) (single_there n s g) in
     (m.0, m.1, m.2, m.3, free, is_cpu n s one.0, all.good, all.goes, all.kept, all.removal, all.online)

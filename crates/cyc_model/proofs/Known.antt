@@ -8,8 +8,8 @@ use Rattle.cyc_script.specs.declared.step.Step.TheVariants.{Add, Omni, Bind, Unb
 use Rattle.cyc_script.specs.declared.step.Step.TheVariants.{Offline, Online, Suspend, Resume}
 use Rattle.cyc_model.specs.Firing.{fire_here}
 use Rattle.cyc_model.specs.Questions.{plain}
-use Rattle.cyc_model.specs.State.{State, Outcome, Placement, On, OnAll, Placed, on, each, online_cpus}
-use Rattle.cyc_model.specs.Places.{placement_of, is_unknown, given, destination}
+use Rattle.cyc_model.specs.State.{State, Outcome, Placement, On, OnAll, Placed, on_number, each, cpus_online}
+use Rattle.cyc_model.specs.Places.{placement_of, is_no_cyclic, given, destination_of}
 use Rattle.cyc_model.specs.Add.{enter}
 use Rattle.cyc_model.specs.Omni.{component, everywhere}
 use Rattle.cyc_model.specs.Kept.{Kept}
@@ -37,7 +37,7 @@ known_ids id (p ∷ ps) = by (p.id == id) (known_ids id ps)
     by true h = refl
     by false h = h
 
-some_placed : (o : Option Placed) → is_some (option_map (λ p. p.place) o) ≡ is_some o
+some_placed : (o : Option Placed) → is_some (option_map (λ p. p.placement) o) ≡ is_some o
 some_placed None = refl
 some_placed (Some p) = refl
 
@@ -48,7 +48,7 @@ same_known id s t same =
     some_placed (find (λ p. p.id == id) t.placed) ∙ known_ids id t.placed ∙ ap (has_id id) same
     ∙ sym (known_ids id s.placed) ∙ sym (some_placed (find (λ p. p.id == id) s.placed))
 
-same_each : {A : Type 0} → (f : A → State → Outcome) → ((x : A) (s : State) → (f x s).state.placed ≡ s.placed)
+pub same_each : {A : Type 0} → (f : A → State → Outcome) → ((x : A) (s : State) → (f x s).state.placed ≡ s.placed)
     → (xs : List A) (s : State)
     → (each f xs s).state.placed ≡ s.placed
 same_each f same [] s = refl
@@ -59,7 +59,8 @@ module _ (id : ℕ) where
   Stays s t = IsSome (placement_of id s) → IsSome (placement_of id t)
 
   stays_placed : (s t : State) → t.placed ≡ s.placed → Stays s t
-  stays_placed s t same known = ap (λ ps. is_some (option_map (λ (p : Placed). p.place) (find (λ p. p.id == id) ps))) same ∙ known
+  stays_placed s t same known = ap (λ ps. is_some (option_map (λ (p : Placed). p.placement) (find (λ p. p.id == id) ps))) same
+      ∙ known
 
   stays_given : (name : ℕ) (place : Placement) (s : State) → Stays s (given name place s)
   stays_given name place s known = by (placement_of id s) refl known
@@ -73,11 +74,11 @@ module _ (id : ℕ) where
 
   stays_does : (texts : List (List ℕ)) (indexes : ℕ → ℕ) (step : ℕ) (x : Step) (s : State) → IsLasting x → Good s
       → refusal_of plain x s ≡ None → Stays s (does plain texts indexes step x s).state
-  stays_does texts indexes step (Add a) s is g why known = stays_given a.name (On (destination None s) false) s known
+  stays_does texts indexes step (Add a) s is g why known = stays_given a.name (On (destination_of None s) false) s known
   stays_does texts indexes step (Omni a) s is g why known =
       let t = given a.name (OnAll (everywhere a)) s in
       stays_placed t (does plain texts indexes step (Omni a) s).state
-      (same_each (λ n u. enter indexes n (component (s.last_id + 1) n (everywhere a) u.clock) u) (λ n u. refl) (online_cpus t) t)
+      (same_each (λ n u. enter indexes n (component (s.last_id + 1) n (everywhere a) u.clock) u) (λ n u. refl) (cpus_online t) t)
       (stays_given a.name (OnAll (everywhere a)) s known)
   stays_does texts indexes step (Bind b) s is g why known =
       stays_moved s (does plain texts indexes step (Bind b) s).state (safe_does texts indexes step (Bind b) s tt g why) known
@@ -88,7 +89,7 @@ module _ (id : ℕ) where
   stays_does texts indexes step (Remove name) s is g why known = absurd is
   stays_does texts indexes step (Advance now) s is g why known =
       stays_placed s (does plain texts indexes step (Advance now) s).state
-      (same_each (λ n. on n (fire_here n now)) (λ n u. refl) (online_cpus s) (record s { clock = now })) known
+      (same_each (λ n. on_number n (fire_here n now)) (λ n u. refl) (cpus_online s) (record s { clock = now })) known
   stays_does texts indexes step (Softint i) s is g why known = absurd is
   stays_does texts indexes step (Juggle n) s is g why known =
       stays_moved s (does plain texts indexes step (Juggle n) s).state (safe_does texts indexes step (Juggle n) s tt g why) known
@@ -102,7 +103,7 @@ module _ (id : ℕ) where
 
   -- what is unknown after it was so before
   pub unknown_before : (texts : List (List ℕ)) (indexes : ℕ → ℕ) (step : ℕ) (x : Step) (s : State) → IsLasting x → Good s
-      → refusal_of plain x s ≡ None → is_unknown id (does plain texts indexes step x s).state ≡ true → is_unknown id s ≡ true
+      → refusal_of plain x s ≡ None → is_no_cyclic id (does plain texts indexes step x s).state ≡ true → is_no_cyclic id s ≡ true
   unknown_before texts indexes step x s is g why gone = by (placement_of id s) refl
     where
       by : (o : Option Placement) → placement_of id s ≡ o → not (is_some (placement_of id s)) ≡ true

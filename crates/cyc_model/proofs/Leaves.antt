@@ -10,7 +10,7 @@ use Rattle.cyc_level.specs.declared.Event.TheVariants.{Mark, Clear}
 use Rattle.cyc_level.specs.Level.{SoftLevel}
 use Rattle.cyc_level.proofs.Maps.{some_same, none_some}
 use Rattle.cyc_model.specs.Acts.{at_own, events_at}
-use Rattle.cyc_model.specs.Cpu.{Cyclic, Cpu, happen, handler_level_of, others, with_moment}
+use Rattle.cyc_model.specs.Cpu.{CyclicState, Cpu, happen, handler_level_of, others, cyclic_at}
 use Rattle.cyc_model.specs.Questions.{outstanding_here}
 use Rattle.cyc_model.specs.Serving.{level_at, level_after}
 use Rattle.cyc_model.specs.Moving.{take_here, moment_at, reprogram_here, mark_here}
@@ -113,11 +113,11 @@ module _ (n id : ℕ) (c : Cpu) where
 
 -- ---- other moments
 
-pub moment_is : (id moment : ℕ) (x : Cyclic) → x.timer.id ≡ id → (moment_at id moment x).timer.moment ≡ moment
-moment_is id moment x e = ap (λ (b : Bool). (cond b (with_moment moment x) x).timer.moment) (eq-eqb x.timer.id id e)
+pub moment_is : (id moment : ℕ) (x : CyclicState) → x.timer.id ≡ id → (moment_at id moment x).timer.moment ≡ moment
+moment_is id moment x e = ap (λ (b : Bool). (cond b (cyclic_at moment x) x).timer.moment) (eq-eqb x.timer.id id e)
 
-pub moment_else : (id moment : ℕ) (x : Cyclic) → x.timer.id ≢ id → moment_at id moment x ≡ x
-moment_else id moment x ne = ap (λ (b : Bool). cond b (with_moment moment x) x) (ne_eqb x.timer.id id ne)
+pub moment_else : (id moment : ℕ) (x : CyclicState) → x.timer.id ≢ id → moment_at id moment x ≡ x
+moment_else id moment x ne = ap (λ (b : Bool). cond b (cyclic_at moment x) x) (ne_eqb x.timer.id id ne)
 
 pub done_reprogram : (n id moment : ℕ) (c : Cpu) → Whole c → c.removal ≢ Some id → Done n (λ j. 0) c (reprogram_here id moment c)
 done_reprogram n id moment c w far = record {
@@ -125,7 +125,7 @@ done_reprogram n id moment c w far = record {
   rest = λ soft. tt;
   books = λ j. plain (outstanding_here j c);
   whole = whole_retimed (moment_at id moment) (moment_same id moment) c w
-      (λ j y is at. ap (λ (z : Cyclic). z.timer.moment)
+      (λ j y is at. ap (λ (z : CyclicState). z.timer.moment)
       (moment_else id moment y (λ same. far (is ∙ ap Some (sym (found_id j y c.cyclics at) ∙ same))))
       ∙ w.still j y is at);
 }
@@ -186,7 +186,7 @@ module _ (n id : ℕ) (c : Cpu) where
               ∙ length_mapped (moment_at id never) c.cyclics in
               let was = w.room in let size = marked_same.2 in omega (arith, len, was, size);
           still = λ j y is at. let x = some_mapped (moment_at id never) (found j c.cyclics) y (sym (found_there j) ∙ at) in
-              sym (ap (λ (z : Cyclic). z.timer.moment) x.2)
+              sym (ap (λ (z : CyclicState). z.timer.moment) x.2)
               ∙ moment_is id never x.0 (found_id j x.0 c.cyclics x.1 ∙ some_same j id (sym is ∙ marked_same.1));
           held = λ j is. subst (λ o. IsSome o) (sym (found_there j))
               (is_some_mapped (moment_at id never) (found j c.cyclics)

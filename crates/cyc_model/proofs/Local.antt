@@ -13,13 +13,24 @@ use Rattle.cyc_level.specs.Level.{SoftLevel}
 use Rattle.cyc_level.specs.Events.{after}
 use Rattle.cyc_types.specs.Expirations.{Expiration}
 use Rattle.cyc_model.specs.Acts.{Act, At, Call, at_own, same_soft, event_at, events_at}
-use Rattle.cyc_model.specs.Cpu.{Cyclic, Cpu, Here, cpu_after, happen, here, nothing_here, then_here, handler_level_of, others}
+use Rattle.cyc_model.specs.Cpu.{
+  CyclicState,
+  Cpu,
+  Here,
+  cpu_after,
+  happen,
+  here,
+  nothing_here,
+  then_here,
+  handler_level_of,
+  others,
+}
 use Rattle.cyc_model.specs.Firing.{raised, expiry, expire_here, expire_all, due_here, fire_here}
 use Rattle.cyc_model.specs.Serving.{level_after, look, Interrupt, after_look, serve, serve_here, level_at}
 use Rattle.cyc_model.specs.Moving.{bank_for, widen_here, must_grow, place_here, enter_here, take_here, mark_here, clear_here}
 use Rattle.cyc_model.specs.Moving.{reprogram_here}
 use Rattle.cyc_model.proofs.Events.{level_append, events_append}
-use Rattle.cyc_model.specs.Agreement.{Agrees, AllReady}
+use Rattle.cyc_model.specs.Agreement.{StateAgrees, AllReady}
 use Rattle.cyc_model.proofs.Agreement.{agrees_expire, agrees_fired, agrees_serve, agrees_switch, agrees_place, agrees_gone}
 use Rattle.cyc_model.proofs.Agreement.{agrees_own, agrees_moment}
 use Rattle.cyc_model.proofs.Ready.{ReadyAt, ready_append, ready_expire, ready_serve, ready_switch, ready_admit, ready_mark}
@@ -81,7 +92,7 @@ pub record Local (n : ℕ) (c : Cpu) (d : Here) : Type 0 where
   pub on : AllOn n d.acts
   pub levels : (soft : Soft) → level_at soft d.cpu ≡ level_after (events_at n soft d.acts) (level_at soft c)
   pub fair : FairAt n d.acts c
-  pub agrees : Agrees c → Agrees d.cpu
+  pub agrees : StateAgrees c → StateAgrees d.cpu
   pub ready : ReadyAt n d.acts c
 
 -- the two have the same levels
@@ -89,7 +100,7 @@ abbrev pub SameLevels : Cpu → Cpu → Type 0
 SameLevels c d = (soft : Soft) → level_at soft d ≡ level_at soft c
 
 pub local_here : (n : ℕ) (acts : List Act) (c d : Cpu) → AllOn n acts → SameLevels c d → FairAt n acts c
-    → (Agrees c → Agrees (here acts d).cpu) → ReadyAt n acts c → Local n c (here acts d)
+    → (StateAgrees c → StateAgrees (here acts d).cpu) → ReadyAt n acts c → Local n c (here acts d)
 local_here n acts c d is same fair agrees ready = record {
   on = is;
   levels = λ soft. own_levels acts n soft d is ∙ ap (level_after (events_at n soft acts)) (same soft);
@@ -98,7 +109,7 @@ local_here n acts c d is same fair agrees ready = record {
   ready = ready;
 }
 
-pub local_nothing : (n : ℕ) (c d : Cpu) → SameLevels c d → (Agrees c → Agrees d) → Local n c (nothing_here d)
+pub local_nothing : (n : ℕ) (c d : Cpu) → SameLevels c d → (StateAgrees c → StateAgrees d) → Local n c (nothing_here d)
 local_nothing n c d same agrees = record {
   on = tt;
   levels = same;
@@ -155,8 +166,8 @@ local_expire_all n [] c = local_nothing n c c (λ soft. refl) (λ h. h)
 local_expire_all n (p ∷ ps) c = local_then n c (expire_here n p.id c) (expire_all n ps) (local_expire n p.id c)
     (local_expire_all n ps)
 
-retimed : (n : ℕ) (c : Cpu) (d : Here) (cs : List Cyclic) → Local n c d
-    → (Agrees d.cpu → Agrees (record d.cpu { cyclics = cs }))
+retimed : (n : ℕ) (c : Cpu) (d : Here) (cs : List CyclicState) → Local n c d
+    → (StateAgrees d.cpu → StateAgrees (record d.cpu { cyclics = cs }))
     → Local n c (record d { cpu = record d.cpu { cyclics = cs } })
 retimed n c d cs h agrees = record {
   on = h.on;
@@ -199,12 +210,12 @@ local_widen n more c = local_if (must_grow more c) n c _ (nothing_here c)
     (agrees_switch n (bank_for (length c.cyclics + more)) c) (ready_switch n (bank_for (length c.cyclics + more)) c))
     (local_nothing n c c (λ soft. refl) (λ h. h))
 
-pub local_place : (n index : ℕ) (x : Cyclic) (c : Cpu) → Local n c (place_here n index x c)
+pub local_place : (n index : ℕ) (x : CyclicState) (c : Cpu) → Local n c (place_here n index x c)
 local_place n index x c = local_here n _ c _ (on_own n x.timer.level _) (same_low_lock c _ refl refl)
     (fair_own n x.timer.level (Admit x.timer.id index) c (λ l free. ((tt, tt), free))) (agrees_place n index x c)
     (ready_admit n x.timer.level x.timer.id index c)
 
-pub local_enter : (n index : ℕ) (x : Cyclic) (c : Cpu) → Local n c (enter_here n index x c)
+pub local_enter : (n index : ℕ) (x : CyclicState) (c : Cpu) → Local n c (enter_here n index x c)
 local_enter n index x c = local_then n c (widen_here n 1 c) (place_here n index x) (local_widen n 1 c) (local_place n index x)
 
 pub local_take : (n id : ℕ) (c : Cpu) → Local n c (take_here n id c)

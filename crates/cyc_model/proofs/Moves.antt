@@ -14,10 +14,11 @@ use Rattle.cyc_level.specs.Level.{SoftLevel, bank_size, count}
 use Rattle.cyc_level.specs.Events.{after}
 use Rattle.cyc_model.specs.Acts.{at_own, events_at, calls_of, losses_of, loss_of}
 use Rattle.cyc_model.specs.Cpu.{Cpu, Here, nothing_here}
-use Rattle.cyc_model.specs.Questions.{outstanding_here, has_followed}
+use Rattle.cyc_model.specs.Questions.{outstanding_here, soft_has_followed}
 use Rattle.cyc_model.specs.Serving.{level_at, level_after}
 use Rattle.cyc_model.specs.Moving.{least_bank, bank_for, must_grow, switch_here, widen_here}
 use Rattle.cyc_types.specs.Levels.{as_level}
+use Rattle.cyc_types.proofs.Facts.{both_true}
 use Rattle.cyc_model.proofs.Fair.{switch_events}
 use Rattle.cyc_model.proofs.Local.{Local, local_widen}
 use Rattle.cyc_model.proofs.Fit.{Rest, AllRest, finishes, brings, all_finishes, all_brings}
@@ -66,14 +67,9 @@ bank_greater hard needed over most =
 
 -- there is room for so many more, where the size must grow for them
 abbrev pub CanGrow : ℕ → Cpu → Type 0
-CanGrow more c = must_grow more c ≡ true → (has_followed c ≡ true) × (length c.cyclics + more ≤ most_cyclics)
+CanGrow more c = must_grow more c ≡ true → (soft_has_followed c ≡ true) × (length c.cyclics + more ≤ most_cyclics)
 
-both_true : (a b : Bool) → (a && b) ≡ true → (a ≡ true) × (b ≡ true)
-both_true true true h = (refl, refl)
-both_true true false h = absurd (cc)
-both_true false b h = absurd (cc)
-
-followed_at : (c : Cpu) → has_followed c ≡ true → (soft : Soft) → (level_at soft c).hard_bank ≡ (level_at soft c).soft_bank
+followed_at : (c : Cpu) → soft_has_followed c ≡ true → (soft : Soft) → (level_at soft c).hard_bank ≡ (level_at soft c).soft_bank
 followed_at c h Lock = eqb-true c.lock.hard_bank c.lock.soft_bank
     (both_true (c.lock.hard_bank == c.lock.soft_bank) (c.low.hard_bank == c.low.soft_bank) h).0
 followed_at c h Low = eqb-true c.low.hard_bank c.low.soft_bank

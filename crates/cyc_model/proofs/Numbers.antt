@@ -8,8 +8,8 @@ use mathlib.Core.Logic.{dite}
 use native.Mathlib.Decide.{ℕ_discrete}
 use Rattle.cyc_level.proofs.Maps.{some_same}
 use Rattle.cyc_model.specs.Cpu.{Cpu}
-use Rattle.cyc_model.specs.State.{State, Outcome, each, absent, cpu_of, numbers_from, numbers, online_cpus}
-use Rattle.cyc_model.specs.Places.{is_leaving, fewer, fewest, is_not, destination, len_of}
+use Rattle.cyc_model.specs.State.{State, Outcome, each, absent, cpu_of, cpus_from, numbers, cpus_online}
+use Rattle.cyc_model.specs.Places.{is_being_removed, smaller_cpu, smallest_cpu, is_other_cpu, destination_of, cyclics_on}
 use Rattle.cyc_model.proofs.Base.{Goes, goes_append, goes_nothing}
 
 -- whether the number is among these
@@ -38,60 +38,60 @@ has_or_not m (n ∷ ns) = dite (ℕ_discrete m n) (λ e. inl (inl e))
     (λ ne. ⊎_elim (λ h. inl (inr h)) (λ no. inr (λ h. ⊎_elim ne no h)) (has_or_not m ns))
 
 -- they are no more than the CPUs
-pub numbers_few : (test : Cpu → Bool) (k : ℕ) (cs : List Cpu) → length (numbers_from k test cs) ≤ length cs
+pub numbers_few : (test : Cpu → Bool) (k : ℕ) (cs : List Cpu) → length (cpus_from k test cs) ≤ length cs
 numbers_few test k [] = omega arith
 numbers_few test k (c ∷ cs) = by (test c) (numbers_few test (k + 1) cs)
   where
-    by : (b : Bool) → length (numbers_from (k + 1) test cs) ≤ length cs
-        → length (cond b (k ∷ numbers_from (k + 1) test cs) (numbers_from (k + 1) test cs)) ≤ suc (length cs)
+    by : (b : Bool) → length (cpus_from (k + 1) test cs) ≤ length cs
+        → length (cond b (k ∷ cpus_from (k + 1) test cs) (cpus_from (k + 1) test cs)) ≤ suc (length cs)
     by true h = omega (arith, h)
     by false h = omega (arith, h)
 
 module _ (test : Cpu → Bool) where
-  pub numbers_rise : (k : ℕ) (cs : List Cpu) → RiseFrom k (numbers_from k test cs)
+  pub numbers_rise : (k : ℕ) (cs : List Cpu) → RiseFrom k (cpus_from k test cs)
   numbers_rise k [] = tt
   numbers_rise k (c ∷ cs) = by (test c) (numbers_rise (k + 1) cs)
     where
-      by : (b : Bool) → RiseFrom (k + 1) (numbers_from (k + 1) test cs)
-          → RiseFrom k (cond b (k ∷ numbers_from (k + 1) test cs) (numbers_from (k + 1) test cs))
+      by : (b : Bool) → RiseFrom (k + 1) (cpus_from (k + 1) test cs)
+          → RiseFrom k (cond b (k ∷ cpus_from (k + 1) test cs) (cpus_from (k + 1) test cs))
       by true rest = (omega arith, rest)
-      by false rest = rise_low k (k + 1) (numbers_from (k + 1) test cs) (omega arith) rest
+      by false rest = rise_low k (k + 1) (cpus_from (k + 1) test cs) (omega arith) rest
 
-  has_from : (k m : ℕ) (cs : List Cpu) → Has m (numbers_from k test cs)
+  has_from : (k m : ℕ) (cs : List Cpu) → Has m (cpus_from k test cs)
       → (i : ℕ) × (m ≡ k + i) × (i < length cs) × (test (slice_index_or cs i absent) ≡ true)
   has_from k m [] has = absurd has
   has_from k m (c ∷ cs) has = by (test c) refl has (has_from (k + 1) m cs)
     where
-      later : Has m (numbers_from (k + 1) test cs)
-          → (Has m (numbers_from (k + 1) test cs) → (i : ℕ) × (m ≡ k + 1 + i) × (i < length cs)
+      later : Has m (cpus_from (k + 1) test cs)
+          → (Has m (cpus_from (k + 1) test cs) → (i : ℕ) × (m ≡ k + 1 + i) × (i < length cs)
           × (test (slice_index_or cs i absent) ≡ true))
           → (i : ℕ) × (m ≡ k + i) × (i < suc (length cs)) × (test (slice_index_or (c ∷ cs) i absent) ≡ true)
       later h rest = let r = rest h in let e = r.1 in let w = r.2 in (suc r.0, omega (arith, e), omega (arith, w), r.3)
 
-      by : (b : Bool) → test c ≡ b → Has m (cond b (k ∷ numbers_from (k + 1) test cs) (numbers_from (k + 1) test cs))
-          → (Has m (numbers_from (k + 1) test cs) → (i : ℕ) × (m ≡ k + 1 + i) × (i < length cs)
+      by : (b : Bool) → test c ≡ b → Has m (cond b (k ∷ cpus_from (k + 1) test cs) (cpus_from (k + 1) test cs))
+          → (Has m (cpus_from (k + 1) test cs) → (i : ℕ) × (m ≡ k + 1 + i) × (i < length cs)
           × (test (slice_index_or cs i absent) ≡ true))
           → (i : ℕ) × (m ≡ k + i) × (i < suc (length cs)) × (test (slice_index_or (c ∷ cs) i absent) ≡ true)
       by true is h rest = ⊎_elim (λ e. (0, omega (arith, e), omega arith, is)) (λ r. later r rest) h
       by false is h rest = later h rest
 
   from_has : (k i : ℕ) (cs : List Cpu) → i < length cs → test (slice_index_or cs i absent) ≡ true
-      → Has (k + i) (numbers_from k test cs)
+      → Has (k + i) (cpus_from k test cs)
   from_has k i [] within is = absurd (omega (arith, within))
   from_has k zero (c ∷ cs) within is = subst
-      (λ b. Has (k + 0) (cond b (k ∷ numbers_from (k + 1) test cs) (numbers_from (k + 1) test cs))) (sym is)
+      (λ b. Has (k + 0) (cond b (k ∷ cpus_from (k + 1) test cs) (cpus_from (k + 1) test cs))) (sym is)
       (inl (plus_none k))
     where
       plus_none : (j : ℕ) → j + 0 ≡ j
       plus_none j = omega arith
-  from_has k (suc i) (c ∷ cs) within is = by (test c) (subst (λ j. Has j (numbers_from (k + 1) test cs)) (shift k i)
+  from_has k (suc i) (c ∷ cs) within is = by (test c) (subst (λ j. Has j (cpus_from (k + 1) test cs)) (shift k i)
       (from_has (k + 1) i cs (omega (arith, within)) is))
     where
       shift : (a b : ℕ) → a + 1 + b ≡ a + suc b
       shift a b = omega arith
 
-      by : (b : Bool) → Has (k + suc i) (numbers_from (k + 1) test cs)
-          → Has (k + suc i) (cond b (k ∷ numbers_from (k + 1) test cs) (numbers_from (k + 1) test cs))
+      by : (b : Bool) → Has (k + suc i) (cpus_from (k + 1) test cs)
+          → Has (k + suc i) (cond b (k ∷ cpus_from (k + 1) test cs) (cpus_from (k + 1) test cs))
       by true h = inr h
       by false h = h
 
@@ -152,18 +152,18 @@ module _ (f : ℕ → State → Outcome) (P : ℕ → Cpu → Type 0) (R : ℕ �
 
 -- ---- destinations
 
-fewest_has : (ns : List ℕ) (s : State) (k : ℕ) → fewest ns s ≡ Some k → Has k ns
+fewest_has : (ns : List ℕ) (s : State) (k : ℕ) → smallest_cpu ns s ≡ Some k → Has k ns
 fewest_has [] s k is = absurd (cc)
-fewest_has (n ∷ ns) s k is = by (fewest ns s) (some_same (fewer n (fewest ns s) s) k is) (fewest_has ns s)
+fewest_has (n ∷ ns) s k is = by (smallest_cpu ns s) (some_same (smaller_cpu n (smallest_cpu ns s) s) k is) (fewest_has ns s)
   where
     pick : (b : Bool) (a c : ℕ) → (cond b a c ≡ a) ⊎ (cond b a c ≡ c)
     pick true a c = inl refl
     pick false a c = inr refl
 
-    by : (o : Option ℕ) → fewer n o s ≡ k → ((j : ℕ) → o ≡ Some j → Has j ns) → (k ≡ n) ⊎ Has k ns
+    by : (o : Option ℕ) → smaller_cpu n o s ≡ k → ((j : ℕ) → o ≡ Some j → Has j ns) → (k ≡ n) ⊎ Has k ns
     by None e more = inl (sym e)
     by (Some m) e more = ⊎_elim (λ p. inr (subst (λ j. Has j ns) (sym p ∙ e) (more m refl))) (λ p. inl (sym e ∙ p))
-        (pick (nat_lt (len_of m s) (len_of n s)) m n)
+        (pick (nat_lt (cyclics_on m s) (cyclics_on n s)) m n)
 
 filter_has : (test : ℕ → Bool) (m : ℕ) (ns : List ℕ) → Has m (filter test ns) → Has m ns × (test m ≡ true)
 filter_has test m [] has = absurd has
@@ -186,25 +186,25 @@ has_filter test m (n ∷ ns) has is = ⊎_elim
     by false h = h
 
 -- a destination is an online CPU, and not the source, if there is one
-pub destination_online : (source : Option ℕ) (s : State) (m : ℕ) → Has m (online_cpus s) → is_not source m ≡ true
-    → Has (destination source s) (online_cpus s) × (is_not source (destination source s) ≡ true)
-destination_online source s m has apart = by (filter (is_not source) (online_cpus s)) refl
-    (has_filter (is_not source) m (online_cpus s) has apart)
+pub destination_online : (source : Option ℕ) (s : State) (m : ℕ) → Has m (cpus_online s) → is_other_cpu source m ≡ true
+    → Has (destination_of source s) (cpus_online s) × (is_other_cpu source (destination_of source s) ≡ true)
+destination_online source s m has apart = by (filter (is_other_cpu source) (cpus_online s)) refl
+    (has_filter (is_other_cpu source) m (cpus_online s) has apart)
   where
-    by : (ns : List ℕ) → filter (is_not source) (online_cpus s) ≡ ns → Has m ns
-        → Has (destination source s) (online_cpus s) × (is_not source (destination source s) ≡ true)
+    by : (ns : List ℕ) → filter (is_other_cpu source) (cpus_online s) ≡ ns → Has m ns
+        → Has (destination_of source s) (cpus_online s) × (is_other_cpu source (destination_of source s) ≡ true)
     by [] is h = absurd h
     by (n ∷ ns) is h =
-        let k = fewer n (fewest ns s) s in
-        let e : destination source s ≡ k = ap (λ xs. option_map_or (λ (i : ℕ). i) (fewest xs s) 0) is in
-        let there : Has k (filter (is_not source) (online_cpus s)) = subst (λ xs. Has k xs) (sym is)
+        let k = smaller_cpu n (smallest_cpu ns s) s in
+        let e : destination_of source s ≡ k = ap (λ xs. option_map_or (λ (i : ℕ). i) (smallest_cpu xs s) 0) is in
+        let there : Has k (filter (is_other_cpu source) (cpus_online s)) = subst (λ xs. Has k xs) (sym is)
         (fewest_has (n ∷ ns) s k refl) in
-        let q = filter_has (is_not source) k (online_cpus s) there in
-        (subst (λ j. Has j (online_cpus s)) (sym e) q.0, ap (is_not source) e ∙ q.1)
+        let q = filter_has (is_other_cpu source) k (cpus_online s) there in
+        (subst (λ j. Has j (cpus_online s)) (sym e) q.0, ap (is_other_cpu source) e ∙ q.1)
 
 -- ---- open removals
 
-pub not_leaving : (id : ℕ) (s : State) → is_leaving id s ≡ false → (m : ℕ) → (cpu_of m s).removal ≢ Some id
+pub not_leaving : (id : ℕ) (s : State) → is_being_removed id s ≡ false → (m : ℕ) → (cpu_of m s).removal ≢ Some id
 not_leaving id s closed m = by s.cpus m closed
   where
     first : (c : Cpu) → c.removal ≡ Some id → option_map_or (λ busy. busy == id) c.removal false ≡ true

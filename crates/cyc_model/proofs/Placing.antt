@@ -53,8 +53,8 @@ pub place_given_new : (name : ℕ) (place : Placement) (s : State) → RiseTo 0 
     → placement_of (s.last_id + 1) (given name place s) ≡ Some place
 place_given_new name place s rise =
     let none : entry (s.last_id + 1) s.placed ≡ None = entry_above 0 s.last_id (s.last_id + 1) s.placed rise (omega arith) in
-    let new : Placed = record { id = s.last_id + 1; place = place } in
-    ap (option_map (λ (p : Placed). p.place))
+    let new : Placed = record { id = s.last_id + 1; placement = place } in
+    ap (option_map (λ (p : Placed). p.placement))
     (find-append (λ (p : Placed). p.id == s.last_id + 1) s.placed (new ∷ [])
     ∙ ap (λ (o : Option Placed). option_or o (entry (s.last_id + 1) (new ∷ []))) none
     ∙ entry_first (s.last_id + 1) new [] refl)
@@ -62,23 +62,23 @@ place_given_new name place s rise =
 pub place_given_old : (name : ℕ) (place : Placement) (s : State) (id : ℕ) (p : Placement) → placement_of id s ≡ Some p
     → placement_of id (given name place s) ≡ Some p
 place_given_old name place s id p is =
-    ap (option_map (λ (q : Placed). q.place)) (find-append (λ (q : Placed). q.id == id) s.placed (record {
+    ap (option_map (λ (q : Placed). q.placement)) (find-append (λ (q : Placed). q.id == id) s.placed (record {
       id = s.last_id
           + 1;
-      place = place;
+      placement = place;
     } ∷ []))
-    ∙ by (entry id s.placed) (entry id (record { id = s.last_id + 1; place = place } ∷ [])) is
+    ∙ by (entry id s.placed) (entry id (record { id = s.last_id + 1; placement = place } ∷ [])) is
   where
-    by : (o r : Option Placed) → option_map (λ (q : Placed). q.place) o ≡ Some p
-        → option_map (λ (q : Placed). q.place) (option_or o r) ≡ Some p
+    by : (o r : Option Placed) → option_map (λ (q : Placed). q.placement) o ≡ Some p
+        → option_map (λ (q : Placed). q.placement) (option_or o r) ≡ Some p
     by None r e = absurd (cc)
     by (Some q) r e = e
 
 pub place_given_other : (name : ℕ) (place : Placement) (s : State) (id : ℕ) → id ≢ s.last_id + 1
     → placement_of id (given name place s) ≡ placement_of id s
 place_given_other name place s id ne =
-    let new : Placed = record { id = s.last_id + 1; place = place } in
-    ap (option_map (λ (q : Placed). q.place)) (find-append (λ (q : Placed). q.id == id) s.placed (new ∷ [])
+    let new : Placed = record { id = s.last_id + 1; placement = place } in
+    ap (option_map (λ (q : Placed). q.placement)) (find-append (λ (q : Placed). q.id == id) s.placed (new ∷ [])
     ∙ ap (λ (o : Option Placed). option_or (entry id s.placed) o) (entry_rest id new [] (λ e. ne (sym e)))
     ∙ or_none (entry id s.placed))
   where
@@ -103,34 +103,34 @@ entry_id id p (q ∷ qs) e = dite (ℕ_discrete q.id id)
 
 pub place_put_other : (id j : ℕ) (place : Placement) (s : State) → j ≢ id → placement_of j (put_at id place s) ≡ placement_of j s
 place_put_other id j place s ne =
-    ap (option_map (λ (q : Placed). q.place)) (entry_replaced id j place s.placed)
+    ap (option_map (λ (q : Placed). q.placement)) (entry_replaced id j place s.placed)
     ∙ by (entry j s.placed) refl
   where
     by : (o : Option Placed) → entry j s.placed ≡ o
-        → option_map (λ (q : Placed). q.place) (option_map (replaced id place) o) ≡ option_map (λ (q : Placed). q.place) o
+        → option_map (λ (q : Placed). q.placement) (option_map (replaced id place) o) ≡ option_map (λ (q : Placed). q.placement) o
     by None is = refl
-    by (Some p) is = ap (λ (b : Bool). Some ((cond b (record p { place = place }) p).place))
+    by (Some p) is = ap (λ (b : Bool). Some ((cond b (record p { placement = place }) p).placement))
         (ne_eqb p.id id (λ e. ne (sym (entry_id j p s.placed is) ∙ e)))
 
 pub place_put_same : (id : ℕ) (place : Placement) (s : State) (p : Placement) → placement_of id s ≡ Some p
     → placement_of id (put_at id place s) ≡ Some place
 place_put_same id place s p known =
-    ap (option_map (λ (q : Placed). q.place)) (entry_replaced id id place s.placed)
+    ap (option_map (λ (q : Placed). q.placement)) (entry_replaced id id place s.placed)
     ∙ by (entry id s.placed) refl known
   where
-    by : (o : Option Placed) → entry id s.placed ≡ o → option_map (λ (q : Placed). q.place) o ≡ Some p
-        → option_map (λ (q : Placed). q.place) (option_map (replaced id place) o) ≡ Some place
+    by : (o : Option Placed) → entry id s.placed ≡ o → option_map (λ (q : Placed). q.placement) o ≡ Some p
+        → option_map (λ (q : Placed). q.placement) (option_map (replaced id place) o) ≡ Some place
     by None is e = absurd (cc)
-    by (Some q) is e = ap (λ (b : Bool). Some ((cond b (record q { place = place }) q).place))
+    by (Some q) is e = ap (λ (b : Bool). Some ((cond b (record q { placement = place }) q).placement))
         (eq-eqb q.id id (entry_id id q s.placed is))
 
 pub place_put_none : (id : ℕ) (place : Placement) (s : State) → placement_of id s ≡ None
     → placement_of id (put_at id place s) ≡ None
 place_put_none id place s none =
-    ap (option_map (λ (q : Placed). q.place)) (entry_replaced id id place s.placed) ∙ by (entry id s.placed) none
+    ap (option_map (λ (q : Placed). q.placement)) (entry_replaced id id place s.placed) ∙ by (entry id s.placed) none
   where
-    by : (o : Option Placed) → option_map (λ (q : Placed). q.place) o ≡ None
-        → option_map (λ (q : Placed). q.place) (option_map (replaced id place) o) ≡ None
+    by : (o : Option Placed) → option_map (λ (q : Placed). q.placement) o ≡ None
+        → option_map (λ (q : Placed). q.placement) (option_map (replaced id place) o) ≡ None
     by None e = refl
     by (Some q) e = absurd (cc)
 
@@ -146,7 +146,7 @@ entry_forgotten id j (p ∷ ps) ne = dite (ℕ_discrete p.id id)
     ∙ ap (with_entry (p.id == j) p) (entry_forgotten id j ps ne))
 
 pub place_forgotten_other : (id j : ℕ) (s : State) → j ≢ id → placement_of j (forgotten id s) ≡ placement_of j s
-place_forgotten_other id j s ne = ap (option_map (λ (q : Placed). q.place)) (entry_forgotten id j s.placed ne)
+place_forgotten_other id j s ne = ap (option_map (λ (q : Placed). q.placement)) (entry_forgotten id j s.placed ne)
 
 entry_forgot : (id : ℕ) (ps : List Placed) → entry id (filter (λ p. not (p.id == id)) ps) ≡ None
 entry_forgot id [] = refl
@@ -157,17 +157,18 @@ entry_forgot id (p ∷ ps) = dite (ℕ_discrete p.id id)
     ∙ entry_rest id p (filter (λ q. not (q.id == id)) ps) far ∙ entry_forgot id ps)
 
 pub place_forgotten : (id : ℕ) (s : State) → placement_of id (forgotten id s) ≡ None
-place_forgotten id s = ap (option_map (λ (q : Placed). q.place)) (entry_forgot id s.placed)
+place_forgotten id s = ap (option_map (λ (q : Placed). q.placement)) (entry_forgot id s.placed)
 
 -- the place of an id that isn't known stays unknown
 pub place_known : (id : ℕ) (s : State) (p : Placement) → RiseTo 0 s.placed s.last_id → placement_of id s ≡ Some p
     → (0 < id) × (id ≤ s.last_id)
 place_known id s p rise is = by (entry id s.placed) refl is
   where
-    by : (o : Option Placed) → entry id s.placed ≡ o → option_map (λ (q : Placed). q.place) o ≡ Some p
+    by : (o : Option Placed) → entry id s.placed ≡ o → option_map (λ (q : Placed). q.placement) o ≡ Some p
         → (0 < id) × (id ≤ s.last_id)
     by None at e = absurd (cc)
     by (Some q) at e = entry_within 0 s.last_id id s.placed rise q at
 
 pub place_new : (s : State) → RiseTo 0 s.placed s.last_id → placement_of (s.last_id + 1) s ≡ None
-place_new s rise = ap (option_map (λ (q : Placed). q.place)) (entry_above 0 s.last_id (s.last_id + 1) s.placed rise (omega arith))
+place_new s rise = ap (option_map (λ (q : Placed). q.placement)) (entry_above 0 s.last_id (s.last_id + 1) s.placed rise (omega
+    arith))

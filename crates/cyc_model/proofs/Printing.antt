@@ -6,10 +6,10 @@ use Rattle.std.specs.Option.{option_map}
 use Rattle.cyc_types.specs.declared.refusal.Refusal.TheVariants.{NoCyclic}
 use Rattle.cyc_text.specs.Lines.{removed}
 use Rattle.cyc_model.specs.Questions.{plain, outstanding_here}
-use Rattle.cyc_model.specs.State.{State, Outcome, Placement, Placed, cpu_of, each, numbers, cpus_with}
-use Rattle.cyc_model.specs.Places.{id_of, placement_of, is_unknown, is_leaving, forgotten}
+use Rattle.cyc_model.specs.State.{State, Outcome, Placement, Placed, cpu_of, each, numbers, cpus_having}
+use Rattle.cyc_model.specs.Places.{id_of, placement_of, is_no_cyclic, is_being_removed, forgotten}
 use Rattle.cyc_types.specs.Reasons.{when}
-use Rattle.cyc_model.specs.Remove.{busy_on_each, begin, poll, clear_if, begun}
+use Rattle.cyc_model.specs.Remove.{busy_on_any, begin, poll, clear_if, begun}
 use Rattle.cyc_model.specs.Softint.{is_open, text_of_id, polled, poll_id, leaving_ids, interrupt}
 use Rattle.cyc_model.specs.Script.{run_on, run_of, start, names_of}
 use Rattle.cyc_model.specs.Laws.{RiseTo}
@@ -46,24 +46,24 @@ reports_add_up indexes script name =
 -- ---- removals
 
 known_place : (id : ℕ) (s t : State) → t.placed ≡ s.placed → placement_of id t ≡ placement_of id s
-known_place id s t same = ap (λ ps. option_map (λ (p : Placed). p.place) (entry id ps)) same
+known_place id s t same = ap (λ ps. option_map (λ (p : Placed). p.placement) (entry id ps)) same
 
-unknown_not : (id : ℕ) (s : State) → IsSome (placement_of id s) → is_unknown id s ≡ true → ⊥
-unknown_not id s known is = let a : is_unknown id s ≡ false = ap not known in let no : true ≡ false = sym is ∙ a in absurd (cc)
+unknown_not : (id : ℕ) (s : State) → IsSome (placement_of id s) → is_no_cyclic id s ≡ true → ⊥
+unknown_not id s known is = let a : is_no_cyclic id s ≡ false = ap not known in let no : true ≡ false = sym is ∙ a in absurd (cc)
 
 pub removes_tell_calls : RemovesTellCalls
 removes_tell_calls indexes cpus ceiling texts steps step name text s some is why gone =
     let g = subst (λ r. Good r) (sym is) (run_good indexes cpus ceiling texts steps some) in
     let id = id_of name s in
-    let o = each (begin plain id) (cpus_with id s) s in
+    let o = each (begin plain id) (cpus_having id s) s in
     let h = begun_removal name s g why in
-    let known = not_not (is_some (placement_of id s)) (not_when (is_unknown id s) NoCyclic
-    (none_first (when (is_unknown id s) NoCyclic) (busy_on_each plain (cpus_with id s) s) why).0) in
-    by id o known h g (cpus_with id o.state) refl gone
+    let known = not_not (is_some (placement_of id s)) (not_when (is_no_cyclic id s) NoCyclic
+    (none_first (when (is_no_cyclic id s) NoCyclic) (busy_on_any plain (cpus_having id s) s) why).0) in
+    by id o known h g (cpus_having id o.state) refl gone
   where
     by : (id : ℕ) (o : Outcome) → IsSome (placement_of id s) → Removing id s o.state → Good s → (ns : List ℕ)
-        → cpus_with id o.state ≡ ns
-        → is_unknown id (begun plain step text id ns o).state ≡ true
+        → cpus_having id o.state ≡ ns
+        → is_no_cyclic id (begun plain step text id ns o).state ≡ true
         → (begun plain step text id ns o).line ≡ answer step text id (begun plain step text id ns o).state
     by id o known h g [] e gone = ap (removed step text) (calls_answered id s o h e)
     by id o known h g (n ∷ ns) e gone =
@@ -85,7 +85,7 @@ one_poll : (texts : List (List ℕ)) (step id k : ℕ) (s : State) → Good s �
 one_poll texts step id k s g is =
     let o = each (poll plain id) (numbers (is_open id) s) s in
     let h = open_removal id s g k is in
-    by o h (no_line (numbers (is_open id) s) s) (cpus_with id o.state) refl
+    by o h (no_line (numbers (is_open id) s) s) (cpus_having id o.state) refl
   where
     no_line : (ns : List ℕ) (r : State) → (each (poll plain id) ns r).line ≡ []
     no_line [] r = refl
@@ -97,7 +97,7 @@ one_poll texts step id k s g is =
         quiet true m q = refl
         quiet false m q = refl
 
-    by : (o : Outcome) → Removing id s o.state → o.line ≡ [] → (ns : List ℕ) → cpus_with id o.state ≡ ns
+    by : (o : Outcome) → Removing id s o.state → o.line ≡ [] → (ns : List ℕ) → cpus_having id o.state ≡ ns
         → (polled step (text_of_id id texts s.names) id ns o).line
         ≡ answer_if_gone step (text_of_id id texts s.names) id (polled step (text_of_id id texts s.names) id ns o).state
     by o h silent [] e =
@@ -113,7 +113,7 @@ pub polls_keep : (texts : List (List ℕ)) (step id j k : ℕ) (s : State) → G
     → (cpu_of k (poll_id plain texts step id s).state).removal ≡ Some j
 polls_keep texts step id j k s g ne is =
     let o = each (poll plain id) (numbers (is_open id) s) s in
-    by o (polls_others id s g j k ne is) (cpus_with id o.state)
+    by o (polls_others id s g j k ne is) (cpus_having id o.state)
   where
     by : (o : Outcome) → (cpu_of k o.state).removal ≡ Some j → (ns : List ℕ)
         → (cpu_of k (polled step (text_of_id id texts s.names) id ns o).state).removal ≡ Some j
@@ -144,12 +144,13 @@ polls_tell_calls indexes cpus ceiling texts steps step i s some is why =
     let t = (interrupt step i s).state in
     ap (λ l. (interrupt step i s).line ++ l)
     (each_poll texts step 1 (leaving_ids t) t w.1
-    (filter_rise (λ id. is_leaving id t) 1 (map (λ (p : Placed). p.id) t.placed) (placed_rise 0 t.last_id t.placed w.1.base.rise))
-    (λ j has. leaving_where j t (filtered (λ id. is_leaving id t) j (map (λ (p : Placed). p.id) t.placed) has).1))
+    (filter_rise (λ id. is_being_removed id t) 1 (map (λ (p : Placed). p.id) t.placed) (placed_rise 0 t.last_id t.placed
+    w.1.base.rise))
+    (λ j has. leaving_where j t (filtered (λ id. is_being_removed id t) j (map (λ (p : Placed). p.id) t.placed) has).1))
 
 -- ---- what follows a removal
 
-pub unknown_gone : (id : ℕ) (s : State) → is_unknown id s ≡ true → placement_of id s ≡ None
+pub unknown_gone : (id : ℕ) (s : State) → is_no_cyclic id s ≡ true → placement_of id s ≡ None
 unknown_gone id s is = by (placement_of id s) is
   where
     by : (o : Option Placement) → not (is_some o) ≡ true → o ≡ None

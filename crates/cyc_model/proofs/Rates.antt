@@ -22,10 +22,10 @@ use Rattle.cyc_script.specs.declared.step.Step.{Step}
 use Rattle.cyc_script.specs.declared.step.Step.TheVariants.{Add, Omni, Bind, Unbind, Reprogram, Remove, Advance, Softint, Juggle}
 use Rattle.cyc_script.specs.declared.step.Step.TheVariants.{Offline, Online, Suspend, Resume}
 use Rattle.cyc_model.specs.Acts.{Act, At, Call, at_own, same_soft, events_at}
-use Rattle.cyc_model.specs.Cpu.{Cyclic, Cpu, handler_level_of}
+use Rattle.cyc_model.specs.Cpu.{CyclicState, Cpu, handler_level_of}
 use Rattle.cyc_model.specs.Firing.{raised, expiry, expire_here, expire_all, due_here, fire_here}
 use Rattle.cyc_model.specs.Questions.{plain}
-use Rattle.cyc_model.specs.State.{State, on, cpu_of, each, online_cpus}
+use Rattle.cyc_model.specs.State.{State, on_number, cpu_of, each, cpus_online}
 use Rattle.cyc_model.specs.Refusals.{unless}
 use Rattle.cyc_model.specs.Script.{refusal_of, does, word, steps_from}
 use Rattle.cyc_model.proofs.Agreement.{AllActs}
@@ -232,17 +232,17 @@ sends_fire id n now s g =
     let t = times_found now 0 id (cpu_of n s).cyclics (g.base.whole n).rising in
     let b = few_found (found id (cpu_of n s).cyclics) in omega (arith, a, t, b)
   where
-    few_found : (o : Option Cyclic) → due_of_found now o ≤ late + 2
+    few_found : (o : Option CyclicState) → due_of_found now o ≤ late + 2
     few_found None = omega arith
     few_found (Some x) = few_due x.timer.moment x.timer.interval now
 
 sends_fires : (id now : ℕ) (ns : List ℕ) (s : State) → Good s → now < never → ((m : ℕ) → Has m ns → m < length s.cpus)
-    → sends_in id (each (λ n. on n (fire_here n now)) ns s).acts ≤ length ns * (late + 2)
+    → sends_in id (each (λ n. on_number n (fire_here n now)) ns s).acts ≤ length ns * (late + 2)
 sends_fires id now [] s g before within = omega arith
 sends_fires id now (n ∷ ns) s g before within =
     let w = well_fire n now s g (within n (inl refl)) before in
-    let t = (on n (fire_here n now) s).state in
-    let a = sends_append id (fire_here n now (cpu_of n s)).acts (each (λ m. on m (fire_here m now)) ns t).acts in
+    let t = (on_number n (fire_here n now) s).state in
+    let a = sends_append id (fire_here n now (cpu_of n s)).acts (each (λ m. on_number m (fire_here m now)) ns t).acts in
     let b = sends_fire id n now s g in
     let r = sends_fires id now ns t w.1 before (λ m has. subst (λ k. m < k) (sym w.0.tells.as_many) (within m (inr has))) in
     omega (arith, a, b, r)
@@ -251,7 +251,7 @@ sends_does : (indexes : ℕ → ℕ) (texts : List (List ℕ)) (step : ℕ) (x :
     → (id : ℕ)
     → sends_in id (does plain texts indexes step x s).acts ≤ length s.cpus * (late + 2)
 sends_does indexes texts step (Advance now) s g why id =
-    let a = sends_fires id now (online_cpus s) (record s { clock = now }) (good_clock now s g) (fires_before now s why)
+    let a = sends_fires id now (cpus_online s) (record s { clock = now }) (good_clock now s g) (fires_before now s why)
     (λ m has. (numbers_pass (λ (c : Cpu). c.online) m s has).0) in
     let b = numbers_few (λ (c : Cpu). c.online) 0 s.cpus in omega (arith, a, b)
 sends_does indexes texts step (Add a) s g why id = let z = no_sends indexes texts step (Add a) s tt id in omega (arith, z)

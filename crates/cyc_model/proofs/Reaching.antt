@@ -13,10 +13,10 @@ use Rattle.cyc_script.specs.declared.step.Step.TheVariants.{Offline, Online, Sus
 use Rattle.cyc_level.specs.Level.{SoftLevel, empty_level}
 use Rattle.cyc_level.proofs.Maps.{none_some}
 use Rattle.cyc_model.specs.Places.{home_at, placement_of}
-use Rattle.cyc_model.specs.Cpu.{Cpu, new_cpu}
+use Rattle.cyc_model.specs.Cpu.{Cpu, begun_cpu}
 use Rattle.cyc_model.specs.Questions.{plain, outstanding_here}
 use Rattle.cyc_model.specs.Serving.{level_at}
-use Rattle.cyc_model.specs.State.{State, On, OnAll, absent, cpu_of, numbers_from}
+use Rattle.cyc_model.specs.State.{State, On, OnAll, absent, cpu_of, cpus_from}
 use Rattle.cyc_model.specs.Refusals.{refusal, after_refusal, unless}
 use Rattle.cyc_model.specs.Report.{expired_here, lost_here}
 use Rattle.cyc_model.specs.Script.{refusal_of, does, word, steps_from, start, text_in, run_on}
@@ -75,7 +75,7 @@ well_steps texts indexes step (x ∷ xs) s g =
 
 -- ---- the machine as it begins
 
-new_whole : (ceiling : ℕ) (online : Bool) → Whole (record (new_cpu ceiling) { online = online })
+new_whole : (ceiling : ℕ) (online : Bool) → Whole (record (begun_cpu ceiling) { online = online })
 new_whole ceiling online = record {
   agrees = new_agrees ceiling online;
   free = λ soft. each_level soft (λ l. l.firer_hand ≡ None) refl;
@@ -83,45 +83,45 @@ new_whole ceiling online = record {
   back = λ soft id some. absurd (none_and_some ⊥ ((empty_level ceiling).cyclics id) refl
       (from_level soft (λ l. IsSome (l.cyclics id)) some));
   marks = λ soft id is. absurd (none_some ⊥ id (empty_level ceiling).marked refl (from_level soft (λ l. l.marked ≡ Some id) is));
-  marked = λ soft id is at. absurd (none_some ⊥ id (new_cpu ceiling).removal refl is);
+  marked = λ soft id is at. absurd (none_some ⊥ id (begun_cpu ceiling).removal refl is);
   rising = tt;
   room = omega arith;
-  still = λ id x is at. absurd (none_some ⊥ id (new_cpu ceiling).removal refl is);
-  held = λ id is. absurd (none_some ⊥ id (new_cpu ceiling).removal refl is);
+  still = λ id x is at. absurd (none_some ⊥ id (begun_cpu ceiling).removal refl is);
+  held = λ id is. absurd (none_some ⊥ id (begun_cpu ceiling).removal refl is);
 }
   where
     each_level : (soft : Soft) (P : SoftLevel → Type 0) → P (empty_level ceiling)
-        → P (level_at soft (record (new_cpu ceiling) { online = online }))
+        → P (level_at soft (record (begun_cpu ceiling) { online = online }))
     each_level Low P h = h
     each_level Lock P h = h
 
-    from_level : (soft : Soft) (P : SoftLevel → Type 0) → P (level_at soft (record (new_cpu ceiling) { online = online }))
+    from_level : (soft : Soft) (P : SoftLevel → Type 0) → P (level_at soft (record (begun_cpu ceiling) { online = online }))
         → P (empty_level ceiling)
     from_level Low P h = h
     from_level Lock P h = h
 
 -- what holds of a new CPU and of an absent one holds of each
-pub start_cpu : (P : Cpu → Type 0) (ceiling : ℕ) → P (new_cpu ceiling) → P absent → (k n : ℕ)
-    → P (slice_index_or (replicate k (new_cpu ceiling)) n absent)
+pub start_cpu : (P : Cpu → Type 0) (ceiling : ℕ) → P (begun_cpu ceiling) → P absent → (k n : ℕ)
+    → P (slice_index_or (replicate k (begun_cpu ceiling)) n absent)
 start_cpu P ceiling new away zero n = away
 start_cpu P ceiling new away (suc k) zero = new
 start_cpu P ceiling new away (suc k) (suc n) = start_cpu P ceiling new away k n
 
-pub sum_of_none : (f : Cpu → ℕ) (ceiling k : ℕ) → f (new_cpu ceiling) ≡ 0 → sum_by f (replicate k (new_cpu ceiling)) ≡ 0
+pub sum_of_none : (f : Cpu → ℕ) (ceiling k : ℕ) → f (begun_cpu ceiling) ≡ 0 → sum_by f (replicate k (begun_cpu ceiling)) ≡ 0
 sum_of_none f ceiling zero none = refl
 sum_of_none f ceiling (suc k) none =
-    let a = sum_by-cons f (new_cpu ceiling) (replicate k (new_cpu ceiling)) in let r = sum_of_none f ceiling k none
+    let a = sum_by-cons f (begun_cpu ceiling) (replicate k (begun_cpu ceiling)) in let r = sum_of_none f ceiling k none
     in omega (arith, a, r, none)
 
 pub none_ended : (ns : List ℕ) → sum_by (λ n. 0) ns ≡ 0
 none_ended [] = refl
 none_ended (n ∷ ns) = let a = sum_by-cons (λ (m : ℕ). 0) n ns in let r = none_ended ns in omega (arith, a, r)
 
-pub length_new : (k ceiling : ℕ) → length (replicate k (new_cpu ceiling)) ≡ k
+pub length_new : (k ceiling : ℕ) → length (replicate k (begun_cpu ceiling)) ≡ k
 length_new zero ceiling = refl
 length_new (suc k) ceiling = ap suc (length_new k ceiling)
 
-start_online : (k ceiling : ℕ) → 0 < k → (slice_index_or (replicate k (new_cpu ceiling)) 0 absent).online ≡ true
+start_online : (k ceiling : ℕ) → 0 < k → (slice_index_or (replicate k (begun_cpu ceiling)) 0 absent).online ≡ true
 start_online zero ceiling some = absurd (omega (arith, some))
 start_online (suc k) ceiling some = refl
 
@@ -130,12 +130,12 @@ start_good cpus ceiling names some = record {
   base = record {
     whole = λ n. start_cpu (λ c. Whole c) ceiling (new_whole ceiling true) (new_whole 0 false) cpus n;
     homes = λ n id has. absurd (start_cpu (λ c. IsSome (found id c.cyclics)
-        → ⊥) ceiling (λ h. none_and_some ⊥ (found id (new_cpu ceiling).cyclics) refl h)
+        → ⊥) ceiling (λ h. none_and_some ⊥ (found id (begun_cpu ceiling).cyclics) refl h)
         (λ h. none_and_some ⊥ (found id absent.cyclics) refl h) cpus n has);
     rise = (start_given cpus ceiling names).rise;
     few = omega arith;
     books = λ id.
-        let e = none_ended (numbers_from 0 (λ c. true) (replicate cpus (new_cpu ceiling))) in
+        let e = none_ended (cpus_from 0 (λ c. true) (replicate cpus (begun_cpu ceiling))) in
         let a = sum_of_none (expired_here id) ceiling cpus refl in
         let b = sum_of_none (lost_here id) ceiling cpus refl in
         let c = sum_of_none (outstanding_here id) ceiling cpus refl in omega (arith, e, a, b, c);
@@ -143,7 +143,7 @@ start_good cpus ceiling names some = record {
   spread = record {
     some = (0, subst (λ k. 0 < k) (sym (length_new cpus ceiling)) some, start_online cpus ceiling some);
     there = λ n j has. absurd (start_cpu (λ c. IsSome (found j c.cyclics) → ⊥) ceiling
-        (λ h. none_and_some ⊥ (found j (new_cpu ceiling).cyclics) refl h) (λ h. none_and_some ⊥ (found j absent.cyclics) refl h)
+        (λ h. none_and_some ⊥ (found j (begun_cpu ceiling).cyclics) refl h) (λ h. none_and_some ⊥ (found j absent.cyclics) refl h)
         cpus n has);
     home = λ j n bound is. none_some (IsSome (found j (cpu_of n (start cpus ceiling names)).cyclics)) (On n bound)
         (placement_of j (start cpus ceiling names)) refl is;

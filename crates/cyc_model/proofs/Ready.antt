@@ -17,7 +17,7 @@ use Rattle.cyc_model.specs.Cpu.{Cpu, handler_level_of}
 use Rattle.cyc_model.specs.Firing.{raised, expiry}
 use Rattle.cyc_model.specs.Serving.{level_at, level_after, serve}
 use Rattle.cyc_types.specs.Levels.{as_level}
-use Rattle.cyc_model.specs.Agreement.{Agrees, IsReady, AllReady}
+use Rattle.cyc_model.specs.Agreement.{StateAgrees, IsReadyToExpire, AllReady}
 use Rattle.cyc_model.proofs.Agreement.{AllActs, acts_of_serve}
 use Rattle.cyc_model.proofs.Fair.{own_events, switch_events}
 
@@ -27,7 +27,7 @@ ready_append (x ∷ xs) ys l first rest = (first.0, ready_append xs ys (after x 
 
 -- the acts are ready at a CPU that agrees with its levels, whose firer's hands are empty
 abbrev pub ReadyAt : ℕ → List Act → Cpu → Type 0
-ReadyAt n acts c = Agrees c → (soft : Soft) → (level_at soft c).firer_hand ≡ None
+ReadyAt n acts c = StateAgrees c → (soft : Soft) → (level_at soft c).firer_hand ≡ None
     → AllReady (events_at n soft acts) (level_at soft c)
 
 ready_map : (n : ℕ) (from : Soft) (es : List Event) (c : Cpu)
@@ -44,7 +44,8 @@ ready_map n from es c ready soft free = subst (λ ys. AllReady ys (level_at soft
     by Lock Low f h = tt
 
 ready_own : (n : ℕ) (l : Level) (e : Event) (c : Cpu)
-    → ((soft : Soft) → l ≡ as_level soft → (level_at soft c).firer_hand ≡ None → IsReady e (level_at soft c)) → (soft : Soft)
+    → ((soft : Soft) → l ≡ as_level soft → (level_at soft c).firer_hand ≡ None → IsReadyToExpire e (level_at soft c))
+    → (soft : Soft)
     → (level_at soft c).firer_hand ≡ None → AllReady (events_at n soft (at_own n l e)) (level_at soft c)
 ready_own n level.High e c ready soft free = tt
 ready_own n level.Lock e c ready soft free = ready_map n Lock (e ∷ []) c (λ f. (ready Lock refl f, tt)) soft free
@@ -97,7 +98,7 @@ IsOfSoftSide Finish = ⊤
 IsOfSoftSide Follow = ⊤
 IsOfSoftSide _ = ⊥
 
-ready_soft : (e : Event) (l : SoftLevel) → IsOfSoftSide e → IsReady e l
+ready_soft : (e : Event) (l : SoftLevel) → IsOfSoftSide e → IsReadyToExpire e l
 ready_soft (Admit id index) l is = absurd is
 ready_soft (Expire id) l is = absurd is
 ready_soft (Lose id) l is = absurd is

@@ -10,7 +10,7 @@ use Rattle.cyc_level.proofs.Maps.{none_some}
 use Rattle.cyc_model.specs.Cpu.{Cpu, has_cyclic, handler_level_of, others}
 use Rattle.cyc_model.specs.Moving.{mark_here, clear_here, moment_at}
 use Rattle.cyc_model.specs.Questions.{plain, outstanding_here}
-use Rattle.cyc_model.specs.State.{State, On, OnAll, Placed, on, cpu_of, nothing, cpus_with}
+use Rattle.cyc_model.specs.State.{State, On, OnAll, Placed, on_number, cpu_of, nothing, cpus_having}
 use Rattle.cyc_model.specs.Places.{placement_of, forgotten}
 use Rattle.cyc_model.specs.Remove.{clear, clear_if, poll, begin}
 use Rattle.cyc_model.proofs.Agreement.{moment_same}
@@ -61,11 +61,12 @@ same_counts j t s k = counts_same (expired_in j t) (t.called j) (lost_in j t) (p
 -- a removal that begins on a CPU changes no count
 module _ (n id : ℕ) (s : State) (within : n < length s.cpus) (b : Base None s) (done : Done n (λ j. 0) (cpu_of n s)
     (mark_here n id (cpu_of n s))) where
-  marked_counts : (j : ℕ) → (expired_in j (on n (mark_here n id) s).state ≡ expired_in j s)
-      × ((on n (mark_here n id) s).state.called j ≡ s.called j) × (lost_in j (on n (mark_here n id) s).state ≡ lost_in j s)
-      × (pending_in j (on n (mark_here n id) s).state ≡ pending_in j s)
+  marked_counts : (j : ℕ) → (expired_in j (on_number n (mark_here n id) s).state ≡ expired_in j s)
+      × ((on_number n (mark_here n id) s).state.called j ≡ s.called j)
+      × (lost_in j (on_number n (mark_here n id) s).state ≡ lost_in j s)
+      × (pending_in j (on_number n (mark_here n id) s).state ≡ pending_in j s)
   marked_counts j =
-      let c = cpu_of n s in let t = (on n (mark_here n id) s).state in
+      let c = cpu_of n s in let t = (on_number n (mark_here n id) s).state in
       let e = expired_on n (mark_here n id) (λ k. 0) s within done None None b (shift_mark None n id c) j in
       let l = lost_on n (mark_here n id) (λ k. 0) s within done None None b (shift_mark None n id c) j in
       let p = pending_on n (mark_here n id) (λ k. 0) s within done j in
@@ -163,7 +164,7 @@ begin_turn r id n s within inv ready =
     λ j. ap is_some (ap (found j) (marked_same n id c).0 ∙ found_map (moment_at id never) (λ x. (moment_same id never x).0) j
     c.cyclics)
     ∙ some_mapped (moment_at id never) (found j c.cyclics) in
-    let t = (on n (mark_here n id) s).state in
+    let t = (on_number n (mark_here n id) s).state in
     let there = cpu_there n (mark_here n id) (λ j. 0) s within done in
     let elsewhere = cpu_elsewhere n (mark_here n id) (λ j. 0) s within done in
     let goes = goes_on n (mark_here n id) (λ j. 0) s within done None b (local_mark n id) (λ j none. refl) in
@@ -177,7 +178,8 @@ begin_turn r id n s within inv ready =
       counts = λ j. same_counts j t s (marked_counts n id s within b done j) ∙ inv.counts j;
     })
     (ap (λ (d : Cpu). d.removal) there ∙ (marked_same n id c).1) in record {
-      goes = goes_append (on n (mark_here n id) s).acts (poll plain id n t).acts s t (poll plain id n t).state goes two.goes;
+      goes = goes_append (on_number n (mark_here n id) s).acts (poll plain id n t).acts s t (poll plain id n t).state goes
+          two.goes;
       inv = two.inv;
       own = begun_then id c (cpu_of n t) (cpu_of n (poll plain id n t).state)
           (λ j. ap (λ (d : Cpu). is_some (found j d.cyclics)) there ∙ ids j)
@@ -217,7 +219,7 @@ module _ (id : ℕ) (s t : State) (g : Good s) (h : Removing id s t) where
       (λ ne. sym (h.others j ne m) ∙ some))
 
   place_after : (j : ℕ) → placement_of j t ≡ placement_of j s
-  place_after j = ap (λ ps. option_map (λ (p : Placed). p.place) (entry j ps)) h.steady.placed
+  place_after j = ap (λ ps. option_map (λ (p : Placed). p.placement) (entry j ps)) h.steady.placed
 
   -- where a CPU still has the cyclic
   pub good_kept : (k : ℕ) → IsSome (found id (cpu_of k t).cyclics) → Good t
@@ -285,12 +287,12 @@ forgotten_gone id j t gone = (
 )
 
 -- the CPUs that have the cyclic
-pub none_with : (id : ℕ) (t : State) → cpus_with id t ≡ [] → (m : ℕ) → found id (cpu_of m t).cyclics ≡ None
+pub none_with : (id : ℕ) (t : State) → cpus_having id t ≡ [] → (m : ℕ) → found id (cpu_of m t).cyclics ≡ None
 none_with id t none m = ⊎_elim
     (λ some. absurd (subst (λ ns. Has m ns) none
     (pass_numbers (has_cyclic id) m t (has_number t m id some) (any_found id (cpu_of m t).cyclics ∙ some))))
     (λ away. away) (found_or_not id (cpu_of m t))
 
-pub first_with : (id n : ℕ) (ns : List ℕ) (t : State) → cpus_with id t ≡ n ∷ ns → IsSome (found id (cpu_of n t).cyclics)
+pub first_with : (id n : ℕ) (ns : List ℕ) (t : State) → cpus_having id t ≡ n ∷ ns → IsSome (found id (cpu_of n t).cyclics)
 first_with id n ns t is =
     sym (any_found id (cpu_of n t).cyclics) ∙ (numbers_pass (has_cyclic id) n t (subst (λ ks. Has n ks) (sym is) (inl refl))).1

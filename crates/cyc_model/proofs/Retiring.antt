@@ -12,15 +12,15 @@ use Rattle.cyc_level.specs.Level.{SoftLevel}
 use Rattle.cyc_level.specs.declared.Event.TheVariants.{Mark, Clear}
 use Rattle.cyc_level.proofs.Maps.{none_some}
 use Rattle.cyc_model.specs.Acts.{at_own, calls_of}
-use Rattle.cyc_model.specs.Cpu.{Cpu, Here, cyclic_of, handler_level_of, nothing_here, others}
+use Rattle.cyc_model.specs.Cpu.{Cpu, Here, cyclic_with_id, handler_level_of, nothing_here, others}
 use Rattle.cyc_model.specs.Moving.{take_here}
 use Rattle.cyc_model.specs.Questions.{plain, outstanding_here}
 use Rattle.cyc_model.specs.Serving.{level_at}
-use Rattle.cyc_model.specs.State.{State, Outcome, Placement, On, OnAll, Placed, on, cpu_of, each}
-use Rattle.cyc_model.specs.Places.{placement_of, home_at, is_omnipresent, is_everywhere}
+use Rattle.cyc_model.specs.State.{State, Outcome, Placement, On, OnAll, Placed, on_number, cpu_of, each}
+use Rattle.cyc_model.specs.Places.{placement_of, home_at, is_omni, is_placed_everywhere}
 use Rattle.cyc_model.specs.Report.{counts_of}
-use Rattle.cyc_model.specs.Juggle.{juggled, single_ids}
-use Rattle.cyc_model.specs.Offline.{ids_on, retire, go_offline, retire_all, any_pending, last_part, leaving, offline_refusal}
+use Rattle.cyc_model.specs.Juggle.{juggled, single_ids_of}
+use Rattle.cyc_model.specs.Offline.{ids_of_cpu, retire, go_offline, retire_all, any_pending, last_part, leaving, offline_refusal}
 use Rattle.cyc_model.specs.Offline.{offline}
 use Rattle.cyc_model.specs.Kept.{Kept}
 use Rattle.cyc_model.proofs.Events.{calls_append}
@@ -159,7 +159,7 @@ module _ (b : Bool) (n : ℕ) (s : State) (within : n < length s.cpus) (base : B
       plus k = omega arith
 
   abbrev turned : Outcome
-  turned = on n (λ c. nothing_here (record c { online = b })) s
+  turned = on_number n (λ c. nothing_here (record c { online = b })) s
 
   switch_shift : Shift None None (λ j. 0) (cpu_of n s) (nothing_here (record (cpu_of n s) { online = b }))
   switch_shift = shift_same None (cpu_of n s) (nothing_here (record (cpu_of n s) { online = b })) refl (λ j. refl)
@@ -206,19 +206,19 @@ none_pending (id ∷ ids) n s h j has =
     (λ r. none_pending ids n s q.1 j r) has
 
 module _ (n other : ℕ) (s : State) (g : Good s) (within : n < length s.cpus) (apart : other ≢ n) (there : other < length s.cpus)
-    (on_ : (cpu_of other s).online ≡ true) (free : (cpu_of n s).removal ≡ None) (all : single_ids n s ≡ [])
-    (idle : any_pending plain n (ids_on n s) s ≡ false) where
-  gone_all : Retired n (ids_on n s) s (each (retire n) (ids_on n s) s)
-  gone_all = retired n (ids_on n s) s within g.base free (none_pending (ids_on n s) n s idle)
+    (on_ : (cpu_of other s).online ≡ true) (free : (cpu_of n s).removal ≡ None) (all : single_ids_of n s ≡ [])
+    (idle : any_pending plain n (ids_of_cpu n s) s ≡ false) where
+  gone_all : Retired n (ids_of_cpu n s) s (each (retire n) (ids_of_cpu n s) s)
+  gone_all = retired n (ids_of_cpu n s) s within g.base free (none_pending (ids_of_cpu n s) n s idle)
 
   abbrev t : State
-  t = (each (retire n) (ids_on n s) s).state
+  t = (each (retire n) (ids_of_cpu n s) s).state
 
   within_t : n < length t.cpus
   within_t = subst (λ k. n < k) (sym gone_all.goes.tells.as_many) within
 
   abbrev u : State
-  u = (on n (λ c. nothing_here (go_offline c)) t).state
+  u = (on_number n (λ c. nothing_here (go_offline c)) t).state
 
   -- it has no cyclic any more, and the others are as they were
   empty_u : (j : ℕ) → IsSome (found j (cpu_of n u).cyclics) → ⊥
@@ -231,13 +231,13 @@ module _ (n other : ℕ) (s : State) (g : Good s) (within : n < length s.cpus) (
   same_u m ne = switch_elsewhere false n t within_t gone_all.base m ne ∙ gone_all.elsewhere m ne
 
   place_u : (j : ℕ) → placement_of j u ≡ placement_of j s
-  place_u j = ap (λ ps. option_map (λ (p : Placed). p.place) (entry j ps)) gone_all.placed
+  place_u j = ap (λ ps. option_map (λ (p : Placed). p.placement) (entry j ps)) gone_all.placed
 
   -- a cyclic that is on one CPU isn't on this one
   not_home : (j : ℕ) (bound : Bool) → placement_of j s ≡ Some (On n bound) → ⊥
   not_home j bound is = subst (λ ns. Has j ns) all
-      (filtering (λ id. not (is_omnipresent id s)) j (ids_in (cpu_of n s).cyclics)
-      (ids_have j (cpu_of n s).cyclics (g.spread.home j n bound is)) (ap (λ o. not (is_everywhere o)) is))
+      (filtering (λ id. not (is_omni id s)) j (ids_in (cpu_of n s).cyclics)
+      (ids_have j (cpu_of n s).cyclics (g.spread.home j n bound is)) (ap (λ o. not (is_placed_everywhere o)) is))
 
   home_far : (j m : ℕ) (bound : Bool) → placement_of j s ≡ Some (On m bound) → m ≢ n
   home_far j m bound is e = not_home j bound (is ∙ ap (λ k. Some (On k bound)) e)
@@ -288,42 +288,42 @@ module _ (n other : ℕ) (s : State) (g : Good s) (within : n < length s.cpus) (
   kept_u = record {
     ids = ap (λ ps. map (λ (p : Placed). p.id) ps) gone_all.placed;
     cyclics = λ j single. (
-      ap is_everywhere (place_u j) ∙ single,
-      ap (λ o. cyclic_of j (cpu_of (home_at o) u)) (place_u j) ∙ by j (placement_of j s) refl single,
+      ap is_placed_everywhere (place_u j) ∙ single,
+      ap (λ o. cyclic_with_id j (cpu_of (home_at o) u)) (place_u j) ∙ by j (placement_of j s) refl single,
     );
     counts = λ j. switch_counts false n t within_t gone_all.base j ∙ gone_all.counts j;
   }
     where
       -- a gone id is nowhere
-      nowhere : (j m : ℕ) → placement_of j s ≡ None → cyclic_of j (cpu_of m u) ≡ cyclic_of j (cpu_of m s)
+      nowhere : (j m : ℕ) → placement_of j s ≡ None → cyclic_with_id j (cpu_of m u) ≡ cyclic_with_id j (cpu_of m s)
       nowhere j m none = gone_away None u (switch_base false n t within_t gone_all.base) j (place_u j ∙ none) m
           ∙ sym (gone_away None s g.base j none m)
 
-      by : (j : ℕ) (o : Option Placement) → placement_of j s ≡ o → is_everywhere (placement_of j s) ≡ false
-          → cyclic_of j (cpu_of (home_at (placement_of j s)) u) ≡ cyclic_of j (cpu_of (home_at (placement_of j s)) s)
+      by : (j : ℕ) (o : Option Placement) → placement_of j s ≡ o → is_placed_everywhere (placement_of j s) ≡ false
+          → cyclic_with_id j (cpu_of (home_at (placement_of j s)) u) ≡ cyclic_with_id j (cpu_of (home_at (placement_of j s)) s)
       by j None is single = nowhere j (home_at (placement_of j s)) is
-      by j (Some (On m bound)) is single = subst (λ p. cyclic_of j (cpu_of (home_at p) u)
-          ≡ cyclic_of j (cpu_of (home_at p) s)) (sym is)
+      by j (Some (On m bound)) is single = subst (λ p. cyclic_with_id j (cpu_of (home_at p) u)
+          ≡ cyclic_with_id j (cpu_of (home_at p) s)) (sym is)
           (view_u j m (home_far j m bound is))
-      by j (Some (OnAll e)) is single = absurd (let no : true ≡ false = sym (ap is_everywhere is) ∙ single in cc)
+      by j (Some (OnAll e)) is single = absurd (let no : true ≡ false = sym (ap is_placed_everywhere is) ∙ single in cc)
 
   pub safe_retire : Safe (retire_all n s) s
   safe_retire = (
-    goes_append (each (retire n) (ids_on n s) s).acts [] s t u gone_all.goes (switch_goes false n t within_t gone_all.base),
+    goes_append (each (retire n) (ids_of_cpu n s) s).acts [] s t u gone_all.goes (switch_goes false n t within_t gone_all.base),
     record { base = switch_base false n t within_t gone_all.base; spread = spread_u },
     kept_u,
   )
 
 pub safe_offline : (indexes : ℕ → ℕ) (step n : ℕ) (s : State) → Good s → offline_refusal plain n s ≡ None
     → Safe (offline plain indexes step n s) s
-safe_offline indexes step n s g why = by (single_ids n (juggled plain indexes n s).outcome.state) refl
+safe_offline indexes step n s g why = by (single_ids_of n (juggled plain indexes n s).outcome.state) refl
   where
     o : Outcome
     o = (juggled plain indexes n s).outcome
 
-    last : (b : Bool) → any_pending plain n (ids_on n (juggled plain indexes n s).outcome.state)
+    last : (b : Bool) → any_pending plain n (ids_of_cpu n (juggled plain indexes n s).outcome.state)
         (juggled plain indexes n s).outcome.state ≡ b
-        → single_ids n (juggled plain indexes n s).outcome.state ≡ []
+        → single_ids_of n (juggled plain indexes n s).outcome.state ≡ []
         → Safe (last_part b step n (juggled plain indexes n s).outcome) s
     last true is all = let j = juggling indexes n s g why in (j.7, j.6, j.8)
     last false is all =
@@ -337,8 +337,8 @@ safe_offline indexes step n s g why = by (single_ids n (juggled plain indexes n 
           kept_then s r.state (retire_all n r.state).state j.8 off.2,
         )
 
-    by : (ids : List ℕ) → single_ids n (juggled plain indexes n s).outcome.state ≡ ids
+    by : (ids : List ℕ) → single_ids_of n (juggled plain indexes n s).outcome.state ≡ ids
         → Safe (leaving plain step n ids (juggled plain indexes n s)) s
     by (id ∷ ids) is = let j = juggling indexes n s g why in (j.7, j.6, j.8)
-    by [] is = last (any_pending plain n (ids_on n (juggled plain indexes n s).outcome.state)
+    by [] is = last (any_pending plain n (ids_of_cpu n (juggled plain indexes n s).outcome.state)
         (juggled plain indexes n s).outcome.state) refl is

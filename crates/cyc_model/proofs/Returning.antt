@@ -10,14 +10,23 @@ use Rattle.cyc_level.specs.declared.Event.TheVariants.{Admit}
 use Rattle.cyc_level.specs.Lawful.{IsId}
 use Rattle.cyc_level.proofs.Maps.{none_some}
 use Rattle.cyc_model.specs.Acts.{calls_of, losses_of}
-use Rattle.cyc_model.specs.Cpu.{Cyclic, Cpu, cyclic_of, nothing_here}
+use Rattle.cyc_model.specs.Cpu.{CyclicState, Cpu, cyclic_with_id, nothing_here}
 use Rattle.cyc_model.specs.Moving.{must_grow, widen_here, put_in, place_here}
-use Rattle.cyc_model.specs.Questions.{plain, has_followed}
-use Rattle.cyc_model.specs.State.{State, Outcome, Placement, On, OnAll, Everywhere, Placed, on, cpu_of, each, followed_by}
-use Rattle.cyc_model.specs.Places.{placement_of, home_at, is_everywhere, without_ended}
+use Rattle.cyc_model.specs.Questions.{plain, soft_has_followed}
+use Rattle.cyc_model.specs.State.{State, Outcome, Placement, On, OnAll, Everywhere, Placed, on_number, cpu_of, each, followed_by}
+use Rattle.cyc_model.specs.Places.{placement_of, home_at, is_placed_everywhere, without_ended}
 use Rattle.cyc_types.specs.Reasons.{when, bad_now}
-use Rattle.cyc_model.specs.Refusals.{no_cpu}
-use Rattle.cyc_model.specs.Online.{staying, online_cpu, no_room_for_all, online_refusal, again, return_at, return_of, go_online}
+use Rattle.cyc_model.specs.Refusals.{is_no_cpu}
+use Rattle.cyc_model.specs.Online.{
+  staying_omni,
+  is_online_already,
+  no_room_for_all,
+  online_refusal,
+  again,
+  return_here,
+  return_of,
+  go_online,
+}
 use Rattle.cyc_model.specs.Online.{return_all, online}
 use Rattle.cyc_model.specs.Laws.{RiseTo}
 use Rattle.cyc_model.specs.Kept.{Kept}
@@ -46,14 +55,14 @@ use Rattle.cyc_model.proofs.Staying.{stays_closed, not_open, few_staying}
 module _ (indexes : ℕ → ℕ) (n id : ℕ) (e : Everywhere) (s : State) (within : n < length s.cpus) (b : Base None s)
     (new : found id (cpu_of n s).cyclics ≡ None) (is_id : IsId id) (fits : length (cpu_of n s).cyclics + 1 ≤ (cpu_of n s).size)
     (at : placement_of id s ≡ Some (OnAll e)) where
-  abbrev y : Cyclic
+  abbrev y : CyclicState
   y = again id n e (s.ended id n) s.clock
 
   abbrev r : State
   r = without_ended n id s
 
   abbrev back : Outcome
-  back = return_at indexes n id (OnAll e) s
+  back = return_here indexes n id (OnAll e) s
 
   base_r : Base (Some y) r
   base_r = record {
@@ -72,7 +81,7 @@ module _ (indexes : ℕ → ℕ) (n id : ℕ) (e : Everywhere) (s : State) (with
 
   pub back_goes : Goes back.acts s back.state
   back_goes = goes_from back.acts s r back.state
-      (goes_to back.acts r (on n (place_here n (indexes s.admissions) y) r).state back.state
+      (goes_to back.acts r (on_number n (place_here n (indexes s.admissions) y) r).state back.state
       (goes_on n (place_here n (indexes s.admissions) y) (λ j. 0) r within done_back (Some y) base_r
       (local_place n (indexes s.admissions) y) (λ j none. refl)) refl refl (λ j g. g)) refl refl (λ j g. g)
 
@@ -140,7 +149,7 @@ pub record Returned (n : ℕ) (ps : List Placed) (s t : State) : Type 0 where
 
 -- what can come back
 abbrev Ready : ℕ → State → Placed → Type 0
-Ready n s p = ((e : Everywhere) × (p.place ≡ OnAll e)) × (placement_of p.id s ≡ Some p.place)
+Ready n s p = ((e : Everywhere) × (p.placement ≡ OnAll e)) × (placement_of p.id s ≡ Some p.placement)
     × (found p.id (cpu_of n s).cyclics ≡ None)
 
 entry_first : (j : ℕ) (p : Placed) (ps : List Placed) → p.id ≡ j → IsSome (entry j (p ∷ ps))
@@ -174,8 +183,8 @@ returned indexes n low high (p ∷ ps) s within b rise fits ready =
     let few = b.few in let k0 = known.0 in let k1 = known.1 in
     let is_id : IsId p.id = (k0, omega (arith, k1, few)) in
     let room : length (cpu_of n s).cyclics + 1 ≤ (cpu_of n s).size = omega (arith, fits) in
-    let o = return_at indexes n p.id (OnAll e) s in
-    let same : return_of indexes n p s ≡ o = ap (λ place. return_at indexes n p.id place s) all.1 in
+    let o = return_here indexes n p.id (OnAll e) s in
+    let same : return_of indexes n p s ≡ o = ap (λ place. return_here indexes n p.id place s) all.1 in
     let t = o.state in
     let goes = back_goes indexes n p.id e s within b new is_id room at in
     let there = back_there indexes n p.id e s within b new is_id room at in
@@ -216,20 +225,20 @@ returned indexes n low high (p ∷ ps) s within b rise fits ready =
 
 -- ---- online
 
-none_found : (cs : List Cyclic) → ((j : ℕ) → found j cs ≡ None) → cs ≡ []
+none_found : (cs : List CyclicState) → ((j : ℕ) → found j cs ≡ None) → cs ≡ []
 none_found [] none = refl
 none_found (x ∷ xs) none = none_some ((x ∷ xs) ≡ []) x (found x.timer.id (x ∷ xs)) (none x.timer.id)
     (first_is x.timer.id x xs refl)
 
 module _ (indexes : ℕ → ℕ) (n : ℕ) (s : State) (g : Good s) (within : n < length s.cpus) (off : (cpu_of n s).online ≡ false)
-    (can : must_grow (length (staying s)) (cpu_of n s) ≡ true → has_followed (cpu_of n s) ≡ true) where
+    (can : must_grow (length (staying_omni s)) (cpu_of n s) ≡ true → soft_has_followed (cpu_of n s) ≡ true) where
   away : (j : ℕ) → IsSome (found j (cpu_of n s).cyclics) → ⊥
   away j some = let no : true ≡ false = sym (g.spread.there n j some) ∙ off in absurd (cc)
 
   none_at : (j : ℕ) → found j (cpu_of n s).cyclics ≡ None
   none_at j = by (found j (cpu_of n s).cyclics) refl (away j)
     where
-      by : (o : Option Cyclic) → found j (cpu_of n s).cyclics ≡ o → (IsSome (found j (cpu_of n s).cyclics) → ⊥)
+      by : (o : Option CyclicState) → found j (cpu_of n s).cyclics ≡ o → (IsSome (found j (cpu_of n s).cyclics) → ⊥)
           → found j (cpu_of n s).cyclics ≡ None
       by None is no_one = is
       by (Some x) is no_one = absurd (no_one (ap is_some is))
@@ -245,45 +254,46 @@ module _ (indexes : ℕ → ℕ) (n : ℕ) (s : State) (g : Good s) (within : n 
       by (Some j) is = absurd (away j ((g.base.whole n).held j is))
 
   abbrev more : ℕ
-  more = length (staying s)
+  more = length (staying_omni s)
 
-  grows : CanGrow (length (staying s)) (cpu_of n s)
+  grows : CanGrow (length (staying_omni s)) (cpu_of n s)
   grows must = let few = few_staying s g in let z = empty in (can must, omega (arith, few, z))
 
-  wide : Done n (λ j. 0) (cpu_of n s) (widen_here n (length (staying s)) (cpu_of n s))
-  wide = done_widen n (length (staying s)) (cpu_of n s) (g.base.whole n) grows
+  wide : Done n (λ j. 0) (cpu_of n s) (widen_here n (length (staying_omni s)) (cpu_of n s))
+  wide = done_widen n (length (staying_omni s)) (cpu_of n s) (g.base.whole n) grows
 
-  shift_w : Shift None None (λ j. 0) (cpu_of n s) (widen_here n (length (staying s)) (cpu_of n s))
-  shift_w = shift_widen None n (length (staying s)) (cpu_of n s) (g.base.whole n)
+  shift_w : Shift None None (λ j. 0) (cpu_of n s) (widen_here n (length (staying_omni s)) (cpu_of n s))
+  shift_w = shift_widen None n (length (staying_omni s)) (cpu_of n s) (g.base.whole n)
 
   abbrev t : State
-  t = (on n (widen_here n (length (staying s))) s).state
+  t = (on_number n (widen_here n (length (staying_omni s))) s).state
 
-  there_t : cpu_of n t ≡ (widen_here n (length (staying s)) (cpu_of n s)).cpu
-  there_t = cpu_there n (widen_here n (length (staying s))) (λ j. 0) s within wide
+  there_t : cpu_of n t ≡ (widen_here n (length (staying_omni s)) (cpu_of n s)).cpu
+  there_t = cpu_there n (widen_here n (length (staying_omni s))) (λ j. 0) s within wide
 
   same_t : (m : ℕ) → m ≢ n → cpu_of m t ≡ cpu_of m s
-  same_t m ne = cpu_elsewhere n (widen_here n (length (staying s))) (λ j. 0) s within wide m ne
+  same_t m ne = cpu_elsewhere n (widen_here n (length (staying_omni s))) (λ j. 0) s within wide m ne
 
   cyclics_t : (cpu_of n t).cyclics ≡ (cpu_of n s).cyclics
-  cyclics_t = ap (λ (c : Cpu). c.cyclics) there_t ∙ (widened_cpu n (length (staying s)) (cpu_of n s) (g.base.whole n)).0
+  cyclics_t = ap (λ (c : Cpu). c.cyclics) there_t ∙ (widened_cpu n (length (staying_omni s)) (cpu_of n s) (g.base.whole n)).0
 
-  goes_t : Goes (on n (widen_here n (length (staying s))) s).acts s t
-  goes_t = goes_on n (widen_here n (length (staying s))) (λ j. 0) s within wide None g.base (local_widen n (length (staying s)))
+  goes_t : Goes (on_number n (widen_here n (length (staying_omni s))) s).acts s t
+  goes_t = goes_on n (widen_here n (length (staying_omni s))) (λ j. 0) s within wide None g.base (local_widen n (length
+      (staying_omni s)))
       (λ j none. refl)
 
   base_t : Base None t
-  base_t = base_on n (widen_here n (length (staying s))) (λ j. 0) s within wide None None g.base shift_w
+  base_t = base_on n (widen_here n (length (staying_omni s))) (λ j. 0) s within wide None None g.base shift_w
       (λ j some. g.base.homes n j (subst (λ cs. IsSome (found j cs))
-      (widened_cpu n (length (staying s)) (cpu_of n s) (g.base.whole n)).0 some))
+      (widened_cpu n (length (staying_omni s)) (cpu_of n s) (g.base.whole n)).0 some))
 
   counts_t : SameCounts s t
   counts_t j =
-      let e = expired_on n (widen_here n (length (staying s))) (λ k. 0) s within wide None None g.base shift_w j in
-      let l = lost_on n (widen_here n (length (staying s))) (λ k. 0) s within wide None None g.base shift_w j in
-      let p = pending_on n (widen_here n (length (staying s))) (λ k. 0) s within wide j in
-      let c = widened_calls n (length (staying s)) (cpu_of n s) (g.base.whole n) j in
-      let m = widened_losses n (length (staying s)) (cpu_of n s) (g.base.whole n) j in
+      let e = expired_on n (widen_here n (length (staying_omni s))) (λ k. 0) s within wide None None g.base shift_w j in
+      let l = lost_on n (widen_here n (length (staying_omni s))) (λ k. 0) s within wide None None g.base shift_w j in
+      let p = pending_on n (widen_here n (length (staying_omni s))) (λ k. 0) s within wide j in
+      let c = widened_calls n (length (staying_omni s)) (cpu_of n s) (g.base.whole n) j in
+      let m = widened_losses n (length (staying_omni s)) (cpu_of n s) (g.base.whole n) j in
       counts_same (expired_in j t) (t.called j) (lost_in j t) (pending_in j t) (expired_in j s) (s.called j) (lost_in j s)
       (pending_in j s)
       (omega (arith, e)) (omega (arith, c)) (omega (arith, l, m)) (omega (arith, p, c, m))
@@ -291,28 +301,28 @@ module _ (indexes : ℕ → ℕ) (n : ℕ) (s : State) (g : Good s) (within : n 
   within_t : n < length t.cpus
   within_t = subst (λ k. n < k) (sym goes_t.tells.as_many) within
 
-  fits_t : length (cpu_of n t).cyclics + length (staying s) ≤ (cpu_of n t).size
-  fits_t = let r = widened_room n (length (staying s)) (cpu_of n s) (g.base.whole n) grows in
+  fits_t : length (cpu_of n t).cyclics + length (staying_omni s) ≤ (cpu_of n t).size
+  fits_t = let r = widened_room n (length (staying_omni s)) (cpu_of n s) (g.base.whole n) grows in
       let a = ap length cyclics_t in let b = ap (λ (c : Cpu). c.size) there_t in omega (arith, r, a, b)
 
-  all_back : Goes (each (return_of indexes n) (staying s) t).acts t (each (return_of indexes n) (staying s) t).state
-      × Returned n (staying s) t (each (return_of indexes n) (staying s) t).state
-  all_back = returned indexes n 0 s.last_id (staying s) t within_t base_t (staying_rise s g) fits_t
+  all_back : Goes (each (return_of indexes n) (staying_omni s) t).acts t (each (return_of indexes n) (staying_omni s) t).state
+      × Returned n (staying_omni s) t (each (return_of indexes n) (staying_omni s) t).state
+  all_back = returned indexes n 0 s.last_id (staying_omni s) t within_t base_t (staying_rise s g) fits_t
       (each_then (Stays s) (Ready n t) (λ p h. (
         h.everywhere,
         h.placed,
         ap (found p.id) cyclics_t
             ∙ none_at p.id,
-      )) (staying s) (staying_all s g))
+      )) (staying_omni s) (staying_all s g))
 
   abbrev u : State
-  u = (each (return_of indexes n) (staying s) t).state
+  u = (each (return_of indexes n) (staying_omni s) t).state
 
   within_u : n < length u.cpus
   within_u = subst (λ k. n < k) (sym all_back.0.tells.as_many) within_t
 
   abbrev v : State
-  v = (on n (λ c. nothing_here (go_online c)) u).state
+  v = (on_number n (λ c. nothing_here (go_online c)) u).state
 
   there_v : cpu_of n v ≡ record (cpu_of n u) { online = true }
   there_v = switch_there true n u within_u all_back.1.base
@@ -324,17 +334,17 @@ module _ (indexes : ℕ → ℕ) (n : ℕ) (s : State) (g : Good s) (within : n 
   view_v j m ne = ap (λ (c : Cpu). found j c.cyclics) (same_v m ne)
 
   place_v : (j : ℕ) → placement_of j v ≡ placement_of j s
-  place_v j = ap (λ ps. option_map (λ (p : Placed). p.place) (entry j ps)) all_back.1.placed
+  place_v j = ap (λ ps. option_map (λ (p : Placed). p.placement) (entry j ps)) all_back.1.placed
 
   removal_v : (cpu_of n v).removal ≡ None
   removal_v = ap (λ (c : Cpu). c.removal) there_v ∙ all_back.1.removal ∙ ap (λ (c : Cpu). c.removal) there_t
-      ∙ (widened_cpu n (length (staying s)) (cpu_of n s) (g.base.whole n)).1 ∙ shut
+      ∙ (widened_cpu n (length (staying_omni s)) (cpu_of n s) (g.base.whole n)).1 ∙ shut
 
   -- the CPU has those that stay
-  has_v : (j : ℕ) → IsSome (entry j (staying s)) → IsSome (found j (cpu_of n v).cyclics)
+  has_v : (j : ℕ) → IsSome (entry j (staying_omni s)) → IsSome (found j (cpu_of n v).cyclics)
   has_v j some = subst (λ (c : Cpu). IsSome (found j c.cyclics)) (sym there_v) (all_back.1.has j (inl some))
 
-  only_v : (j : ℕ) → IsSome (found j (cpu_of n v).cyclics) → IsSome (entry j (staying s))
+  only_v : (j : ℕ) → IsSome (found j (cpu_of n v).cyclics) → IsSome (entry j (staying_omni s))
   only_v j some = ⊎_elim (λ h. h) (λ h. absurd (away j (subst (λ cs. IsSome (found j cs)) cyclics_t h)))
       (all_back.1.more j (subst (λ (c : Cpu). IsSome (found j c.cyclics)) there_v some))
 
@@ -384,29 +394,30 @@ module _ (indexes : ℕ → ℕ) (n : ℕ) (s : State) (g : Good s) (within : n 
   kept_v = record {
     ids = ap (λ ps. map (λ (p : Placed). p.id) ps) all_back.1.placed;
     cyclics = λ j single. (
-      ap is_everywhere (place_v j) ∙ single,
-      ap (λ o. cyclic_of j (cpu_of (home_at o) v)) (place_v j) ∙ by j (placement_of j s) refl single,
+      ap is_placed_everywhere (place_v j) ∙ single,
+      ap (λ o. cyclic_with_id j (cpu_of (home_at o) v)) (place_v j) ∙ by j (placement_of j s) refl single,
     );
     counts = λ j. switch_counts true n u within_u all_back.1.base j ∙ all_back.1.counts j ∙ counts_t j;
   }
     where
-      nowhere : (j m : ℕ) → placement_of j s ≡ None → cyclic_of j (cpu_of m v) ≡ cyclic_of j (cpu_of m s)
+      nowhere : (j m : ℕ) → placement_of j s ≡ None → cyclic_with_id j (cpu_of m v) ≡ cyclic_with_id j (cpu_of m s)
       nowhere j m none = gone_away None v (switch_base true n u within_u all_back.1.base) j (place_v j ∙ none) m
           ∙ sym (gone_away None s g.base j none m)
 
-      by : (j : ℕ) (o : Option Placement) → placement_of j s ≡ o → is_everywhere (placement_of j s) ≡ false
-          → cyclic_of j (cpu_of (home_at (placement_of j s)) v) ≡ cyclic_of j (cpu_of (home_at (placement_of j s)) s)
+      by : (j : ℕ) (o : Option Placement) → placement_of j s ≡ o → is_placed_everywhere (placement_of j s) ≡ false
+          → cyclic_with_id j (cpu_of (home_at (placement_of j s)) v) ≡ cyclic_with_id j (cpu_of (home_at (placement_of j s)) s)
       by j None is single = nowhere j (home_at (placement_of j s)) is
-      by j (Some (On m bound)) is single = subst (λ p. cyclic_of j (cpu_of (home_at p) v)
-          ≡ cyclic_of j (cpu_of (home_at p) s)) (sym is)
+      by j (Some (On m bound)) is single = subst (λ p. cyclic_with_id j (cpu_of (home_at p) v)
+          ≡ cyclic_with_id j (cpu_of (home_at p) s)) (sym is)
           (view_v j m (home_far j m bound is))
-      by j (Some (OnAll e)) is single = absurd (let no : true ≡ false = sym (ap is_everywhere is) ∙ single in cc)
+      by j (Some (OnAll e)) is single = absurd (let no : true ≡ false = sym (ap is_placed_everywhere is) ∙ single in cc)
 
-  pub safe_return : Safe (return_all indexes n (staying s) s) s
+  pub safe_return : Safe (return_all indexes n (staying_omni s) s) s
   safe_return = (
-    goes_append (on n (widen_here n (length (staying s))) s).acts ((each (return_of indexes n) (staying s) t).acts ++ []) s t v
+    goes_append (on_number n (widen_here n (length (staying_omni s))) s).acts ((each (return_of indexes n) (staying_omni s)
+        t).acts ++ []) s t v
         goes_t
-        (goes_append (each (return_of indexes n) (staying s) t).acts [] t u v all_back.0
+        (goes_append (each (return_of indexes n) (staying_omni s) t).acts [] t u v all_back.0
         (switch_goes true n u within_u all_back.1.base)),
     record { base = switch_base true n u within_u all_back.1.base; spread = spread_v },
     kept_v,
@@ -415,12 +426,12 @@ module _ (indexes : ℕ → ℕ) (n : ℕ) (s : State) (g : Good s) (within : n 
 pub safe_online : (indexes : ℕ → ℕ) (step n : ℕ) (s : State) → Good s → online_refusal plain n s ≡ None
     → Safe (online indexes step n s) s
 safe_online indexes step n s g why =
-    let c = cpu_of n s in let more = length (staying s) in
-    let one = none_first (no_cpu n s) (online_cpu n s ∷ bad_now s.clock ∷ no_room_for_all plain n more c ∷ []) why in
-    let two = none_first (online_cpu n s) (bad_now s.clock ∷ no_room_for_all plain n more c ∷ []) one.1 in
+    let c = cpu_of n s in let more = length (staying_omni s) in
+    let one = none_first (is_no_cpu n s) (is_online_already n s ∷ bad_now s.clock ∷ no_room_for_all plain n more c ∷ []) why in
+    let two = none_first (is_online_already n s) (bad_now s.clock ∷ no_room_for_all plain n more c ∷ []) one.1 in
     let three = none_first (bad_now s.clock) (no_room_for_all plain n more c ∷ []) two.1 in
     let four = none_first (no_room_for_all plain n more c) [] three.1 in
     let r = safe_return indexes n s g (is_cpu n s one.0) (not_when c.online Online two.0)
-    (λ must. not_not (has_followed c) (not_when (not (has_followed c)) Expanding
-    (only_none (must_grow more c) (when (not (has_followed c)) Expanding) four.0 must))) in
+    (λ must. not_not (soft_has_followed c) (not_when (not (soft_has_followed c)) Expanding
+    (only_none (must_grow more c) (when (not (soft_has_followed c)) Expanding) four.0 must))) in
     (r.0, r.1, r.2)

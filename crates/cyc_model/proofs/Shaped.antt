@@ -11,22 +11,22 @@ use Rattle.cyc_script.specs.declared.step.Step.{Step}
 use Rattle.cyc_script.specs.declared.step.Step.TheVariants.{Add, Omni, Bind, Unbind, Reprogram, Remove, Advance, Softint, Juggle}
 use Rattle.cyc_script.specs.declared.step.Step.TheVariants.{Offline, Online, Suspend, Resume}
 use Rattle.cyc_model.specs.Acts.{Act, At, Call, at_own}
-use Rattle.cyc_model.specs.Cpu.{Cyclic, Cpu, Here, happen, handler_level_of, nothing_here, cyclic_of}
+use Rattle.cyc_model.specs.Cpu.{CyclicState, Cpu, Here, happen, handler_level_of, nothing_here, cyclic_with_id}
 use Rattle.cyc_model.specs.Serving.{level_at, serve}
 use Rattle.cyc_model.specs.Moving.{must_grow, bank_for, switch_here, widen_here, take_here, mark_here, clear_here}
 use Rattle.cyc_model.specs.Questions.{Questions}
-use Rattle.cyc_model.specs.State.{State, Outcome, Placement, On, OnAll, Placed, on, cpu_of, each, nothing, followed_by}
-use Rattle.cyc_model.specs.State.{online_cpus, cpus_with, numbers}
-use Rattle.cyc_model.specs.Places.{id_of, given, put_at, keep_counts, is_bound, home_of, destination}
+use Rattle.cyc_model.specs.State.{State, Outcome, Placement, On, OnAll, Placed, on_number, cpu_of, each, nothing, followed_by}
+use Rattle.cyc_model.specs.State.{cpus_online, cpus_having, numbers}
+use Rattle.cyc_model.specs.Places.{id_of, given, put_at, keep_counts, is_bound, home_of, destination_of}
 use Rattle.cyc_model.specs.Add.{enter, added}
 use Rattle.cyc_model.specs.Omni.{component, everywhere}
 use Rattle.cyc_model.specs.Bind.{bring, move, move_unless_there, bind_id}
 use Rattle.cyc_model.specs.Remove.{clear_if, poll, begin, begun}
 use Rattle.cyc_model.specs.Softint.{interrupt, is_open, text_of_id, polled, poll_id, leaving_ids}
 use Rattle.cyc_model.specs.Juggle.{Turn, IsBound, IsPending, IsRefused, Moves, turn, take_turn, Juggled, juggle_each, juggled}
-use Rattle.cyc_model.specs.Juggle.{single_ids}
-use Rattle.cyc_model.specs.Offline.{ids_on, retire, go_offline, retire_all, any_pending, last_part, leaving}
-use Rattle.cyc_model.specs.Online.{return_at, return_of, go_online, staying}
+use Rattle.cyc_model.specs.Juggle.{single_ids_of}
+use Rattle.cyc_model.specs.Offline.{ids_of_cpu, retire, go_offline, retire_all, any_pending, last_part, leaving}
+use Rattle.cyc_model.specs.Online.{return_here, return_of, go_online, staying_omni}
 use Rattle.cyc_model.specs.Script.{does, text_in}
 use Rattle.cyc_model.proofs.Agreement.{AllActs, acts_of_serve}
 
@@ -85,7 +85,7 @@ module _ (indexes : ℕ → ℕ) (P : List Act → ℕ → ℕ → Type 0) (calm
       by true = calm (switch_here n (bank_for (length c.cyclics + more)) c).acts a (tt, (tt, tt))
       by false = none a
 
-  shaped_enter : (n : ℕ) (x : Cyclic) → Shaped (enter indexes n x)
+  shaped_enter : (n : ℕ) (x : CyclicState) → Shaped (enter indexes n x)
   shaped_enter n x s = app (widen_here n 1 (cpu_of n s)).acts (at_own n x.timer.level (Admit x.timer.id (indexes s.admissions)))
       s.admissions s.admissions (s.admissions + 1) (widened n 1 (cpu_of n s) s.admissions)
       (admit n x.timer.id s.admissions x.timer.level)
@@ -95,15 +95,15 @@ module _ (indexes : ℕ → ℕ) (P : List Act → ℕ → ℕ → Type 0) (calm
       (calm (at_own n (handler_level_of id c) (Mark id)) a (idle_own n (handler_level_of id c) (Mark id) tt))
       (calm _ a (idle_own n (handler_level_of id (happen (at_own n (handler_level_of id c) (Mark id)) c)) (Clear id) tt))
 
-  shaped_bring : (n : ℕ) (o : Option Cyclic) → Shaped (bring indexes n o)
+  shaped_bring : (n : ℕ) (o : Option CyclicState) → Shaped (bring indexes n o)
   shaped_bring n None s = none s.admissions
   shaped_bring n (Some x) s = shaped_enter n x s
 
   shaped_move : (id source target : ℕ) → Shaped (move indexes id source target)
-  shaped_move id source target s = shaped_then (on source (take_here source id) s)
-      (λ t. bring indexes target (cyclic_of id (cpu_of source s)) (put_at id (On target (is_bound id t)) t)) s
+  shaped_move id source target s = shaped_then (on_number source (take_here source id) s)
+      (λ t. bring indexes target (cyclic_with_id id (cpu_of source s)) (put_at id (On target (is_bound id t)) t)) s
       (taken source id (cpu_of source s) s.admissions)
-      (λ t. shaped_bring target (cyclic_of id (cpu_of source s)) (put_at id (On target (is_bound id t)) t))
+      (λ t. shaped_bring target (cyclic_with_id id (cpu_of source s)) (put_at id (On target (is_bound id t)) t))
 
   shaped_unless : (there : Bool) (id n : ℕ) → Shaped (move_unless_there there indexes id n)
   shaped_unless true id n s = none s.admissions
@@ -115,8 +115,8 @@ module _ (indexes : ℕ → ℕ) (P : List Act → ℕ → ℕ → Type 0) (calm
       (shaped_unless (home_of id s == n) id n s) (λ t. none t.admissions)
 
   -- a stay ends
-  shaped_ended : (n : ℕ) (f : Cpu → Here) → ((c : Cpu) (a : ℕ) → P (f c).acts a a) → (o : Option Cyclic) (s : State)
-      → P (on n f (keep_counts n o s)).acts s.admissions (on n f (keep_counts n o s)).state.admissions
+  shaped_ended : (n : ℕ) (f : Cpu → Here) → ((c : Cpu) (a : ℕ) → P (f c).acts a a) → (o : Option CyclicState) (s : State)
+      → P (on_number n f (keep_counts n o s)).acts s.admissions (on_number n f (keep_counts n o s)).state.admissions
   shaped_ended n f own None s = own (cpu_of n s) s.admissions
   shaped_ended n f own (Some x) s = own (cpu_of n s) s.admissions
 
@@ -127,11 +127,11 @@ module _ (indexes : ℕ → ℕ) (P : List Act → ℕ → ℕ → Type 0) (calm
   shaped_poll q id n s = by (q.outstanding n id (cpu_of n s) == 0)
     where
       by : (b : Bool) → P (clear_if b id n s).acts s.admissions (clear_if b id n s).state.admissions
-      by true = shaped_ended n (clear_here n id) (cleared n id) (cyclic_of id (cpu_of n s)) s
+      by true = shaped_ended n (clear_here n id) (cleared n id) (cyclic_with_id id (cpu_of n s)) s
       by false = none s.admissions
 
   shaped_begin : (q : Questions) (id n : ℕ) → Shaped (begin q id n)
-  shaped_begin q id n s = shaped_then (on n (mark_here n id) s) (poll q id n) s
+  shaped_begin q id n s = shaped_then (on_number n (mark_here n id) s) (poll q id n) s
       (calm (at_own n (handler_level_of id (cpu_of n s)) (Mark id)) s.admissions
       (idle_own n (handler_level_of id (cpu_of n s)) (Mark id) tt))
       (shaped_poll q id n)
@@ -150,7 +150,7 @@ module _ (indexes : ℕ → ℕ) (P : List Act → ℕ → ℕ → Type 0) (calm
   shaped_poll_id : (q : Questions) (texts : List (List ℕ)) (step id : ℕ) → Shaped (poll_id q texts step id)
   shaped_poll_id q texts step id s =
       let o = each (poll q id) (numbers (is_open id) s) s in
-      shaped_polled step (text_of_id id texts s.names) id (cpus_with id o.state) o s.admissions
+      shaped_polled step (text_of_id id texts s.names) id (cpus_having id o.state) o s.admissions
       (shaped_each (poll q id) (shaped_poll q id) (numbers (is_open id) s) s)
 
   shaped_turn : (source id : ℕ) (t : Turn) → Shaped (take_turn indexes source id t)
@@ -168,8 +168,9 @@ module _ (indexes : ℕ → ℕ) (P : List Act → ℕ → ℕ → Type 0) (calm
       (shaped_turn source id (turn q source id s) s) (shaped_turns q source ids o.state)
 
   shaped_retire_all : (n : ℕ) → Shaped (retire_all n)
-  shaped_retire_all n s = shaped_then (each (retire n) (ids_on n s) s) (on n (λ c. nothing_here (go_offline c))) s
-      (shaped_each (retire n) (λ id t. shaped_ended n (take_here n id) (taken n id) (cyclic_of id (cpu_of n t)) t) (ids_on n s) s)
+  shaped_retire_all n s = shaped_then (each (retire n) (ids_of_cpu n s) s) (on_number n (λ c. nothing_here (go_offline c))) s
+      (shaped_each (retire n) (λ id t. shaped_ended n (take_here n id) (taken n id) (cyclic_with_id id (cpu_of n t)) t)
+      (ids_of_cpu n s) s)
       (λ t. none t.admissions)
 
   shaped_last : (b : Bool) (step n : ℕ) (o : Outcome) (a : ℕ) → P o.acts a o.state.admissions
@@ -183,31 +184,32 @@ module _ (indexes : ℕ → ℕ) (P : List Act → ℕ → ℕ → Type 0) (calm
       → P j.outcome.acts a j.outcome.state.admissions
       → P (leaving q step n ids j).acts a (leaving q step n ids j).state.admissions
   shaped_leaving q step n (id ∷ ids) j a h = h
-  shaped_leaving q step n [] j a h = shaped_last (any_pending q n (ids_on n j.outcome.state) j.outcome.state) step n j.outcome a h
+  shaped_leaving q step n [] j a h = shaped_last (any_pending q n (ids_of_cpu n j.outcome.state) j.outcome.state) step n
+      j.outcome a h
 
   shaped_return : (n : ℕ) (p : Placed) → Shaped (return_of indexes n p)
-  shaped_return n p s = by p.place
+  shaped_return n p s = by p.placement
     where
-      by : (place : Placement) → P (return_at indexes n p.id place s).acts s.admissions
-          (return_at indexes n p.id place s).state.admissions
+      by : (place : Placement) → P (return_here indexes n p.id place s).acts s.admissions
+          (return_here indexes n p.id place s).state.admissions
       by (On m bound) = none s.admissions
       by (OnAll e) = admit n p.id s.admissions e.level
 
   pub acts_shaped : (q : Questions) (texts : List (List ℕ)) (step : ℕ) (x : Step) (s : State) → IsNoFire x
       → P (does q texts indexes step x s).acts s.admissions (does q texts indexes step x s).state.admissions
-  acts_shaped q texts step (Add a) s is = shaped_enter (destination None s) (added a s)
-      (given a.name (On (destination None s) false) s)
+  acts_shaped q texts step (Add a) s is = shaped_enter (destination_of None s) (added a s)
+      (given a.name (On (destination_of None s) false) s)
   acts_shaped q texts step (Omni a) s is =
       shaped_each (λ n t. enter indexes n (component (s.last_id + 1) n (everywhere a) t.clock) t)
-      (λ n t. shaped_enter n (component (s.last_id + 1) n (everywhere a) t.clock) t) (online_cpus s)
+      (λ n t. shaped_enter n (component (s.last_id + 1) n (everywhere a) t.clock) t) (cpus_online s)
       (given a.name (OnAll (everywhere a)) s)
   acts_shaped q texts step (Bind b) s is = shaped_bind (id_of b.name s) b.cpu s
   acts_shaped q texts step (Unbind name) s is = none s.admissions
   acts_shaped q texts step (Reprogram r) s is = none s.admissions
   acts_shaped q texts step (Remove name) s is =
-      let id = id_of name s in let o = each (begin q id) (cpus_with id s) s in
-      shaped_begun q step (text_in texts name) id (cpus_with id o.state) o s.admissions
-      (shaped_each (begin q id) (shaped_begin q id) (cpus_with id s) s)
+      let id = id_of name s in let o = each (begin q id) (cpus_having id s) s in
+      shaped_begun q step (text_in texts name) id (cpus_having id o.state) o s.admissions
+      (shaped_each (begin q id) (shaped_begin q id) (cpus_having id s) s)
   acts_shaped q texts step (Advance now) s is = absurd is
   acts_shaped q texts step (Softint i) s is =
       let t = (interrupt step i s).state in
@@ -215,16 +217,16 @@ module _ (indexes : ℕ → ℕ) (P : List Act → ℕ → ℕ → Type 0) (calm
       (each (poll_id q texts step) (leaving_ids t) t).state.admissions
       (serves i.cpu i.level i.budget (level_at i.level (cpu_of i.cpu s)) s.admissions)
       (shaped_each (poll_id q texts step) (shaped_poll_id q texts step) (leaving_ids t) t)
-  acts_shaped q texts step (Juggle n) s is = shaped_turns q n (single_ids n s) s
+  acts_shaped q texts step (Juggle n) s is = shaped_turns q n (single_ids_of n s) s
   acts_shaped q texts step (Offline n) s is =
-      shaped_leaving q step n (single_ids n (juggled q indexes n s).outcome.state) (juggled q indexes n s) s.admissions
-      (shaped_turns q n (single_ids n s) s)
+      shaped_leaving q step n (single_ids_of n (juggled q indexes n s).outcome.state) (juggled q indexes n s) s.admissions
+      (shaped_turns q n (single_ids_of n s) s)
   acts_shaped q texts step (Online n) s is =
-      shaped_then (on n (widen_here n (length (staying s))) s)
-      (λ t. followed_by (each (return_of indexes n) (staying s) t) (on n (λ c. nothing_here (go_online c)))) s
-      (widened n (length (staying s)) (cpu_of n s) s.admissions)
-      (λ t. shaped_then (each (return_of indexes n) (staying s) t) (on n (λ c. nothing_here (go_online c))) t
-      (shaped_each (return_of indexes n) (shaped_return n) (staying s) t) (λ u. none u.admissions))
+      shaped_then (on_number n (widen_here n (length (staying_omni s))) s)
+      (λ t. followed_by (each (return_of indexes n) (staying_omni s) t) (on_number n (λ c. nothing_here (go_online c)))) s
+      (widened n (length (staying_omni s)) (cpu_of n s) s.admissions)
+      (λ t. shaped_then (each (return_of indexes n) (staying_omni s) t) (on_number n (λ c. nothing_here (go_online c))) t
+      (shaped_each (return_of indexes n) (shaped_return n) (staying_omni s) t) (λ u. none u.admissions))
   acts_shaped q texts step Suspend s is = none s.admissions
   acts_shaped q texts step Resume s is = none s.admissions
 

@@ -8,10 +8,10 @@ use Rattle.cyc_types.specs.Series.{never}
 use Rattle.cyc_types.specs.declared.level.Soft.{Soft}
 use Rattle.cyc_level.specs.declared.Event.TheVariants.{Admit, Mark, Clear}
 use Rattle.cyc_level.specs.Lawful.{IsId}
-use Rattle.cyc_types.specs.Expirations.{Expiration, times_of, after}
+use Rattle.cyc_types.specs.Expirations.{Expiration, times_of, after_expirations}
 use Rattle.cyc_model.specs.Acts.{Act, at_own, losses_of, loss_of}
-use Rattle.cyc_model.specs.Cpu.{Cyclic, Cpu, Here, handler_level_of, others}
-use Rattle.cyc_model.specs.Firing.{due_here, fired, fire_here}
+use Rattle.cyc_model.specs.Cpu.{CyclicState, Cpu, Here, handler_level_of, others}
+use Rattle.cyc_model.specs.Firing.{due_here, fired_cyclic, fire_here}
 use Rattle.cyc_model.specs.Serving.{level_at, serve, serve_here}
 use Rattle.cyc_model.specs.Moving.{widen_here, put_in, place_here, enter_here, take_here, moment_at, reprogram_here, mark_here}
 use Rattle.cyc_model.specs.Moving.{clear_here}
@@ -27,21 +27,21 @@ use Rattle.cyc_model.proofs.Leaves.{marked_cpu, taken_cpu, marked_same}
 use Rattle.cyc_model.proofs.Totals.{carried, expired_of, lost_of}
 
 -- the counts of the CPU's cyclics, with the one on its way before and after
-pub record Shift (way to : Option Cyclic) (made : ℕ → ℕ) (c : Cpu) (d : Here) : Type 0 where
+pub record Shift (way to : Option CyclicState) (made : ℕ → ℕ) (c : Cpu) (d : Here) : Type 0 where
   pub expired : (id : ℕ) → of_found expired_of (found id d.cpu.cyclics) + carried expired_of id to
       ≡ of_found expired_of (found id c.cyclics) + carried expired_of id way + made id
   pub lost : (id : ℕ) → of_found lost_of (found id d.cpu.cyclics) + carried lost_of id to
       ≡ of_found lost_of (found id c.cyclics) + carried lost_of id way + losses_of id d.acts
 
-of_mapped : (g : Cyclic → ℕ) (f : Cyclic → Cyclic) → ((x : Cyclic) → g (f x) ≡ g x) → (o : Option Cyclic)
+of_mapped : (g : CyclicState → ℕ) (f : CyclicState → CyclicState) → ((x : CyclicState) → g (f x) ≡ g x) → (o : Option CyclicState)
     → of_found g (option_map f o) ≡ of_found g o
 of_mapped g f same None = refl
 of_mapped g f same (Some x) = same x
 
 -- the cyclics are the same, but for their moments
-shift_mapped : (f : Cyclic → Cyclic) → ((x : Cyclic) → expired_of (f x) ≡ expired_of x)
-    → ((x : Cyclic) → lost_of (f x) ≡ lost_of x)
-    → (way : Option Cyclic) (c : Cpu) (d : Here) → ((id : ℕ) → found id d.cpu.cyclics ≡ option_map f (found id c.cyclics))
+shift_mapped : (f : CyclicState → CyclicState) → ((x : CyclicState) → expired_of (f x) ≡ expired_of x)
+    → ((x : CyclicState) → lost_of (f x) ≡ lost_of x)
+    → (way : Option CyclicState) (c : Cpu) (d : Here) → ((id : ℕ) → found id d.cpu.cyclics ≡ option_map f (found id c.cyclics))
     → ((id : ℕ) → losses_of id d.acts ≡ 0) → Shift way way (λ j. 0) c d
 shift_mapped f expired lost way c d same none = record {
   expired = λ id. let a = ap (of_found expired_of) (same id) ∙ of_mapped expired_of f expired (found id c.cyclics)
@@ -50,20 +50,21 @@ shift_mapped f expired lost way c d same none = record {
       in omega (arith, a, z);
 }
 
-pub shift_same : (way : Option Cyclic) (c : Cpu) (d : Here) → d.cpu.cyclics ≡ c.cyclics → ((id : ℕ) → losses_of id d.acts ≡ 0)
+pub shift_same : (way : Option CyclicState) (c : Cpu) (d : Here) → d.cpu.cyclics ≡ c.cyclics → ((id : ℕ)
+    → losses_of id d.acts ≡ 0)
     → Shift way way (λ j. 0) c d
 shift_same way c d same none = record {
   expired = λ id. let a = ap (λ cs. of_found expired_of (found id cs)) same in omega (arith, a);
   lost = λ id. let a = ap (λ cs. of_found lost_of (found id cs)) same in let z = none id in omega (arith, a, z);
 }
 
-pub shift_serve : (way : Option Cyclic) (n : ℕ) (soft : Soft) (budget : ℕ) (c : Cpu)
+pub shift_serve : (way : Option CyclicState) (n : ℕ) (soft : Soft) (budget : ℕ) (c : Cpu)
     → Shift way way (λ j. 0) c (serve_here n soft budget c)
 shift_serve way n soft budget c = shift_same way c (serve_here n soft budget c) (same_serve n budget soft c).cyclics
     (λ id. no_losses id (serve n soft budget (level_at soft c)).acts
     (acts_of_serve (λ e. loss_of id e ≡ 0) refl refl refl n soft budget (level_at soft c)))
 
-moment_counts : (id moment : ℕ) (x : Cyclic) → (expired_of (moment_at id moment x) ≡ expired_of x)
+moment_counts : (id moment : ℕ) (x : CyclicState) → (expired_of (moment_at id moment x) ≡ expired_of x)
     × (lost_of (moment_at id moment x) ≡ lost_of x)
 moment_counts id moment x = by (x.timer.id == id)
   where
@@ -72,13 +73,13 @@ moment_counts id moment x = by (x.timer.id == id)
     by true = (refl, refl)
     by false = (refl, refl)
 
-pub shift_reprogram : (way : Option Cyclic) (id moment : ℕ) (c : Cpu) → Shift way way (λ j. 0) c (reprogram_here id moment c)
+pub shift_reprogram : (way : Option CyclicState) (id moment : ℕ) (c : Cpu) → Shift way way (λ j. 0) c (reprogram_here id moment c)
 shift_reprogram way id moment c = shift_mapped (moment_at id moment) (λ x. (moment_counts id moment x).0)
     (λ x. (moment_counts id moment x).1)
     way c (reprogram_here id moment c) (λ j. found_map (moment_at id moment) (λ x. (moment_same id moment x).0) j c.cyclics)
     (λ j. refl)
 
-pub shift_mark : (way : Option Cyclic) (n id : ℕ) (c : Cpu) → Shift way way (λ j. 0) c (mark_here n id c)
+pub shift_mark : (way : Option CyclicState) (n id : ℕ) (c : Cpu) → Shift way way (λ j. 0) c (mark_here n id c)
 shift_mark way n id c = shift_mapped (moment_at id never) (λ x. (moment_counts id never x).0) (λ x. (moment_counts id never x).1)
     way c (mark_here n id c)
     (λ j. ap (found j) (marked_same n id c).0 ∙ found_map (moment_at id never) (λ x. (moment_same id never x).0) j c.cyclics)
@@ -86,7 +87,7 @@ shift_mark way n id c = shift_mapped (moment_at id never) (λ x. (moment_counts 
 
 -- ---- a cyclic leaves
 
-left_of : (g : Cyclic → ℕ) (id j : ℕ) (cs : List Cyclic)
+left_of : (g : CyclicState → ℕ) (id j : ℕ) (cs : List CyclicState)
     → of_found g (found j (others id cs)) + carried g j (found id cs) ≡ of_found g (found j cs)
 left_of g id j cs = dite (ℕ_discrete j id)
     (λ e. let a = ap (of_found g) (ap (λ (k : ℕ). found k (others id cs)) e ∙ found_gone id cs) in
@@ -96,11 +97,11 @@ left_of g id j cs = dite (ℕ_discrete j id)
     (λ ne. let a = ap (of_found g) (found_others j id cs ne) in
     let b = elsewhere (found id cs) refl ne in omega (arith, a, b))
   where
-    here : (o : Option Cyclic) → found id cs ≡ o → carried g id o ≡ of_found g o
+    here : (o : Option CyclicState) → found id cs ≡ o → carried g id o ≡ of_found g o
     here None is = refl
     here (Some x) is = ap (λ (b : Bool). cond b (g x) 0) (eq-eqb x.timer.id id (found_id id x cs is))
 
-    elsewhere : (o : Option Cyclic) → found id cs ≡ o → j ≢ id → carried g j o ≡ 0
+    elsewhere : (o : Option CyclicState) → found id cs ≡ o → j ≢ id → carried g j o ≡ 0
     elsewhere None is ne = refl
     elsewhere (Some x) is ne = ap (λ (b : Bool). cond b (g x) 0) (ne_eqb x.timer.id j (λ e. ne (sym e ∙ found_id id x cs is)))
 
@@ -129,7 +130,7 @@ shift_take n id c = shift_left id c (take_here n id c) (taken_cpu n id c).0 (tak
 
 -- ---- a cyclic comes
 
-come_to : (g : Cyclic → ℕ) (x : Cyclic) (j : ℕ) (cs : List Cyclic) → found x.timer.id cs ≡ None
+come_to : (g : CyclicState → ℕ) (x : CyclicState) (j : ℕ) (cs : List CyclicState) → found x.timer.id cs ≡ None
     → of_found g (found j (put_in x cs)) ≡ of_found g (found j cs) + carried g j (Some x)
 come_to g x j cs new = dite (ℕ_discrete x.timer.id j)
     (λ e. let none : found j cs ≡ None = ap (λ (k : ℕ). found k cs) (sym e) ∙ new in
@@ -138,7 +139,7 @@ come_to g x j cs new = dite (ℕ_discrete x.timer.id j)
     (λ ne. let a = ap (of_found g) (put_other j x cs ne) in
     let d : carried g j (Some x) ≡ 0 = ap (λ (b : Bool). cond b (g x) 0) (ne_eqb x.timer.id j ne) in omega (arith, a, d))
 
-shift_come : (x : Cyclic) (c : Cpu) (d : Here) → d.cpu.cyclics ≡ put_in x c.cyclics → found x.timer.id c.cyclics ≡ None
+shift_come : (x : CyclicState) (c : Cpu) (d : Here) → d.cpu.cyclics ≡ put_in x c.cyclics → found x.timer.id c.cyclics ≡ None
     → ((j : ℕ) → losses_of j d.acts ≡ 0) → Shift (Some x) None (λ j. 0) c d
 shift_come x c d same new none = record {
   expired = λ j. let a = ap (λ cs. of_found expired_of (found j cs)) same in let b = come_to expired_of x j c.cyclics new
@@ -147,35 +148,35 @@ shift_come x c d same new none = record {
       let z = none j in omega (arith, a, b, z);
 }
 
-pub shift_place : (n index : ℕ) (x : Cyclic) (c : Cpu) → Whole c → IsId x.timer.id → found x.timer.id c.cyclics ≡ None
+pub shift_place : (n index : ℕ) (x : CyclicState) (c : Cpu) → Whole c → IsId x.timer.id → found x.timer.id c.cyclics ≡ None
     → length c.cyclics + 1 ≤ c.size → Shift (Some x) None (λ j. 0) c (place_here n index x c)
 shift_place n index x c w is_id new fits = shift_come x c (place_here n index x c) (placed_cyclics n index x c w is_id new fits)
     new
     (λ j. losses_own n j x.timer.level (Admit x.timer.id index) refl)
 
-pub enter_losses : (n index : ℕ) (x : Cyclic) (c : Cpu) → Whole c → (j : ℕ) → losses_of j (enter_here n index x c).acts ≡ 0
+pub enter_losses : (n index : ℕ) (x : CyclicState) (c : Cpu) → Whole c → (j : ℕ) → losses_of j (enter_here n index x c).acts ≡ 0
 enter_losses n index x c w j =
     let a = losses_append j (widen_here n 1 c).acts (at_own n x.timer.level (Admit x.timer.id index)) in
     let b = widened_losses n 1 c w j in
     let d = losses_own n j x.timer.level (Admit x.timer.id index) refl in omega (arith, a, b, d)
 
-pub shift_enter : (n index : ℕ) (x : Cyclic) (c : Cpu) → Whole c → IsId x.timer.id → found x.timer.id c.cyclics ≡ None
+pub shift_enter : (n index : ℕ) (x : CyclicState) (c : Cpu) → Whole c → IsId x.timer.id → found x.timer.id c.cyclics ≡ None
     → CanGrow 1 c → Shift (Some x) None (λ j. 0) c (enter_here n index x c)
 shift_enter n index x c w is_id new can = shift_come x c (enter_here n index x c) (entered_cyclics n index x c w is_id new can)
     new
     (enter_losses n index x c w)
 
-pub shift_widen : (way : Option Cyclic) (n more : ℕ) (c : Cpu) → Whole c → Shift way way (λ j. 0) c (widen_here n more c)
+pub shift_widen : (way : Option CyclicState) (n more : ℕ) (c : Cpu) → Whole c → Shift way way (λ j. 0) c (widen_here n more c)
 shift_widen way n more c w = shift_same way c (widen_here n more c) (widened_cpu n more c w).0
     (widened_losses n more c w)
 
 -- ---- a fire
 
-fired_counts : (now : ℕ) (made : List Expiration) (acts : List Act) (id : ℕ) (o : Option Cyclic)
-    → ((x : Cyclic) → o ≡ Some x → x.timer.id ≡ id) → (o ≡ None → (times_of id made ≡ 0) × (losses_of id acts ≡ 0))
-    → (of_found expired_of (option_map (fired now made acts) o) ≡ of_found expired_of o + times_of id made)
-    × (of_found lost_of (option_map (fired now made acts) o) ≡ of_found lost_of o + losses_of id acts)
-unfolding after
+fired_counts : (now : ℕ) (made : List Expiration) (acts : List Act) (id : ℕ) (o : Option CyclicState)
+    → ((x : CyclicState) → o ≡ Some x → x.timer.id ≡ id) → (o ≡ None → (times_of id made ≡ 0) × (losses_of id acts ≡ 0))
+    → (of_found expired_of (option_map (fired_cyclic now made acts) o) ≡ of_found expired_of o + times_of id made)
+    × (of_found lost_of (option_map (fired_cyclic now made acts) o) ≡ of_found lost_of o + losses_of id acts)
+unfolding after_expirations
 fired_counts now made acts id None is none = let z = none refl in let a = z.0 in let b = z.1
     in (omega (arith, a), omega (arith, b))
 fired_counts now made acts id (Some x) is none =
@@ -189,15 +190,15 @@ shift_fire n now c w before done = record {
 }
   where
     same : (id : ℕ) → found id (fire_here n now c).cpu.cyclics
-        ≡ option_map (fired now (due_here now c) (fire_here n now c).acts) (found id c.cyclics)
+        ≡ option_map (fired_cyclic now (due_here now c) (fire_here n now c).acts) (found id c.cyclics)
     same id = ap (found id) (fired_cyclics n now c w before)
-        ∙ found_map (fired now (due_here now c) (fire_here n now c).acts)
+        ∙ found_map (fired_cyclic now (due_here now c) (fire_here n now c).acts)
         (λ x. (fired_same now (due_here now c) (fire_here n now c).acts x).0) id c.cyclics
 
     counts : (id : ℕ)
-        → (of_found expired_of (option_map (fired now (due_here now c) (fire_here n now c).acts) (found id c.cyclics))
+        → (of_found expired_of (option_map (fired_cyclic now (due_here now c) (fire_here n now c).acts) (found id c.cyclics))
         ≡ of_found expired_of (found id c.cyclics) + times_of id (due_here now c))
-        × (of_found lost_of (option_map (fired now (due_here now c) (fire_here n now c).acts) (found id c.cyclics))
+        × (of_found lost_of (option_map (fired_cyclic now (due_here now c) (fire_here n now c).acts) (found id c.cyclics))
         ≡ of_found lost_of (found id c.cyclics) + losses_of id (fire_here n now c).acts)
     counts id = fired_counts now (due_here now c) (fire_here n now c).acts id (found id c.cyclics)
         (λ x is. found_id id x c.cyclics is)

@@ -7,7 +7,7 @@ use native.Mathlib.Decide.{ℕ_discrete}
 use Rattle.cyc_types.specs.declared.level.Soft.{Soft}
 use Rattle.cyc_level.specs.Level.{SoftLevel, AdmittedCyclic, bank_size, times_in}
 use Rattle.cyc_level.proofs.Maps.{is_some_of}
-use Rattle.cyc_model.specs.Cpu.{Cyclic, Cpu, handler_level_of}
+use Rattle.cyc_model.specs.Cpu.{CyclicState, Cpu, handler_level_of}
 use Rattle.cyc_model.specs.Serving.{level_at}
 use Rattle.cyc_types.specs.Levels.{as_level}
 use Rattle.cyc_model.proofs.Rising.{found, first_not}
@@ -51,14 +51,14 @@ abbrev index_of : Option AdmittedCyclic → ℕ
 index_of None = 0
 index_of (Some c) = c.index
 
-abbrev used : SoftLevel → List Cyclic → List ℕ
+abbrev used : SoftLevel → List CyclicState → List ℕ
 used l cs = map (λ x. index_of (l.cyclics x.timer.id)) cs
 
-used_length : (l : SoftLevel) (cs : List Cyclic) → length (used l cs) ≡ length cs
+used_length : (l : SoftLevel) (cs : List CyclicState) → length (used l cs) ≡ length cs
 used_length l [] = refl
 used_length l (x ∷ xs) = ap suc (used_length l xs)
 
-in_used : (l : SoftLevel) (cs : List Cyclic) (id : ℕ) (c : AdmittedCyclic) → IsSome (found id cs) → l.cyclics id ≡ Some c
+in_used : (l : SoftLevel) (cs : List CyclicState) (id : ℕ) (c : AdmittedCyclic) → IsSome (found id cs) → l.cyclics id ≡ Some c
     → 0 < times_in c.index (used l cs)
 in_used l [] id c some is = absurd (cc)
 in_used l (x ∷ xs) id c some is = dite (ℕ_discrete x.timer.id id)
@@ -83,6 +83,6 @@ spare_index soft c w few =
     there : (id : ℕ) → handler_level_of id c ≡ as_level soft → IsSome (found id c.cyclics)
     there id is = by (found id c.cyclics) refl
       where
-        by : (o : Option Cyclic) → found id c.cyclics ≡ o → IsSome (found id c.cyclics)
+        by : (o : Option CyclicState) → found id c.cyclics ≡ o → IsSome (found id c.cyclics)
         by None none = absurd (no_level id c none soft is)
         by (Some x) some = ap is_some some

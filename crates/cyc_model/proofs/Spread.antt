@@ -2,7 +2,7 @@
 use Rattle.std.proofs.Common.{◌≡◌, ◌≢◌, ℕ, zero, suc, ◌<◌, Bool, true, List, [], ◌∷◌, length, Option, Some, None, refl, ap, sym}
 use Rattle.std.proofs.Common.{◌∙◌, subst, inl, inr, ⊎_elim, ◌⊎◌, arith}
 use Rattle.std.specs.Prelude.{IsSome, is_some, slice_index_or}
-use Rattle.cyc_model.specs.Cpu.{Cyclic, Cpu}
+use Rattle.cyc_model.specs.Cpu.{CyclicState, Cpu}
 use Rattle.cyc_model.specs.State.{State, On, OnAll, Everywhere, absent, cpu_of}
 use Rattle.cyc_model.specs.Places.{placement_of}
 use Rattle.cyc_model.proofs.Rising.{found}
@@ -100,6 +100,6 @@ is_there s h j n bound is = has_number s n j (h.home j n bound is)
 pub found_or_not : (j : ℕ) (c : Cpu) → (IsSome (found j c.cyclics)) ⊎ (found j c.cyclics ≡ None)
 found_or_not j c = by (found j c.cyclics) refl
   where
-    by : (o : Option Cyclic) → found j c.cyclics ≡ o → (IsSome (found j c.cyclics)) ⊎ (found j c.cyclics ≡ None)
+    by : (o : Option CyclicState) → found j c.cyclics ≡ o → (IsSome (found j c.cyclics)) ⊎ (found j c.cyclics ≡ None)
     by None is = inr is
     by (Some x) is = inl (ap is_some is)

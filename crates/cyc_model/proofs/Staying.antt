@@ -11,10 +11,10 @@ use Rattle.cyc_types.specs.Limits.{greatest_bank, cyclics as most_cyclics}
 use Rattle.cyc_types.specs.declared.level.Soft.TheVariants.{Lock}
 use Rattle.cyc_level.specs.Level.{bank_size}
 use Rattle.cyc_level.proofs.Maps.{some_same, some_of}
-use Rattle.cyc_model.specs.Cpu.{Cyclic, Cpu, others}
+use Rattle.cyc_model.specs.Cpu.{CyclicState, Cpu, others}
 use Rattle.cyc_model.specs.State.{State, Placement, On, OnAll, Everywhere, Placed, absent, cpu_of}
-use Rattle.cyc_model.specs.Places.{placement_of, is_leaving}
-use Rattle.cyc_model.specs.Online.{is_on_all, staying}
+use Rattle.cyc_model.specs.Places.{placement_of, is_being_removed}
+use Rattle.cyc_model.specs.Online.{is_on_all, staying_omni}
 use Rattle.cyc_model.specs.Laws.{RiseTo}
 use Rattle.cyc_model.proofs.Given.{rise_filter}
 use Rattle.cyc_model.proofs.Rising.{found, found_others, length_others, first_not}
@@ -40,7 +40,7 @@ first_open j c cs h = by c.removal refl h
     by None is h = inr h
     by (Some k) is h = ⊎_elim (λ e. inl (is ∙ e)) (λ r. inr r) (test k (k == j) refl h)
 
-pub leaving_where : (j : ℕ) (s : State) → is_leaving j s ≡ true → (m : ℕ) × ((cpu_of m s).removal ≡ Some j)
+pub leaving_where : (j : ℕ) (s : State) → is_being_removed j s ≡ true → (m : ℕ) × ((cpu_of m s).removal ≡ Some j)
 leaving_where j s h = by s.cpus h
   where
     by : (cs : List Cpu) → list_any (λ d. option_map_or (λ busy. busy == j) d.removal false) cs ≡ true
@@ -48,10 +48,10 @@ leaving_where j s h = by s.cpus h
     by [] h = absurd (cc)
     by (c ∷ cs) h = ⊎_elim (λ e. (0, e)) (λ r. let w = by cs r in (suc w.0, w.1)) (first_open j c cs h)
 
-pub not_open : (j : ℕ) (s : State) → ((m : ℕ) → (cpu_of m s).removal ≢ Some j) → is_leaving j s ≡ false
-not_open j s shut = by (is_leaving j s) refl
+pub not_open : (j : ℕ) (s : State) → ((m : ℕ) → (cpu_of m s).removal ≢ Some j) → is_being_removed j s ≡ false
+not_open j s shut = by (is_being_removed j s) refl
   where
-    by : (b : Bool) → is_leaving j s ≡ b → is_leaving j s ≡ false
+    by : (b : Bool) → is_being_removed j s ≡ b → is_being_removed j s ≡ false
     by true is = let w = leaving_where j s is in absurd (shut w.0 w.1)
     by false is = is
 
@@ -138,49 +138,49 @@ is_all (OnAll e) h = (e, refl)
 
 -- an omnipresent cyclic that stays
 pub record Stays (s : State) (p : Placed) : Type 0 where
-  pub everywhere : (e : Everywhere) × (p.place ≡ OnAll e)
-  pub placed : placement_of p.id s ≡ Some p.place
+  pub everywhere : (e : Everywhere) × (p.placement ≡ OnAll e)
+  pub placed : placement_of p.id s ≡ Some p.placement
   pub full : Full p.id s
 
-pub stays_full : (j : ℕ) (s : State) → Stands j s → is_leaving j s ≡ false → Full j s
+pub stays_full : (j : ℕ) (s : State) → Stands j s → is_being_removed j s ≡ false → Full j s
 stays_full j s h shut = ⊎_elim (λ full. full.0) (λ leave. absurd (not_leaving j s shut leave.1.0 (leave.0 leave.1.0 leave.1.1))) h
 
-staying_entries : (s : State) → Good s → Each (λ p. ((entry p.id s.placed ≡ Some p) × (not (is_leaving p.id s) ≡ true))
-    × (is_on_all p.place ≡ true)) (staying s)
+staying_entries : (s : State) → Good s → Each (λ p. ((entry p.id s.placed ≡ Some p) × (not (is_being_removed p.id s) ≡ true))
+    × (is_on_all p.placement ≡ true)) (staying_omni s)
 staying_entries s g =
-    each_filter (λ p. (entry p.id s.placed ≡ Some p) × (not (is_leaving p.id s) ≡ true)) (λ p. is_on_all p.place)
-    (filter (λ p. not (is_leaving p.id s)) s.placed)
-    (each_filter (λ p. entry p.id s.placed ≡ Some p) (λ p. not (is_leaving p.id s)) s.placed
+    each_filter (λ p. (entry p.id s.placed ≡ Some p) × (not (is_being_removed p.id s) ≡ true)) (λ p. is_on_all p.placement)
+    (filter (λ p. not (is_being_removed p.id s)) s.placed)
+    (each_filter (λ p. entry p.id s.placed ≡ Some p) (λ p. not (is_being_removed p.id s)) s.placed
     (each_entry 0 s.last_id s.placed g.base.rise))
 
-pub staying_all : (s : State) → Good s → Each (Stays s) (staying s)
-staying_all s g = each_then (λ p. ((entry p.id s.placed ≡ Some p) × (not (is_leaving p.id s) ≡ true))
-    × (is_on_all p.place ≡ true)) (Stays s)
-    (λ p h. let all = is_all p.place h.1 in let at : placement_of p.id s
-    ≡ Some p.place = ap (option_map (λ (q : Placed). q.place)) h.0.0 in record {
+pub staying_all : (s : State) → Good s → Each (Stays s) (staying_omni s)
+staying_all s g = each_then (λ p. ((entry p.id s.placed ≡ Some p) × (not (is_being_removed p.id s) ≡ true))
+    × (is_on_all p.placement ≡ true)) (Stays s)
+    (λ p h. let all = is_all p.placement h.1 in let at : placement_of p.id s
+    ≡ Some p.placement = ap (option_map (λ (q : Placed). q.placement)) h.0.0 in record {
       everywhere = all;
       placed = at;
-      full = stays_full p.id s (g.spread.stands p.id all.0 (at ∙ ap Some all.1)) (not-true (is_leaving p.id s) h.0.1);
+      full = stays_full p.id s (g.spread.stands p.id all.0 (at ∙ ap Some all.1)) (not-true (is_being_removed p.id s) h.0.1);
     })
-    (staying s) (staying_entries s g)
+    (staying_omni s) (staying_entries s g)
 
-pub staying_rise : (s : State) → Good s → RiseTo 0 (staying s) s.last_id
-staying_rise s g = rise_filter (λ p. is_on_all p.place) 0 s.last_id (filter (λ p. not (is_leaving p.id s)) s.placed)
-    (rise_filter (λ p. not (is_leaving p.id s)) 0 s.last_id s.placed g.base.rise)
+pub staying_rise : (s : State) → Good s → RiseTo 0 (staying_omni s) s.last_id
+staying_rise s g = rise_filter (λ p. is_on_all p.placement) 0 s.last_id (filter (λ p. not (is_being_removed p.id s)) s.placed)
+    (rise_filter (λ p. not (is_being_removed p.id s)) 0 s.last_id s.placed g.base.rise)
 
 -- one whose removal isn't open stays, and no other
-pub does_stay : (j : ℕ) (e : Everywhere) (s : State) → placement_of j s ≡ Some (OnAll e) → is_leaving j s ≡ false
-    → IsSome (entry j (staying s))
+pub does_stay : (j : ℕ) (e : Everywhere) (s : State) → placement_of j s ≡ Some (OnAll e) → is_being_removed j s ≡ false
+    → IsSome (entry j (staying_omni s))
 does_stay j e s is closed = by (entry j s.placed) refl is
   where
-    by : (o : Option Placed) → entry j s.placed ≡ o → option_map (λ (p : Placed). p.place) o ≡ Some (OnAll e)
-        → IsSome (entry j (staying s))
+    by : (o : Option Placed) → entry j s.placed ≡ o → option_map (λ (p : Placed). p.placement) o ≡ Some (OnAll e)
+        → IsSome (entry j (staying_omni s))
     by None at h = absurd (cc)
     by (Some p) at h =
-        let place : p.place ≡ OnAll e = some_same p.place (OnAll e) h in
-        let one = entry_filter (λ q. not (is_leaving q.id s)) j p s.placed at
-        (ap (λ (k : ℕ). not (is_leaving k s)) (entry_id j p s.placed at) ∙ ap not closed) in
-        ap is_some (entry_filter (λ q. is_on_all q.place) j p (filter (λ q. not (is_leaving q.id s)) s.placed) one
+        let place : p.placement ≡ OnAll e = some_same p.placement (OnAll e) h in
+        let one = entry_filter (λ q. not (is_being_removed q.id s)) j p s.placed at
+        (ap (λ (k : ℕ). not (is_being_removed k s)) (entry_id j p s.placed at) ∙ ap not closed) in
+        ap is_some (entry_filter (λ q. is_on_all q.placement) j p (filter (λ q. not (is_being_removed q.id s)) s.placed) one
         (ap is_on_all place))
 
 each_found : (P : Placed → Type 0) (j : ℕ) (p : Placed) (ps : List Placed) → Each P ps → entry j ps ≡ Some p → P p
@@ -189,21 +189,21 @@ each_found P j p (q ∷ qs) h is = dite (ℕ_discrete q.id j)
     (λ e. subst P (some_same q p (sym (entry_here j q qs e) ∙ is)) h.0)
     (λ ne. each_found P j p qs h.1 (sym (entry_past j q qs ne) ∙ is))
 
-pub stays_closed : (j : ℕ) (s : State) → Good s → IsSome (entry j (staying s)) → is_leaving j s ≡ false
+pub stays_closed : (j : ℕ) (s : State) → Good s → IsSome (entry j (staying_omni s)) → is_being_removed j s ≡ false
 stays_closed j s g some =
-    let p = some_of (entry j (staying s)) some in
-    let h = each_found (λ q. ((entry q.id s.placed ≡ Some q) × (not (is_leaving q.id s) ≡ true))
-    × (is_on_all q.place ≡ true)) j p.0 (staying s)
+    let p = some_of (entry j (staying_omni s)) some in
+    let h = each_found (λ q. ((entry q.id s.placed ≡ Some q) × (not (is_being_removed q.id s) ≡ true))
+    × (is_on_all q.placement ≡ true)) j p.0 (staying_omni s)
     (staying_entries s g) p.1 in
-    let id = (entry_filtered (λ q. is_on_all q.place) j p.0 (filter (λ q. not (is_leaving q.id s)) s.placed) p.1).1 in
-    not-true (is_leaving j s) (subst (λ (k : ℕ). not (is_leaving k s) ≡ true) id h.0.1)
+    let id = (entry_filtered (λ q. is_on_all q.placement) j p.0 (filter (λ q. not (is_being_removed q.id s)) s.placed) p.1).1 in
+    not-true (is_being_removed j s) (subst (λ (k : ℕ). not (is_being_removed k s) ≡ true) id h.0.1)
 
 -- ---- as many as there are cyclics
 
-abbrev keep : Bool → Cyclic → List Cyclic → List Cyclic
+abbrev keep : Bool → CyclicState → List CyclicState → List CyclicState
 keep b y ys = cond b (y ∷ ys) ys
 
-others_less : (id : ℕ) (cs : List Cyclic) → IsSome (found id cs) → suc (length (others id cs)) ≤ length cs
+others_less : (id : ℕ) (cs : List CyclicState) → IsSome (found id cs) → suc (length (others id cs)) ≤ length cs
 others_less id [] some = absurd (cc)
 others_less id (x ∷ xs) some = dite (ℕ_discrete x.timer.id id)
     (λ e. let a = ap (λ (b : Bool). length (keep (not b) x (others id xs))) (eq-eqb x.timer.id id e)
@@ -212,7 +212,8 @@ others_less id (x ∷ xs) some = dite (ℕ_discrete x.timer.id id)
     (λ ne. let a = ap (λ (b : Bool). length (keep (not b) x (others id xs))) (ne_eqb x.timer.id id ne) in
     let r = others_less id xs (sym (ap is_some (first_not id x xs ne)) ∙ some) in omega (arith, a, r))
 
-pub fit_in : (low high : ℕ) (ps : List Placed) (cs : List Cyclic) → RiseTo low ps high → Each (λ p. IsSome (found p.id cs)) ps
+pub fit_in : (low high : ℕ) (ps : List Placed) (cs : List CyclicState) → RiseTo low ps high
+    → Each (λ p. IsSome (found p.id cs)) ps
     → length ps ≤ length cs
 fit_in low high [] cs rise h = omega arith
 fit_in low high (p ∷ ps) cs rise h =
@@ -231,10 +232,10 @@ few_cyclics c w =
     let m : bank_size c.lock.hard_bank ≤ bank_size greatest_bank = pow_mono {i = c.lock.hard_bank} {j = greatest_bank} bound in
     omega (arith, room, size, m)
 
-pub few_staying : (s : State) → Good s → length (staying s) ≤ most_cyclics
+pub few_staying : (s : State) → Good s → length (staying_omni s) ≤ most_cyclics
 few_staying s g =
     let n = g.spread.some.0 in
-    let fits = fit_in 0 s.last_id (staying s) (cpu_of n s).cyclics (staying_rise s g)
-    (each_then (Stays s) (λ p. IsSome (found p.id (cpu_of n s).cyclics)) (λ p h. h.full n g.spread.some.2) (staying s)
+    let fits = fit_in 0 s.last_id (staying_omni s) (cpu_of n s).cyclics (staying_rise s g)
+    (each_then (Stays s) (λ p. IsSome (found p.id (cpu_of n s).cyclics)) (λ p h. h.full n g.spread.some.2) (staying_omni s)
     (staying_all s g)) in
     let most = few_cyclics (cpu_of n s) (g.base.whole n) in omega (arith, fits, most)

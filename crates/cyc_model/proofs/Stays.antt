@@ -13,7 +13,7 @@ use Rattle.cyc_level.specs.Lawful.{IsId}
 use Rattle.cyc_level.specs.Events.{after, changed_at, admitted_cyclic}
 use Rattle.cyc_level.proofs.Maps.{some_same, some_of, none_some}
 use Rattle.cyc_model.specs.Acts.{at_own}
-use Rattle.cyc_model.specs.Cpu.{Cyclic, Cpu, Here, handler_level_of, others}
+use Rattle.cyc_model.specs.Cpu.{CyclicState, Cpu, Here, handler_level_of, others}
 use Rattle.cyc_model.specs.Questions.{outstanding_here}
 use Rattle.cyc_model.specs.Serving.{level_at}
 use Rattle.cyc_model.specs.Moving.{widen_here, put_in, place_here, enter_here, clear_here}
@@ -35,7 +35,8 @@ changed_elsewhere m id f j ne = ap (λ (b : Bool). cond b (f (m j)) (m j)) (ne_e
 
 -- ---- a stay begins
 
-module _ (n index : ℕ) (x : Cyclic) (c : Cpu) (w : Whole c) (is_id : IsId x.timer.id) (new : found x.timer.id c.cyclics ≡ None)
+module _ (n index : ℕ) (x : CyclicState) (c : Cpu) (w : Whole c) (is_id : IsId x.timer.id) (new : found x.timer.id c.cyclics ≡
+    None)
     (fits : length c.cyclics + 1 ≤ c.size) where
   with_it : Cpu
   with_it = record c { cyclics = put_in x c.cyclics }
@@ -127,7 +128,8 @@ module _ (n index : ℕ) (x : Cyclic) (c : Cpu) (w : Whole c) (is_id : IsId x.ti
       same_mark soft h = ⊎_elim (λ own. ap (λ (l : SoftLevel). l.marked) own.1)
           (λ away. ap (λ (l : SoftLevel). l.marked) away.1) h
 
-module _ (n index : ℕ) (x : Cyclic) (c : Cpu) (w : Whole c) (is_id : IsId x.timer.id) (new : found x.timer.id c.cyclics ≡ None)
+module _ (n index : ℕ) (x : CyclicState) (c : Cpu) (w : Whole c) (is_id : IsId x.timer.id) (new : found x.timer.id c.cyclics ≡
+    None)
     (can : CanGrow 1 c) where
   wide : Cpu
   wide = (widen_here n 1 c).cpu

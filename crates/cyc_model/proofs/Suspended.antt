@@ -16,7 +16,7 @@ use Rattle.cyc_script.specs.declared.step.Step.TheVariants.{Offline, Online, Sus
 use Rattle.cyc_model.specs.Acts.{Act, At, Call, at_own}
 use Rattle.cyc_model.specs.Serving.{looks, look, level_after, Interrupt, after_look, serve}
 use Rattle.cyc_model.specs.Questions.{Questions}
-use Rattle.cyc_model.specs.State.{State, Outcome, OnAll, online_cpus}
+use Rattle.cyc_model.specs.State.{State, Outcome, OnAll, cpus_online}
 use Rattle.cyc_model.specs.Places.{given}
 use Rattle.cyc_model.specs.Omni.{everywhere}
 use Rattle.cyc_model.specs.Refusals.{unless}
@@ -124,7 +124,7 @@ stays_suspended : (q : Questions) (texts : List (List ℕ)) (indexes : ℕ → �
 stays_suspended q texts indexes step (Add a) s is = refl
 stays_suspended q texts indexes step (Omni a) s is =
     let t = given a.name (OnAll (everywhere a)) s in
-    (still_enters indexes (s.last_id + 1) (everywhere a) (online_cpus t) t).suspended
+    (still_enters indexes (s.last_id + 1) (everywhere a) (cpus_online t) t).suspended
 stays_suspended q texts indexes step (Bind b) s is = (still_bind indexes step b s).suspended
 stays_suspended q texts indexes step (Unbind name) s is = (still_unbind step name s).suspended
 stays_suspended q texts indexes step (Reprogram r) s is = refl

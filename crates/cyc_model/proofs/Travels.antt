@@ -9,11 +9,11 @@ use Rattle.cyc_level.specs.Lawful.{IsId}
 use Rattle.cyc_level.proofs.Maps.{some_of, none_some}
 use Rattle.cyc_text.specs.declared.lines.Counts.{Counts}
 use Rattle.cyc_model.specs.Acts.{at_own, calls_of, losses_of}
-use Rattle.cyc_model.specs.Cpu.{Cyclic, Cpu, cyclic_of, handler_level_of}
+use Rattle.cyc_model.specs.Cpu.{CyclicState, Cpu, cyclic_with_id, handler_level_of}
 use Rattle.cyc_model.specs.Questions.{outstanding_here}
 use Rattle.cyc_model.specs.Moving.{take_here, enter_here, widen_here}
-use Rattle.cyc_model.specs.State.{State, Outcome, Placement, On, OnAll, Placed, on, cpu_of, followed_by}
-use Rattle.cyc_model.specs.Places.{placement_of, put_at, replaced, home_of, home_at, is_bound, is_everywhere}
+use Rattle.cyc_model.specs.State.{State, Outcome, Placement, On, OnAll, Placed, on_number, cpu_of, followed_by}
+use Rattle.cyc_model.specs.Places.{placement_of, put_at, replaced, home_of, home_at, is_bound, is_placed_everywhere}
 use Rattle.cyc_model.specs.Add.{enter}
 use Rattle.cyc_model.specs.Bind.{bring, move}
 use Rattle.cyc_model.specs.Kept.{Kept}
@@ -71,11 +71,12 @@ kept_put id n bound was s at = record {
       (λ e. let here = ap (λ (k : ℕ). placement_of k (put_at id (On n bound) s)) e
       ∙ place_put_same id (On n bound) s (On n was) at in
       let there = ap (λ (k : ℕ). placement_of k s) e ∙ at in (
-        ap is_everywhere here,
-        ap (λ o. cyclic_of j (cpu_of (home_at o) s)) (here ∙ by) ∙ sym (ap (λ o. cyclic_of j (cpu_of (home_at o) s)) there),
+        ap is_placed_everywhere here,
+        ap (λ o. cyclic_with_id j (cpu_of (home_at o) s)) (here ∙ by)
+            ∙ sym (ap (λ o. cyclic_with_id j (cpu_of (home_at o) s)) there),
       ))
       (λ ne. let same = place_put_other id j (On n bound) s ne in
-      (ap is_everywhere same ∙ single, ap (λ o. cyclic_of j (cpu_of (home_at o) s)) same));
+      (ap is_placed_everywhere same ∙ single, ap (λ o. cyclic_with_id j (cpu_of (home_at o) s)) same));
   counts = λ j. refl;
 }
   where
@@ -92,7 +93,7 @@ pub record Moved (id target : ℕ) (s : State) (o : Outcome) : Type 0 where
   pub removal : (m : ℕ) → (cpu_of m o.state).removal ≡ (cpu_of m s).removal
   pub online : (m : ℕ) → (cpu_of m o.state).online ≡ (cpu_of m s).online
   pub others : (j : ℕ) → j ≢ id → (m : ℕ) → found j (cpu_of m o.state).cyclics ≡ found j (cpu_of m s).cyclics
-  pub place : (bound : Bool) × (placement_of id o.state ≡ Some (On target bound))
+  pub placement : (bound : Bool) × (placement_of id o.state ≡ Some (On target bound))
   pub places : (j : ℕ) → j ≢ id → placement_of j o.state ≡ placement_of j s
 
 module _ (indexes : ℕ → ℕ) (id source target : ℕ) (s : State) (g : Good s) (bound : Bool) (at : placement_of id s
@@ -107,7 +108,7 @@ module _ (indexes : ℕ → ℕ) (id source target : ℕ) (s : State) (g : Good 
   taken = done_take source id (cpu_of source s) (g.base.whole source) free none
 
   abbrev t1 : State
-  t1 = (on source (take_here source id) s).state
+  t1 = (on_number source (take_here source id) s).state
 
   abbrev t2 : State
   t2 = put_at id (On target (is_bound id t1)) t1
@@ -146,12 +147,12 @@ module _ (indexes : ℕ → ℕ) (id source target : ℕ) (s : State) (g : Good 
       (λ ne. by (found id (cpu_of m t1).cyclics) refl (λ some. ne (sym (subst (λ o. IsAt m o) at
       (g.base.homes m id (subst (λ (c : Cpu). IsSome (found id c.cyclics)) (other1 m ne) some))))))
     where
-      by : (o : Option Cyclic) → found id (cpu_of m t1).cyclics ≡ o → (IsSome (found id (cpu_of m t1).cyclics) → ⊥)
+      by : (o : Option CyclicState) → found id (cpu_of m t1).cyclics ≡ o → (IsSome (found id (cpu_of m t1).cyclics) → ⊥)
           → found id (cpu_of m t1).cyclics ≡ None
       by None is never_some = is
       by (Some x) is never_some = absurd (never_some (ap is_some is))
 
-  goes1 : Goes (on source (take_here source id) s).acts s t1
+  goes1 : Goes (on_number source (take_here source id) s).acts s t1
   goes1 = goes_on source (take_here source id) (λ j. 0) s here taken None g.base (local_take source id) (λ j no. refl)
 
   place1 : placement_of id t2 ≡ Some (On target (is_bound id t1))
@@ -164,7 +165,7 @@ module _ (indexes : ℕ → ℕ) (id source target : ℕ) (s : State) (g : Good 
         (λ e. none_some ⊥ (On source bound) (placement_of j t1) gone.1 (ap (λ (k : ℕ). placement_of k t1) e ∙ at)) ∙ gone.1,
   )
 
-  module _ (x : Cyclic) (is : found id (cpu_of source s).cyclics ≡ Some x) where
+  module _ (x : CyclicState) (is : found id (cpu_of source s).cyclics ≡ Some x) where
     x_id : x.timer.id ≡ id
     x_id = found_id id x (cpu_of source s).cyclics is
 
@@ -258,7 +259,7 @@ module _ (indexes : ℕ → ℕ) (id source target : ℕ) (s : State) (g : Good 
       stands = λ j e is_all. dite (ℕ_discrete j id)
           (λ q. absurd (let no : Some (On target (is_bound id t1))
           ≡ Some (OnAll e) = sym (ap (λ (k : ℕ). placement_of k t2) q ∙ place1) ∙ is_all in
-          let no2 : false ≡ true = ap is_everywhere no in cc))
+          let no2 : false ≡ true = ap is_placed_everywhere no in cc))
           (λ ne. stands_still j s t3 (record { ids = λ m. ap is_some (others3 j ne m); removal = removal3; online = online3 })
           (g.spread.stands j e (sym (places3 j ne) ∙ is_all)));
     }
@@ -272,14 +273,14 @@ module _ (indexes : ℕ → ℕ) (id source target : ℕ) (s : State) (g : Good 
           cyclics = λ j single. dite (ℕ_discrete j id)
               (λ e. let now = ap (λ (k : ℕ). placement_of k t2) e ∙ place1 in let was = ap (λ (k : ℕ). placement_of k s) e
               ∙ at in (
-                ap is_everywhere now,
+                ap is_placed_everywhere now,
                 ap (λ o. found j (cpu_of (home_at o) t3).cyclics) now ∙ ap (λ (k : ℕ). found k (cpu_of target t3).cyclics) e
                     ∙ found3
                     ∙ sym is ∙ ap (λ (k : ℕ). found k (cpu_of source s).cyclics) (sym e)
                     ∙ ap (λ o. found j (cpu_of (home_at o) s).cyclics) (sym was),
               ))
               (λ ne. let same = places3 j ne in (
-                ap is_everywhere same ∙ single,
+                ap is_placed_everywhere same ∙ single,
                 ap (λ o. found j (cpu_of (home_at o) t3).cyclics) same ∙ others3 j ne (home_of j s),
               ));
           counts = λ j.
@@ -335,10 +336,10 @@ module _ (indexes : ℕ → ℕ) (id source target : ℕ) (s : State) (g : Good 
             → m2 ≡ 0 → p3 ≡ p
         same_pending p p1 p3 c1 m1 c2 m2 a b c d e f = omega (arith, a, b, c, d, e, f)
 
-    brought : Moved id target s (followed_by (on source (take_here source id) s)
+    brought : Moved id target s (followed_by (on_number source (take_here source id) s)
         (λ t. bring indexes target (Some x) (put_at id (On target (is_bound id t)) t)))
     brought = record {
-      goes = goes_append (on source (take_here source id) s).acts (enter indexes target x t2).acts s t1 t3 goes1
+      goes = goes_append (on_number source (take_here source id) s).acts (enter indexes target x t2).acts s t1 t3 goes1
           (goes_from (enter indexes target x t2).acts t1 t2 t3
           (enter_goes indexes target x t2 within2 base2 new2 is_id2 can2 at2) refl refl gone1);
       good = record { base = enter_base indexes target x t2 within2 base2 new2 is_id2 can2 at2; spread = spread3 };
@@ -346,12 +347,12 @@ module _ (indexes : ℕ → ℕ) (id source target : ℕ) (s : State) (g : Good 
       removal = removal3;
       online = online3;
       others = others3;
-      place = (is_bound id t1, place1);
+      placement = (is_bound id t1, place1);
       places = places3;
     }
 
   pub moved : Moved id target s (move indexes id source target s)
   moved =
       let x = some_of (found id (cpu_of source s).cyclics) (g.spread.home id source bound at) in
-      subst (λ o. Moved id target s (followed_by (on source (take_here source id) s)
+      subst (λ o. Moved id target s (followed_by (on_number source (take_here source id) s)
       (λ t. bring indexes target o (put_at id (On target (is_bound id t)) t)))) (sym x.1) (brought x.0 x.1)

@@ -12,14 +12,14 @@ use Rattle.cyc_script.specs.declared.step.Step.TheVariants.{Add, Omni, Bind, Unb
 use Rattle.cyc_script.specs.declared.step.Step.TheVariants.{Offline as OfflineStep, Online, Suspend, Resume}
 use Rattle.cyc_script.specs.declared.step.Add.{Add as AddStep}
 use Rattle.cyc_script.specs.declared.step.Softint.{Softint as SoftintStep}
-use Rattle.cyc_model.specs.Cpu.{Cyclic, Cpu, Here, cyclic_of, new_cpu, nothing_here}
+use Rattle.cyc_model.specs.Cpu.{CyclicState, Cpu, Here, cyclic_with_id, begun_cpu, nothing_here}
 use Rattle.cyc_model.specs.Serving.{serve_here, interrupt_here}
 use Rattle.cyc_model.specs.Firing.{due_here, fire_here}
 use Rattle.cyc_model.specs.Moving.{enter_here, take_here, widen_here, place_here, mark_here, clear_here, reprogram_here}
 use Rattle.cyc_model.specs.Questions.{plain, outstanding_here}
 use Rattle.cyc_model.specs.State.{State, Outcome, Placement, On, OnAll, Placed, Everywhere, nothing, told, before, followed_by}
-use Rattle.cyc_model.specs.State.{each, done_on, on, cpu_of, numbers, cpus_with, online_cpus}
-use Rattle.cyc_model.specs.Places.{id_of, is_bound, keep_counts, given, put_at, home_of, forgotten, without_ended, destination}
+use Rattle.cyc_model.specs.State.{each, done_on, on_number, cpu_of, numbers, cpus_having, cpus_online}
+use Rattle.cyc_model.specs.Places.{id_of, is_bound, keep_counts, given, put_at, home_of, forgotten, without_ended, destination_of}
 use Rattle.cyc_model.specs.Refusals.{unless, magnitude}
 use Rattle.cyc_model.specs.Add.{one_admitted, enter, add_at, added, add}
 use Rattle.cyc_model.specs.Omni.{enter_each, everywhere, component}
@@ -30,9 +30,9 @@ use Rattle.cyc_model.specs.Advance.{due_on, with_fired_line, advance}
 use Rattle.cyc_model.specs.Softint.{interrupt, with_ran_line, polled, with_poll, poll_id, poll_all, is_open, text_of_id}
 use Rattle.cyc_model.specs.Softint.{leaving_ids}
 use Rattle.cyc_model.specs.Juggle.{Turn, IsBound, IsPending, IsRefused, Moves, turn, turn_to, take_turn, Juggled, turn_first}
-use Rattle.cyc_model.specs.Juggle.{and_the_rest, juggle_each, juggled, single_ids, with_moved_line}
-use Rattle.cyc_model.specs.Offline.{retire, retire_all, go_offline, last_part, leaving, after_juggle, ids_on, any_pending}
-use Rattle.cyc_model.specs.Online.{return_at, return_of, return_all, go_online, staying, again}
+use Rattle.cyc_model.specs.Juggle.{and_the_rest, juggle_each, juggled, single_ids_of, with_moved_line}
+use Rattle.cyc_model.specs.Offline.{retire, retire_all, go_offline, last_part, leaving, after_juggle, ids_of_cpu, any_pending}
+use Rattle.cyc_model.specs.Online.{return_here, return_of, return_all, go_online, staying_omni, again}
 use Rattle.cyc_model.specs.Report.{expired_here, lost_here, counts_of, reports}
 use Rattle.cyc_model.specs.Script.{refusal_of, does, word, steps_from, text_in, no_indexes, start, run_on, with_report, text_on}
 use Rattle.cyc_model.proofs.Bare.{bare_act, bare_cpu, bare_here, calls_bare, calls_in_bare, losses_in_bare, fire_bare, idle_bare}
@@ -56,7 +56,7 @@ module _ (relabel : ℕ → ℕ) where
   }
 
   on_bare : (n : ℕ) (f g : Cpu → Here) → ((c : Cpu) → (bare_here relabel) (f c) ≡ g ((bare_cpu relabel) c))
-      → (IsBare relabel) (on n f) (on n g)
+      → (IsBare relabel) (on_number n f) (on_number n g)
   on_bare n f g same s =
       done_bare n (f (cpu_of n s)) s
       ∙ ap (λ (d : Here). done_on n d ((bare relabel) s)) (same (cpu_of n s) ∙ ap g (sym ((at_bare relabel) n s)))
@@ -84,14 +84,15 @@ module _ (relabel : ℕ → ℕ) where
       (each_bare f g one xs)
 
   module _ (indexes : ℕ → ℕ) where
-    enter_bare : (n : ℕ) (x : Cyclic) → (IsBare relabel) (enter indexes n x) (enter (λ k. relabel (indexes k)) n x)
+    enter_bare : (n : ℕ) (x : CyclicState) → (IsBare relabel) (enter indexes n x) (enter (λ k. relabel (indexes k)) n x)
     enter_bare n x s =
         ap one_admitted (on_bare n (enter_here n (indexes s.admissions) x) (enter_here n (relabel (indexes s.admissions)) x)
         ((enter_bare_here relabel) n (indexes s.admissions) x) s)
 
     add_bare : (step : ℕ) (a : AddStep) → (IsBare relabel) (add indexes step a) (add (λ k. relabel (indexes k)) step a)
     add_bare step a s =
-        ap (told (accepted step)) (enter_bare (destination None s) (added a s) (given a.name (On (destination None s) false) s))
+        ap (told (accepted step)) (enter_bare (destination_of None s) (added a s) (given a.name (On (destination_of None s)
+        false) s))
         ∙ ap (λ n. add_at (λ k. relabel (indexes k)) step n a ((bare relabel) s)) (sym ((target_bare relabel) None s))
 
     enter_each_bare : (id : ℕ) (e : Everywhere) → (IsBare relabel) (enter_each indexes id e)
@@ -99,23 +100,24 @@ module _ (relabel : ℕ → ℕ) where
     enter_each_bare id e s =
         each_bare (λ n t. enter indexes n (component id n e t.clock) t)
         (λ n t. enter (λ k. relabel (indexes k)) n (component id n e t.clock) t)
-        (λ n t. enter_bare n (component id n e t.clock) t) (online_cpus s) s
+        (λ n t. enter_bare n (component id n e t.clock) t) (cpus_online s) s
         ∙ ap (λ ns. each (λ n t. enter (λ k. relabel (indexes k)) n (component id n e t.clock) t) ns ((bare relabel) s))
         (sym ((online_bare relabel) s))
 
-    bring_bare : (n : ℕ) (x : Option Cyclic) → (IsBare relabel) (bring indexes n x) (bring (λ k. relabel (indexes k)) n x)
+    bring_bare : (n : ℕ) (x : Option CyclicState) → (IsBare relabel) (bring indexes n x) (bring (λ k. relabel (indexes k)) n x)
     bring_bare n None s = refl
     bring_bare n (Some x) s = enter_bare n x s
 
     move_bare : (id source target : ℕ) → (IsBare relabel) (move indexes id source target)
         (move (λ k. relabel (indexes k)) id source target)
     move_bare id source target s =
-        then_same (on source (take_here source id) s) (on source (take_here source id) ((bare relabel) s))
-        (λ t. bring indexes target (cyclic_of id (cpu_of source s)) (put_at id (On target (is_bound id t)) t))
-        (λ t. bring (λ k. relabel (indexes k)) target (cyclic_of id (cpu_of source s)) (put_at id (On target (is_bound id t)) t))
+        then_same (on_number source (take_here source id) s) (on_number source (take_here source id) ((bare relabel) s))
+        (λ t. bring indexes target (cyclic_with_id id (cpu_of source s)) (put_at id (On target (is_bound id t)) t))
+        (λ t. bring (λ k. relabel (indexes k)) target (cyclic_with_id id (cpu_of source s)) (put_at id (On target (is_bound id
+        t)) t))
         (on_bare source (take_here source id) (take_here source id) ((take_bare relabel) source id) s)
-        (λ t. bring_bare target (cyclic_of id (cpu_of source s)) (put_at id (On target (is_bound id t)) t))
-        ∙ ap (λ (x : Option Cyclic). followed_by (on source (take_here source id) ((bare relabel) s))
+        (λ t. bring_bare target (cyclic_with_id id (cpu_of source s)) (put_at id (On target (is_bound id t)) t))
+        ∙ ap (λ (x : Option CyclicState). followed_by (on_number source (take_here source id) ((bare relabel) s))
         (λ t. bring (λ k. relabel (indexes k)) target x (put_at id (On target (is_bound id t)) t)))
         (sym ((cyclic_bare relabel) id source s))
 
@@ -131,17 +133,18 @@ module _ (relabel : ℕ → ℕ) where
         (λ t. nothing (put_at id (On n true) t)) (λ t. nothing (put_at id (On n true) t))
         (move_unless_bare (home_of id s == n) id n s) (λ t. refl)
 
-  keep_bare : (n : ℕ) (x : Option Cyclic) (s : State) → (bare relabel) (keep_counts n x s) ≡ keep_counts n x ((bare relabel) s)
+  keep_bare : (n : ℕ) (x : Option CyclicState) (s : State) → (bare relabel) (keep_counts n x s) ≡ keep_counts n x ((bare
+      relabel) s)
   keep_bare n None s = refl
   keep_bare n (Some x) s = refl
 
   leaves_bare : (f : ℕ → Cpu → Here) → ((n : ℕ) (c : Cpu) → (bare_here relabel) (f n c) ≡ f n ((bare_cpu relabel) c)) → (id n : ℕ)
-      → (IsBare relabel) (λ s. on n (f n) (keep_counts n (cyclic_of id (cpu_of n s)) s))
-      (λ s. on n (f n) (keep_counts n (cyclic_of id (cpu_of n s)) s))
+      → (IsBare relabel) (λ s. on_number n (f n) (keep_counts n (cyclic_with_id id (cpu_of n s)) s))
+      (λ s. on_number n (f n) (keep_counts n (cyclic_with_id id (cpu_of n s)) s))
   leaves_bare f same id n s =
-      on_bare n (f n) (f n) (same n) (keep_counts n (cyclic_of id (cpu_of n s)) s)
-      ∙ ap (on n (f n)) (keep_bare n (cyclic_of id (cpu_of n s)) s
-      ∙ ap (λ (x : Option Cyclic). keep_counts n x ((bare relabel) s)) (sym ((cyclic_bare relabel) id n s)))
+      on_bare n (f n) (f n) (same n) (keep_counts n (cyclic_with_id id (cpu_of n s)) s)
+      ∙ ap (on_number n (f n)) (keep_bare n (cyclic_with_id id (cpu_of n s)) s
+      ∙ ap (λ (x : Option CyclicState). keep_counts n x ((bare relabel) s)) (sym ((cyclic_bare relabel) id n s)))
 
   clear_if_bare : (b : Bool) (id n : ℕ) → (IsBare relabel) (clear_if b id n) (clear_if b id n)
   clear_if_bare true id n s = leaves_bare (λ m. clear_here m id) (λ m. (clear_bare relabel) m id) id n s
@@ -154,7 +157,8 @@ module _ (relabel : ℕ → ℕ) where
 
   begin_bare : (id n : ℕ) → (IsBare relabel) (begin plain id n) (begin plain id n)
   begin_bare id n s =
-      then_same (on n (mark_here n id) s) (on n (mark_here n id) ((bare relabel) s)) (poll plain id n) (poll plain id n)
+      then_same (on_number n (mark_here n id) s) (on_number n (mark_here n id) ((bare relabel) s)) (poll plain id n) (poll
+      plain id n)
       (on_bare n (mark_here n id) (mark_here n id) ((mark_bare relabel) n id) s) (poll_bare id n)
 
   answered_bare : (step : ℕ) (text : List ℕ) (id : ℕ) (o : Outcome) → (bare_out relabel) (answered step text id o)
@@ -179,14 +183,14 @@ module _ (relabel : ℕ → ℕ) where
   with_answer_bare : (step : ℕ) (text : List ℕ) (id : ℕ) (o : Outcome)
       → (bare_out relabel) (with_answer plain step text id o) ≡ with_answer plain step text id ((bare_out relabel) o)
   with_answer_bare step text id o =
-      begun_bare step text id (cpus_with id o.state) o
+      begun_bare step text id (cpus_having id o.state) o
       ∙ ap (λ ns. begun plain step text id ns ((bare_out relabel) o)) (sym ((with_bare relabel) id o.state))
 
   remove_bare : (step : ℕ) (text : List ℕ) (id : ℕ) → (IsBare relabel) (remove_id plain step text id)
       (remove_id plain step text id)
   remove_bare step text id s =
-      with_answer_bare step text id (each (begin plain id) (cpus_with id s) s)
-      ∙ ap (with_answer plain step text id) (each_bare (begin plain id) (begin plain id) (begin_bare id) (cpus_with id s) s
+      with_answer_bare step text id (each (begin plain id) (cpus_having id s) s)
+      ∙ ap (with_answer plain step text id) (each_bare (begin plain id) (begin plain id) (begin_bare id) (cpus_having id s) s
       ∙ ap (λ ns. each (begin plain id) ns ((bare relabel) s)) (sym ((with_bare relabel) id s)))
 
   polled_bare : (step : ℕ) (text : List ℕ) (id : ℕ) (ns : List ℕ) (o : Outcome)
@@ -197,7 +201,7 @@ module _ (relabel : ℕ → ℕ) where
   with_poll_bare : (step : ℕ) (text : List ℕ) (id : ℕ) (o : Outcome) → (bare_out relabel) (with_poll step text id o)
       ≡ with_poll step text id ((bare_out relabel) o)
   with_poll_bare step text id o =
-      polled_bare step text id (cpus_with id o.state) o
+      polled_bare step text id (cpus_having id o.state) o
       ∙ ap (λ ns. polled step text id ns ((bare_out relabel) o)) (sym ((with_bare relabel) id o.state))
 
   poll_id_bare : (texts : List (List ℕ)) (step id : ℕ) → (IsBare relabel) (poll_id plain texts step id)
@@ -221,7 +225,7 @@ module _ (relabel : ℕ → ℕ) where
             (((idle_bare relabel) i.cpu i.level i.budget (cpu_of i.cpu s)
             ∙ ap (λ (c : Cpu). (interrupt_here i.cpu i.level i.budget c).idle) (sym ((at_bare relabel) i.cpu s))) z);
         acts = map (bare_act relabel) (serve_here i.cpu i.level i.budget (cpu_of i.cpu s)).acts;
-        state = (bare relabel) (on i.cpu (serve_here i.cpu i.level i.budget) s).state;
+        state = (bare relabel) (on_number i.cpu (serve_here i.cpu i.level i.budget) s).state;
       })
       ∙ ap (with_ran_line step (interrupt_here i.cpu i.level i.budget (cpu_of i.cpu ((bare relabel) s))).idle)
       (on_bare i.cpu (serve_here i.cpu i.level i.budget) (serve_here i.cpu i.level i.budget)
@@ -233,16 +237,16 @@ module _ (relabel : ℕ → ℕ) where
   advance_bare : (step now : ℕ) → (IsBare relabel) (advance step now) (advance step now)
   advance_bare step now s =
       (λ z. record {
-        line = fired_line step ((sym (due_bare now (online_cpus s) s)) z)
-            ((sym ((losses_in_bare relabel) (each (λ n. on n (fire_here n now)) (online_cpus s) t).acts)) z);
-        acts = map (bare_act relabel) (each (λ n. on n (fire_here n now)) (online_cpus s) t).acts;
-        state = (bare relabel) (each (λ n. on n (fire_here n now)) (online_cpus s) t).state;
+        line = fired_line step ((sym (due_bare now (cpus_online s) s)) z)
+            ((sym ((losses_in_bare relabel) (each (λ n. on_number n (fire_here n now)) (cpus_online s) t).acts)) z);
+        acts = map (bare_act relabel) (each (λ n. on_number n (fire_here n now)) (cpus_online s) t).acts;
+        state = (bare relabel) (each (λ n. on_number n (fire_here n now)) (cpus_online s) t).state;
       })
-      ∙ ap (with_fired_line step (due_on now (online_cpus s) ((bare relabel) s)))
-      (each_bare (λ n. on n (fire_here n now)) (λ n. on n (fire_here n now))
-      (λ n. on_bare n (fire_here n now) (fire_here n now) ((fire_bare relabel) n now)) (online_cpus s) t)
+      ∙ ap (with_fired_line step (due_on now (cpus_online s) ((bare relabel) s)))
+      (each_bare (λ n. on_number n (fire_here n now)) (λ n. on_number n (fire_here n now))
+      (λ n. on_bare n (fire_here n now) (fire_here n now) ((fire_bare relabel) n now)) (cpus_online s) t)
       ∙ ap (λ ns. with_fired_line step (due_on now ns ((bare relabel) s))
-      (each (λ n. on n (fire_here n now)) ns ((bare relabel) t)))
+      (each (λ n. on_number n (fire_here n now)) ns ((bare relabel) t)))
       (sym ((online_bare relabel) s))
     where
       t : State
@@ -254,11 +258,11 @@ module _ (relabel : ℕ → ℕ) where
   turn_bare source id s = λ z. cond (is_bound id s) IsBound
       (cond (nat_lt 0 ((out_bare relabel) source id s z)) IsPending (to_bare z))
     where
-      to_bare : turn_to plain id (destination (Some source) ((bare relabel) s)) ((bare relabel) s)
-          ≡ turn_to plain id (destination (Some source) s) s
+      to_bare : turn_to plain id (destination_of (Some source) ((bare relabel) s)) ((bare relabel) s)
+          ≡ turn_to plain id (destination_of (Some source) s) s
       to_bare =
-          (λ z. cond (is_some ((room_bare relabel) (destination (Some source) ((bare relabel) s)) id 1 s z)) IsRefused
-          (Moves (destination (Some source) ((bare relabel) s))))
+          (λ z. cond (is_some ((room_bare relabel) (destination_of (Some source) ((bare relabel) s)) id 1 s z)) IsRefused
+          (Moves (destination_of (Some source) ((bare relabel) s))))
           ∙ ap (λ n. turn_to plain id n s) ((target_bare relabel) (Some source) s)
 
   abbrev bare_juggled : Juggled → Juggled
@@ -293,15 +297,15 @@ module _ (relabel : ℕ → ℕ) where
     juggled_bare : (n : ℕ) (s : State) → bare_juggled (juggled plain indexes n s)
         ≡ juggled plain (λ k. relabel (indexes k)) n ((bare relabel) s)
     juggled_bare n s =
-        turns_bare n (single_ids n s) s ∙ ap (λ ids. juggle_each plain (λ k. relabel (indexes k)) n ids ((bare relabel) s))
+        turns_bare n (single_ids_of n s) s ∙ ap (λ ids. juggle_each plain (λ k. relabel (indexes k)) n ids ((bare relabel) s))
         (sym ((single_bare relabel) n s))
 
   retire_all_bare : (n : ℕ) → (IsBare relabel) (retire_all n) (retire_all n)
   retire_all_bare n s =
-      then_same (each (retire n) (ids_on n s) s) (each (retire n) (ids_on n ((bare relabel) s)) ((bare relabel) s))
-      (on n (λ c. nothing_here (go_offline c))) (on n (λ c. nothing_here (go_offline c)))
+      then_same (each (retire n) (ids_of_cpu n s) s) (each (retire n) (ids_of_cpu n ((bare relabel) s)) ((bare relabel) s))
+      (on_number n (λ c. nothing_here (go_offline c))) (on_number n (λ c. nothing_here (go_offline c)))
       (each_bare (retire n) (retire n) (λ id. leaves_bare (λ m. take_here m id) (λ m. (take_bare relabel) m id) id n)
-      (ids_on n s) s
+      (ids_of_cpu n s) s
       ∙ ap (λ ids. each (retire n) ids ((bare relabel) s)) (sym ((ids_bare relabel) n s)))
       (on_bare n (λ c. nothing_here (go_offline c)) (λ c. nothing_here (go_offline c)) (λ c. refl))
 
@@ -317,16 +321,16 @@ module _ (relabel : ℕ → ℕ) where
       ≡ leaving plain step n ids (bare_juggled j)
   leaving_out step n (id ∷ ids) j = refl
   leaving_out step n [] j =
-      last_bare_part (any_pending plain n (ids_on n j.outcome.state) j.outcome.state) step n j.outcome
+      last_bare_part (any_pending plain n (ids_of_cpu n j.outcome.state) j.outcome.state) step n j.outcome
       ∙ ap (λ b. last_part b step n ((bare_out relabel) j.outcome))
-      (sym (any_pending_bare n (ids_on n j.outcome.state) j.outcome.state))
+      (sym (any_pending_bare n (ids_of_cpu n j.outcome.state) j.outcome.state))
       ∙ ap (λ ids. last_part (any_pending plain n ids ((bare relabel) j.outcome.state)) step n ((bare_out relabel) j.outcome))
       (sym ((ids_bare relabel) n j.outcome.state))
 
   after_juggle_bare : (step n : ℕ) (j : Juggled) → (bare_out relabel) (after_juggle plain step n j)
       ≡ after_juggle plain step n (bare_juggled j)
   after_juggle_bare step n j =
-      leaving_out step n (single_ids n j.outcome.state) j
+      leaving_out step n (single_ids_of n j.outcome.state) j
       ∙ ap (λ ids. leaving plain step n ids (bare_juggled j)) (sym ((single_bare relabel) n j.outcome.state))
 
   meant_bare : (n : Option ℕ) (id : ℕ) (s : State) → cpu_meant n id s ≡ cpu_meant n id ((bare relabel) s)
@@ -334,8 +338,8 @@ module _ (relabel : ℕ → ℕ) where
   meant_bare (Some n) id s = refl
 
   module _ (indexes : ℕ → ℕ) where
-    return_bare : (n id : ℕ) (p : Placement) → (IsBare relabel) (return_at indexes n id p)
-        (return_at (λ k. relabel (indexes k)) n id p)
+    return_bare : (n id : ℕ) (p : Placement) → (IsBare relabel) (return_here indexes n id p)
+        (return_here (λ k. relabel (indexes k)) n id p)
     return_bare n id (On m bound) s = refl
     return_bare n id (OnAll e) s =
         ap one_admitted (on_bare n (place_here n (indexes s.admissions) (again id n e (s.ended id n) s.clock))
@@ -345,13 +349,13 @@ module _ (relabel : ℕ → ℕ) where
     return_all_bare : (n : ℕ) (ps : List Placed) → (IsBare relabel) (return_all indexes n ps)
         (return_all (λ k. relabel (indexes k)) n ps)
     return_all_bare n ps s =
-        then_same (on n (widen_here n (length ps)) s) (on n (widen_here n (length ps)) ((bare relabel) s))
-        (λ t. followed_by (each (return_of indexes n) ps t) (on n (λ c. nothing_here (go_online c))))
-        (λ t. followed_by (each (return_of (λ k. relabel (indexes k)) n) ps t) (on n (λ c. nothing_here (go_online c))))
+        then_same (on_number n (widen_here n (length ps)) s) (on_number n (widen_here n (length ps)) ((bare relabel) s))
+        (λ t. followed_by (each (return_of indexes n) ps t) (on_number n (λ c. nothing_here (go_online c))))
+        (λ t. followed_by (each (return_of (λ k. relabel (indexes k)) n) ps t) (on_number n (λ c. nothing_here (go_online c))))
         (on_bare n (widen_here n (length ps)) (widen_here n (length ps)) ((widen_bare relabel) n (length ps)) s)
         (λ t. then_same (each (return_of indexes n) ps t) (each (return_of (λ k. relabel (indexes k)) n) ps ((bare relabel) t))
-        (on n (λ c. nothing_here (go_online c))) (on n (λ c. nothing_here (go_online c)))
-        (each_bare (return_of indexes n) (return_of (λ k. relabel (indexes k)) n) (λ p. return_bare n p.id p.place) ps t)
+        (on_number n (λ c. nothing_here (go_online c))) (on_number n (λ c. nothing_here (go_online c)))
+        (each_bare (return_of indexes n) (return_of (λ k. relabel (indexes k)) n) (λ p. return_bare n p.id p.placement) ps t)
         (on_bare n (λ c. nothing_here (go_online c)) (λ c. nothing_here (go_online c)) (λ c. refl)))
 
     -- ---- all words
@@ -367,7 +371,7 @@ module _ (relabel : ℕ → ℕ) where
         ap (told (accepted step))
         (on_bare (cpu_meant r.cpu (id_of r.name s) s) (reprogram_here (id_of r.name s) (magnitude r.moment))
         (reprogram_here (id_of r.name s) (magnitude r.moment)) (λ c. refl) s
-        ∙ ap (λ n. on n (reprogram_here (id_of r.name s) (magnitude r.moment)) ((bare relabel) s))
+        ∙ ap (λ n. on_number n (reprogram_here (id_of r.name s) (magnitude r.moment)) ((bare relabel) s))
         (meant_bare r.cpu (id_of r.name s) s))
     does_bare texts step (Remove name) s = remove_bare step (text_in texts name) (id_of name s) s
     does_bare texts step (Advance now) s = advance_bare step now s
@@ -379,7 +383,7 @@ module _ (relabel : ℕ → ℕ) where
     does_bare texts step (OfflineStep n) s = after_juggle_bare step n (juggled plain indexes n s)
         ∙ ap (after_juggle plain step n) (juggled_bare indexes n s)
     does_bare texts step (Online n) s =
-        ap (told (accepted step)) (return_all_bare n (staying s) s
+        ap (told (accepted step)) (return_all_bare n (staying_omni s) s
         ∙ ap (λ (ps : List Placed). return_all (λ k. relabel (indexes k)) n ps ((bare relabel) s))
         (sym ((staying_bare relabel) s)))
     does_bare texts step Suspend s = refl
@@ -429,9 +433,9 @@ module _ (relabel : ℕ → ℕ) where
   reports_bare name [] s = refl
   reports_bare name (text ∷ texts) s = λ z. reported text (counts_bare (id_of name s) s z) ++ reports_bare (name + 1) texts s z
 
-  replicate_bare : (n ceiling : ℕ) → map (bare_cpu relabel) (replicate n (new_cpu ceiling)) ≡ replicate n (new_cpu ceiling)
+  replicate_bare : (n ceiling : ℕ) → map (bare_cpu relabel) (replicate n (begun_cpu ceiling)) ≡ replicate n (begun_cpu ceiling)
   replicate_bare zero ceiling = refl
-  replicate_bare (suc n) ceiling = ap (λ cs. new_cpu ceiling ∷ cs) (replicate_bare n ceiling)
+  replicate_bare (suc n) ceiling = ap (λ cs. begun_cpu ceiling ∷ cs) (replicate_bare n ceiling)
 
   start_bare : (cpus ceiling names : ℕ) → (bare relabel) (start cpus ceiling names) ≡ start cpus ceiling names
   start_bare cpus ceiling names = λ z. record (start cpus ceiling names) { cpus = replicate_bare cpus ceiling z }

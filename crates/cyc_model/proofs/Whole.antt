@@ -14,11 +14,11 @@ use Rattle.cyc_level.specs.Level.{SoftLevel, AdmittedCyclic, Cyclics, count, cou
 use Rattle.cyc_level.specs.Events.{after, after_finish, changed_at, cyclic_after_expire, cyclic_after_lose, cyclic_after_finish}
 use Rattle.cyc_level.proofs.Maps.{is_some_of}
 use Rattle.cyc_model.specs.Acts.{Act, At, Call, at_own, same_soft, events_at, calls_of, losses_of, loss_of}
-use Rattle.cyc_model.specs.Cpu.{Cyclic, Cpu, Here, cpu_after, happen, then_here, handler_level_of}
+use Rattle.cyc_model.specs.Cpu.{CyclicState, Cpu, Here, cpu_after, happen, then_here, handler_level_of}
 use Rattle.cyc_model.specs.Questions.{outstanding_here}
 use Rattle.cyc_model.specs.Serving.{level_at, level_after}
 use Rattle.cyc_types.specs.Levels.{as_level}
-use Rattle.cyc_model.specs.Agreement.{Agrees}
+use Rattle.cyc_model.specs.Agreement.{StateAgrees}
 use Rattle.cyc_model.proofs.Agreement.{AllActs}
 use Rattle.cyc_model.proofs.Events.{events_append, calls_append, zero_first}
 use Rattle.cyc_model.proofs.Local.{Local}
@@ -26,7 +26,7 @@ use Rattle.cyc_model.proofs.Rising.{Rising, found}
 use Rattle.cyc_model.proofs.Fit.{Fit, AllRest, fit_along, count_along, all_finishes, all_brings}
 
 pub record Whole (c : Cpu) : Type 0 where
-  pub agrees : Agrees c
+  pub agrees : StateAgrees c
   pub free : (soft : Soft) → (level_at soft c).firer_hand ≡ None
   pub fit : (soft : Soft) → Fit (level_at soft c)
   -- what is admitted is a cyclic of the level
@@ -39,7 +39,7 @@ pub record Whole (c : Cpu) : Type 0 where
   pub rising : Rising 0 c.cyclics
   pub room : length c.cyclics ≤ c.size
   -- it doesn't expire, and is on the CPU
-  pub still : (id : ℕ) (x : Cyclic) → c.removal ≡ Some id → found id c.cyclics ≡ Some x → x.timer.moment ≡ never
+  pub still : (id : ℕ) (x : CyclicState) → c.removal ≡ Some id → found id c.cyclics ≡ Some x → x.timer.moment ≡ never
   pub held : (id : ℕ) → c.removal ≡ Some id → IsSome (found id c.cyclics)
 
 -- ---- acts change the levels alone
@@ -184,7 +184,7 @@ module _ (n : ℕ) (c : Cpu) (d : Here) (w : Whole c) (h : Local n c d) (rest : 
   }
     where
       at_level : (id : ℕ) → handler_level_of id d.cpu ≡ handler_level_of id c
-      at_level id = ap (λ cs. option_map_or (λ (x : Cyclic). x.timer.level) (found id cs) level.High) cyclics
+      at_level id = ap (λ cs. option_map_or (λ (x : CyclicState). x.timer.level) (found id cs) level.High) cyclics
 
       same_mark : (soft : Soft) → (level_at soft d.cpu).marked ≡ (level_at soft c).marked
       same_mark soft = ap (λ (l : SoftLevel). l.marked) (h.levels soft)
@@ -262,7 +262,7 @@ high_is_none Lock is = let no : level.High ≡ level.Lock = is in absurd (cc)
 
 pub no_level : (id : ℕ) (c : Cpu) → found id c.cyclics ≡ None → (soft : Soft) → handler_level_of id c ≢ as_level soft
 no_level id c none soft is =
-    high_is_none soft (ap (λ o. option_map_or (λ (x : Cyclic). x.timer.level) o level.High) (sym none) ∙ is)
+    high_is_none soft (ap (λ o. option_map_or (λ (x : CyclicState). x.timer.level) o level.High) (sym none) ∙ is)
 
 -- what isn't at a level isn't admitted there
 pub not_admitted : (soft : Soft) (id : ℕ) (c : Cpu) → Whole c → handler_level_of id c ≢ as_level soft

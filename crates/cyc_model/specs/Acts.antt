@@ -36,14 +36,14 @@ events_at n soft [] = []
 events_at n soft (act ∷ acts) = event_at n soft act ++ events_at n soft acts
 
 -- one where the act calls the handler of this id
-abbrev pub call_of : ℕ → Act → ℕ
-call_of id (At n soft event) = 0
-call_of id (Call j) = if j == id then 1 else 0
+abbrev pub call_in : ℕ → Act → ℕ
+call_in id (At n soft event) = 0
+call_in id (Call j) = if j == id then 1 else 0
 
 -- how often the handler of this id is called
 abbrev pub calls_of : ℕ → List Act → ℕ
 calls_of id [] = 0
-calls_of id (act ∷ acts) = call_of id act + calls_of id acts
+calls_of id (act ∷ acts) = call_in id act + calls_of id acts
 
 -- one where the act is a call
 abbrev pub is_call : Act → ℕ
@@ -51,9 +51,9 @@ is_call (At n soft event) = 0
 is_call (Call id) = 1
 
 -- how many handlers are called
-abbrev pub calls_in : List Act → ℕ
-calls_in [] = 0
-calls_in (act ∷ acts) = is_call act + calls_in acts
+abbrev pub handler_calls : List Act → ℕ
+handler_calls [] = 0
+handler_calls (act ∷ acts) = is_call act + handler_calls acts
 
 -- one where the event loses an expiration of this id
 abbrev pub loss_of : ℕ → Event → ℕ
@@ -72,7 +72,7 @@ is_loss (Lose id) = 1
 is_loss _ = 0
 
 -- how many expirations are lost
-abbrev pub losses_in : List Act → ℕ
-losses_in [] = 0
-losses_in (At n soft event ∷ acts) = is_loss event + losses_in acts
-losses_in (Call id ∷ acts) = losses_in acts
+abbrev pub all_losses : List Act → ℕ
+all_losses [] = 0
+all_losses (At n soft event ∷ acts) = is_loss event + all_losses acts
+all_losses (Call id ∷ acts) = all_losses acts

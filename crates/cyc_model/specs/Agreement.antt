@@ -18,7 +18,7 @@ use Rattle.cyc_model.specs.State.{State}
 use Rattle.cyc_model.specs.Script.{steps_from}
 use Rattle.cyc_model.specs.Laws.{level_on, HandsAreFree}
 
-pub record Agrees (c : Cpu) : Type 0 where
+pub record StateAgrees (c : Cpu) : Type 0 where
   -- both soft levels fill the same bank, and there is one index for each of its slots
   pub one_bank : c.low.hard_bank ≡ c.lock.hard_bank
   pub size : c.size ≡ bank_size c.lock.hard_bank
@@ -28,7 +28,7 @@ pub record Agrees (c : Cpu) : Type 0 where
 -- each of these CPUs does
 abbrev pub AllAgree : List Cpu → Type 0
 AllAgree [] = ⊤
-AllAgree (c ∷ cs) = Agrees c × AllAgree cs
+AllAgree (c ∷ cs) = StateAgrees c × AllAgree cs
 
 -- in the machine that any steps leave
 abbrev pub CpusAgree : Type 0
@@ -37,19 +37,19 @@ CpusAgree = (q : Questions) (texts : List (List ℕ)) (indexes : ℕ → ℕ) (s
 
 -- what an event of the firing side finds: the firer's hand is empty, the cyclic is admitted, and its pend is at the ceiling just
 -- where its expiration is lost
-abbrev pub IsReady : Event → SoftLevel → Type 0
-IsReady (Admit id index) l = l.firer_hand ≡ None
-IsReady (Expire id) l = (l.firer_hand ≡ None) × IsSome (l.cyclics id) × (count l id ≢ l.ceiling)
-IsReady (Lose id) l = (l.firer_hand ≡ None) × IsSome (l.cyclics id) × (count l id ≡ l.ceiling)
-IsReady (Mark id) l = (l.firer_hand ≡ None) × IsSome (l.cyclics id)
-IsReady (Clear id) l = l.firer_hand ≡ None
-IsReady (Switch bank) l = l.firer_hand ≡ None
-IsReady _ l = ⊤
+abbrev pub IsReadyToExpire : Event → SoftLevel → Type 0
+IsReadyToExpire (Admit id index) l = l.firer_hand ≡ None
+IsReadyToExpire (Expire id) l = (l.firer_hand ≡ None) × IsSome (l.cyclics id) × (count l id ≢ l.ceiling)
+IsReadyToExpire (Lose id) l = (l.firer_hand ≡ None) × IsSome (l.cyclics id) × (count l id ≡ l.ceiling)
+IsReadyToExpire (Mark id) l = (l.firer_hand ≡ None) × IsSome (l.cyclics id)
+IsReadyToExpire (Clear id) l = l.firer_hand ≡ None
+IsReadyToExpire (Switch bank) l = l.firer_hand ≡ None
+IsReadyToExpire _ l = ⊤
 
 -- the same of each of these, when it happens
 abbrev pub AllReady : List Event → SoftLevel → Type 0
 AllReady [] l = ⊤
-AllReady (event ∷ events) l = IsReady event l × AllReady events (after event l)
+AllReady (event ∷ events) l = IsReadyToExpire event l × AllReady events (after event l)
 
 -- in any run from a machine whose CPUs agree, with no cyclic in a firer's hand
 abbrev pub FiringSideIsReady : Type 0

@@ -37,13 +37,13 @@ AllCanAsFiring [] l = ⊤
 AllCanAsFiring (event ∷ events) l = CanAsFiring event l × AllCanAsFiring events (after event l)
 
 -- the laws of a level hold: no expiration is forgotten, and no list outgrows its bank
-abbrev pub IsSound : SoftLevel → Type 0
-IsSound l = Lawful l × IsConserved l
+abbrev pub IsSoundLevel : SoftLevel → Type 0
+IsSoundLevel l = Lawful l × IsConserved l
 
 -- before the first of these events and after each
 abbrev pub AllAlong : List Event → SoftLevel → Type 0
-AllAlong [] l = IsSound l
-AllAlong (event ∷ events) l = IsSound l × AllAlong events (after event l)
+AllAlong [] l = IsSoundLevel l
+AllAlong (event ∷ events) l = IsSoundLevel l × AllAlong events (after event l)
 
 -- in any run, each soft level that is lawful before it is lawful and conserved before the first and after each of its events,
 -- and so in the machine that the run leaves, if each of its events has what is left to ask when it happens
@@ -52,4 +52,4 @@ LevelsStayLawful = (q : Questions) (texts : List (List ℕ)) (indexes : ℕ → 
     → HandsAreFree s → AllAgree s.cpus → (n : ℕ) → n < length s.cpus → (soft : Soft) → Lawful (level_on n soft s)
     → AllCanAsFiring (events_at n soft (steps_from q texts indexes step xs s).acts) (level_on n soft s)
     → AllAlong (events_at n soft (steps_from q texts indexes step xs s).acts) (level_on n soft s)
-    × IsSound (level_on n soft (steps_from q texts indexes step xs s).state)
+    × IsSoundLevel (level_on n soft (steps_from q texts indexes step xs s).state)

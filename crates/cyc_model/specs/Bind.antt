@@ -4,34 +4,34 @@ use Rattle.cyc_types.specs.declared.refusal.Refusal.{Refusal}
 use Rattle.cyc_types.specs.declared.refusal.Refusal.TheVariants.{NoCyclic, Pending, Omnipresent}
 use Rattle.cyc_text.specs.Lines.{accepted}
 use Rattle.cyc_script.specs.declared.step.Bind.{Bind as BindStep}
-use Rattle.cyc_model.specs.Cpu.{Cyclic, cyclic_of}
+use Rattle.cyc_model.specs.Cpu.{CyclicState, cyclic_with_id}
 use Rattle.cyc_model.specs.Moving.{take_here}
 use Rattle.cyc_model.specs.Questions.{Questions}
-use Rattle.cyc_model.specs.State.{State, Outcome, On, cpu_of, on, nothing, told, followed_by}
-use Rattle.cyc_model.specs.Places.{id_of, is_unknown, is_leaving, is_omnipresent, is_bound, home_of, put_at}
+use Rattle.cyc_model.specs.State.{State, Outcome, On, cpu_of, on_number, nothing, told, followed_by}
+use Rattle.cyc_model.specs.Places.{id_of, is_no_cyclic, is_being_removed, is_omni, is_bound, home_of, put_at}
 use Rattle.cyc_types.specs.Reasons.{first_refusal, when, busy}
-use Rattle.cyc_model.specs.Refusals.{no_cpu, offline_cpu, no_room}
+use Rattle.cyc_model.specs.Refusals.{is_no_cpu, cpu_is_offline, no_room}
 use Rattle.cyc_model.specs.Add.{enter}
 
 -- there is no such cyclic, or its removal is open
-abbrev pub no_cyclic : ℕ → State → Option Refusal
-no_cyclic id s = when (is_unknown id s || is_leaving id s) NoCyclic
+abbrev pub cyclic_is_absent : ℕ → State → Option Refusal
+cyclic_is_absent id s = when (is_no_cyclic id s || is_being_removed id s) NoCyclic
 
-abbrev pub omnipresent : ℕ → State → Option Refusal
-omnipresent id s = when (is_omnipresent id s) Omnipresent
+abbrev pub cyclic_is_omni : ℕ → State → Option Refusal
+cyclic_is_omni id s = when (is_omni id s) Omnipresent
 
 abbrev pub pending : Questions → ℕ → ℕ → State → Option Refusal
 pending q n id s = when (nat_lt 0 (q.outstanding n id (cpu_of n s))) Pending
 
 -- a cyclic that was taken from its CPU comes to another
-abbrev pub bring : (ℕ → ℕ) → ℕ → Option Cyclic → State → Outcome
+abbrev pub bring : (ℕ → ℕ) → ℕ → Option CyclicState → State → Outcome
 bring indexes target None s = nothing s
 bring indexes target (Some x) s = enter indexes target x s
 
 -- the cyclic moves with its id, its moment and its counts (cyclic_juggle_one_to)
 abbrev pub move : (ℕ → ℕ) → ℕ → ℕ → ℕ → State → Outcome
-move indexes id source target s = followed_by (on source (take_here source id) s)
-    (λ t. bring indexes target (cyclic_of id (cpu_of source s)) (put_at id (On target (is_bound id t)) t))
+move indexes id source target s = followed_by (on_number source (take_here source id) s)
+    (λ t. bring indexes target (cyclic_with_id id (cpu_of source s)) (put_at id (On target (is_bound id t)) t))
 
 -- why a cyclic of this CPU can't go to that one
 abbrev pub move_refusals : Questions → ℕ → ℕ → ℕ → State → List (Option Refusal)
@@ -44,7 +44,7 @@ unless_there true whys = []
 unless_there false whys = whys
 
 abbrev pub bind_id_refusal : Questions → ℕ → ℕ → State → Option Refusal
-bind_id_refusal q id n s = first_refusal (no_cyclic id s ∷ omnipresent id s ∷ no_cpu n s ∷ offline_cpu n s
+bind_id_refusal q id n s = first_refusal (cyclic_is_absent id s ∷ cyclic_is_omni id s ∷ is_no_cpu n s ∷ cpu_is_offline n s
     ∷ unless_there (home_of id s == n) (move_refusals q id (home_of id s) n s))
 
 abbrev pub bind_refusal : Questions → BindStep → State → Option Refusal
@@ -62,7 +62,7 @@ abbrev pub bind : (ℕ → ℕ) → ℕ → BindStep → State → Outcome
 bind indexes step b s = told (accepted step) (bind_id indexes (id_of b.name s) b.cpu s)
 
 abbrev pub unbind_refusal : ℕ → State → Option Refusal
-unbind_refusal name s = first_refusal (no_cyclic (id_of name s) s ∷ omnipresent (id_of name s) s ∷ [])
+unbind_refusal name s = first_refusal (cyclic_is_absent (id_of name s) s ∷ cyclic_is_omni (id_of name s) s ∷ [])
 
 abbrev pub unbind : ℕ → ℕ → State → Outcome
 unbind step name s = told (accepted step) (nothing (put_at (id_of name s) (On (home_of (id_of name s) s) false) s))

@@ -1,9 +1,10 @@
 -- How great the numbers of a run can get.
 use Rattle.std.specs.Prelude.{◌≡◌, ℕ, ◌+◌, ◌*◌, ◌^◌, ◌<◌, ◌≤◌, List, length, Some}
 use Rattle.cyc_types.specs.Series.{late}
-use Rattle.cyc_script.specs.Limits.{most_steps, most_cpus}
+use Rattle.cyc_types.specs.Limits.{most_cpus}
+use Rattle.cyc_script.specs.Limits.{most_steps}
 use Rattle.cyc_script.specs.declared.step.Step.{Step}
-use Rattle.cyc_model.specs.Cpu.{Cyclic, cyclic_of}
+use Rattle.cyc_model.specs.Cpu.{CyclicState, cyclic_with_id}
 use Rattle.cyc_model.specs.State.{State, cpu_of}
 use Rattle.cyc_model.specs.Report.{counts_of}
 use Rattle.cyc_model.specs.Script.{run_on}
@@ -20,7 +21,7 @@ pub record AreFew (steps : ℕ) (s : State) : Type 0 where
   pub expired : (id : ℕ) → (counts_of id s).expired ≤ steps * most_in_a_step
   pub called : (id : ℕ) → (counts_of id s).called ≤ steps * most_in_a_step
   -- in a stay, with what it carried from earlier ones
-  pub stays : (id n : ℕ) (x : Cyclic) → cyclic_of id (cpu_of n s) ≡ Some x → x.timer.expired ≤ steps * most_in_a_step
+  pub stays : (id n : ℕ) (x : CyclicState) → cyclic_with_id id (cpu_of n s) ≡ Some x → x.timer.expired ≤ steps * most_in_a_step
 
 -- after any steps over 1 to 16 CPUs
 abbrev pub CountsStaySmall : Type 0

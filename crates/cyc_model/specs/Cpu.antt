@@ -11,7 +11,7 @@ use Rattle.cyc_types.specs.Timers.{Timer}
 use Rattle.cyc_model.specs.Acts.{Act, At, Call}
 
 -- a cyclic, and those of its expirations that were lost at the ceiling
-pub record Cyclic : Type 0 where
+pub record CyclicState : Type 0 where
   pub timer : Timer
   pub lost : ℕ
 
@@ -19,7 +19,7 @@ pub record Cyclic : Type 0 where
 pub record Cpu : Type 0 where
   pub online : Bool
   -- its cyclics by rising ids, with the one whose removal is open
-  pub cyclics : List Cyclic
+  pub cyclics : List CyclicState
   -- the number of its indexes (cyp_size)
   pub size : ℕ
   -- the id of the cyclic whose removal is open: it has the moment never
@@ -29,8 +29,8 @@ pub record Cpu : Type 0 where
   pub low : SoftLevel
 
 -- a CPU as it begins
-abbrev pub new_cpu : ℕ → Cpu
-new_cpu ceiling = record {
+abbrev pub begun_cpu : ℕ → Cpu
+begun_cpu ceiling = record {
   online = true;
   cyclics = [];
   size = 1;
@@ -71,27 +71,27 @@ then_here first next = acts_first first.acts (next first.cpu)
 
 -- ---- the cyclics of a CPU
 
-abbrev pub timers : List Cyclic → List Timer
-timers cs = map (λ c. c.timer) cs
+abbrev pub timers_on : List CyclicState → List Timer
+timers_on cs = map (λ c. c.timer) cs
 
 -- whether the cyclic is the one of this id
-abbrev pub is_of : ℕ → Cyclic → Bool
+abbrev pub is_of : ℕ → CyclicState → Bool
 is_of id c = c.timer.id == id
 
 -- the cyclic of this id
-abbrev pub cyclic_of : ℕ → Cpu → Option Cyclic
-cyclic_of id c = find (is_of id) c.cyclics
+abbrev pub cyclic_with_id : ℕ → Cpu → Option CyclicState
+cyclic_with_id id c = find (is_of id) c.cyclics
 
 abbrev pub has_cyclic : ℕ → Cpu → Bool
 has_cyclic id c = list_any (is_of id) c.cyclics
 
 -- its level; one that isn't here is at no soft level, as one of high level
 abbrev pub handler_level_of : ℕ → Cpu → Level
-handler_level_of id c = option_map_or (λ x. x.timer.level) (cyclic_of id c) level.High
+handler_level_of id c = option_map_or (λ x. x.timer.level) (cyclic_with_id id c) level.High
 
 -- the cyclics of other ids
-abbrev pub others : ℕ → List Cyclic → List Cyclic
+abbrev pub others : ℕ → List CyclicState → List CyclicState
 others id cs = filter (λ c. not (is_of id c)) cs
 
-abbrev pub with_moment : ℕ → Cyclic → Cyclic
-with_moment moment c = record c { timer = record c.timer { moment = moment } }
+abbrev pub cyclic_at : ℕ → CyclicState → CyclicState
+cyclic_at moment c = record c { timer = record c.timer { moment = moment } }

@@ -8,7 +8,7 @@ use Rattle.cyc_script.specs.declared.script.Script.{Script}
 use Rattle.cyc_model.specs.Acts.{events_at}
 use Rattle.cyc_model.specs.Script.{run_of}
 use Rattle.cyc_model.specs.Laws.{level_on}
-use Rattle.cyc_model.specs.Along.{AllAlong, IsSound}
+use Rattle.cyc_model.specs.Along.{AllAlong, IsSoundLevel}
 use Rattle.cyc_model.specs.Free.{AreFree}
 
 -- each of these is enabled when it happens
@@ -21,7 +21,7 @@ AllHappen (event ∷ events) l = Enabled event l × AllHappen events (after even
 pub record CanBeDone (n : ℕ) (soft : Soft) (indexes : ℕ → ℕ) (script : Script) : Type 0 where
   pub enabled : AllHappen (events_at n soft (run_of indexes script).acts) (empty_level script.ceiling)
   pub along : AllAlong (events_at n soft (run_of indexes script).acts) (empty_level script.ceiling)
-  pub end : IsSound (level_on n soft (run_of indexes script).state)
+  pub end : IsSoundLevel (level_on n soft (run_of indexes script).state)
 
 -- where the indexes are free, at every soft level of every CPU of the script
 abbrev pub EventsAreEnabled : Type 0

@@ -2,10 +2,10 @@
 use Rattle.std.specs.Prelude.{◌≡◌, ℕ, ◌<◌, ⊤, Bool, false, map, List, Option, Some, IsSome}
 use Rattle.cyc_script.specs.declared.step.Step.{Step}
 use Rattle.cyc_script.specs.declared.step.Step.TheVariants.{Bind, Unbind, Juggle, Offline, Online}
-use Rattle.cyc_model.specs.Cpu.{Cyclic, cyclic_of}
+use Rattle.cyc_model.specs.Cpu.{CyclicState, cyclic_with_id}
 use Rattle.cyc_model.specs.Questions.{plain}
 use Rattle.cyc_model.specs.State.{State, On, cpu_of}
-use Rattle.cyc_model.specs.Places.{placement_of, home_of, is_omnipresent}
+use Rattle.cyc_model.specs.Places.{placement_of, home_of, is_omni}
 use Rattle.cyc_model.specs.Report.{counts_of}
 use Rattle.cyc_model.specs.Script.{word, run_on}
 
@@ -19,15 +19,15 @@ IsMove (Online n) = ⊤
 IsMove _ = ⊥
 
 -- a cyclic on the CPU where it is put down
-abbrev pub at_home : ℕ → State → Option Cyclic
-at_home id s = cyclic_of id (cpu_of (home_of id s) s)
+abbrev pub at_home : ℕ → State → Option CyclicState
+at_home id s = cyclic_with_id id (cpu_of (home_of id s) s)
 
 -- nothing was lost between the two
 pub record Kept (s t : State) : Type 0 where
   -- no cyclic
   pub ids : map (λ p. p.id) t.placed ≡ map (λ p. p.id) s.placed
   -- and one that is on one CPU is on one CPU, with its level, its interval, its next expiration and its counts
-  pub cyclics : (id : ℕ) → is_omnipresent id s ≡ false → (is_omnipresent id t ≡ false) × (at_home id t ≡ at_home id s)
+  pub cyclics : (id : ℕ) → is_omni id s ≡ false → (is_omni id t ≡ false) × (at_home id t ≡ at_home id s)
   -- no expiration, no call, no loss and no pending call of any cyclic, over all CPUs and all stays
   pub counts : (id : ℕ) → counts_of id t ≡ counts_of id s
 

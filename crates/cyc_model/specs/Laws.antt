@@ -11,7 +11,7 @@ use Rattle.cyc_script.specs.declared.script.Script.{Script}
 use Rattle.cyc_model.specs.Acts.{Act, events_at, calls_of}
 use Rattle.cyc_model.specs.Serving.{level_at, level_after}
 use Rattle.cyc_model.specs.Questions.{Questions}
-use Rattle.cyc_model.specs.Cpu.{Cyclic, Cpu}
+use Rattle.cyc_model.specs.Cpu.{CyclicState, Cpu}
 use Rattle.cyc_model.specs.State.{State, Placed, cpu_of}
 use Rattle.cyc_model.specs.Refusals.{refusal, after_refusal}
 use Rattle.cyc_model.specs.Script.{refusal_of, does, word, steps_from, start, text_with, text_of}
@@ -28,7 +28,7 @@ level_on n soft s = level_at soft (cpu_of n s)
 
 -- these acts tell how one state of the machine came from the other: each level is what its events made of it, and the handler
 -- of each id was called as often as they say
-pub record Tells (acts : List Act) (s t : State) : Type 0 where
+pub record ActsTell (acts : List Act) (s t : State) : Type 0 where
   pub as_many : length t.cpus ≡ length s.cpus
   pub levels : (n : ℕ) → n < length s.cpus → (soft : Soft)
       → level_on n soft t ≡ level_after (events_at n soft acts) (level_on n soft s)
@@ -37,7 +37,7 @@ pub record Tells (acts : List Act) (s t : State) : Type 0 where
 -- the acts of any run tell all of it, whatever the questions answered
 abbrev pub ActsTellAll : Type 0
 ActsTellAll = (q : Questions) (texts : List (List ℕ)) (indexes : ℕ → ℕ) (step : ℕ) (xs : List Step) (s : State)
-    → Tells (steps_from q texts indexes step xs s).acts s (steps_from q texts indexes step xs s).state
+    → ActsTell (steps_from q texts indexes step xs s).acts s (steps_from q texts indexes step xs s).state
 
 -- no line and no report tells of an index: the text is the same whatever indexes the cyclics of a script get
 abbrev pub TextTellsNoIndex : Type 0
@@ -49,7 +49,7 @@ RiseTo low [] high = low ≤ high
 RiseTo low (p ∷ ps) high = (low < p.id) × RiseTo p.id ps high
 
 -- no cyclic has an id above this one
-abbrev pub AtMost : ℕ → List Cyclic → Type 0
+abbrev pub AtMost : ℕ → List CyclicState → Type 0
 AtMost id [] = ⊤
 AtMost id (x ∷ xs) = (x.timer.id ≤ id) × AtMost id xs
 

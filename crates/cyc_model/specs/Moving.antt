@@ -1,21 +1,13 @@
 -- Cyclics that come to one CPU and leave it.
-use Rattle.std.specs.Prelude.{ℕ, zero, suc, ◌+◌, nat_lt, nat_le, cond, if◌then◌else◌, Bool, List, [], ◌∷◌, map, length, Some}
+use Rattle.std.specs.Prelude.{ℕ, ◌+◌, nat_lt, cond, if◌then◌else◌, Bool, List, [], ◌∷◌, map, length, Some}
 use Rattle.std.specs.Prelude.{None}
-use Rattle.cyc_types.specs.Limits.{greatest_bank}
+pub use Rattle.cyc_types.specs.Banks.{least_bank, bank_for}
 use Rattle.cyc_types.specs.Series.{never}
 use Rattle.cyc_types.specs.declared.level.Soft.TheVariants.{Low, Lock}
 use Rattle.cyc_level.specs.declared.Event.TheVariants.{Admit, Mark, Clear, Switch}
 use Rattle.cyc_level.specs.Level.{bank_size}
 use Rattle.cyc_model.specs.Acts.{At, at_own}
-use Rattle.cyc_model.specs.Cpu.{Cyclic, Cpu, Here, here, nothing_here, then_here, is_of, handler_level_of, others, with_moment}
-
--- the least bank from this one on that has so many slots, among so many more
-abbrev pub least_bank : ℕ → ℕ → ℕ → ℕ
-least_bank zero bank needed = bank
-least_bank (suc more) bank needed = cond (nat_le needed (bank_size bank)) bank (least_bank more (bank + 1) needed)
-
-abbrev pub bank_for : ℕ → ℕ
-bank_for needed = least_bank greatest_bank 0 needed
+use Rattle.cyc_model.specs.Cpu.{CyclicState, Cpu, Here, here, nothing_here, then_here, is_of, handler_level_of, others, cyclic_at}
 
 -- whether so many more need a greater size
 abbrev pub must_grow : ℕ → Cpu → Bool
@@ -30,16 +22,16 @@ abbrev pub widen_here : ℕ → ℕ → Cpu → Here
 widen_here n more c = if must_grow more c then switch_here n (bank_for (length c.cyclics + more)) c else nothing_here c
 
 -- a cyclic among others by rising ids
-abbrev pub put_in : Cyclic → List Cyclic → List Cyclic
+abbrev pub put_in : CyclicState → List CyclicState → List CyclicState
 put_in x [] = x ∷ []
 put_in x (y ∷ ys) = cond (nat_lt x.timer.id y.timer.id) (x ∷ y ∷ ys) (y ∷ put_in x ys)
 
 -- the cyclic gets this index (cyclic_add_here; cyclic_juggle_one_to)
-abbrev pub place_here : ℕ → ℕ → Cyclic → Cpu → Here
+abbrev pub place_here : ℕ → ℕ → CyclicState → Cpu → Here
 place_here n index x c = here (at_own n x.timer.level (Admit x.timer.id index)) (record c { cyclics = put_in x c.cyclics })
 
 -- a cyclic comes to a CPU, which grows for it where it must
-abbrev pub enter_here : ℕ → ℕ → Cyclic → Cpu → Here
+abbrev pub enter_here : ℕ → ℕ → CyclicState → Cpu → Here
 enter_here n index x c = then_here (widen_here n 1 c) (place_here n index x)
 
 -- a cyclic with no call outstanding leaves for another CPU (cyclic_juggle_one_to, cyclic_remove_here)
@@ -48,8 +40,8 @@ take_here n id c = then_here (here (at_own n (handler_level_of id c) (Mark id)) 
     (λ d. here (at_own n (handler_level_of id d) (Clear id)) (record d { cyclics = others id d.cyclics }))
 
 -- the cyclic of this id gets another moment (cyclic_reprogram_cyclic)
-abbrev pub moment_at : ℕ → ℕ → Cyclic → Cyclic
-moment_at id moment x = if is_of id x then with_moment moment x else x
+abbrev pub moment_at : ℕ → ℕ → CyclicState → CyclicState
+moment_at id moment x = if is_of id x then cyclic_at moment x else x
 
 abbrev pub reprogram_here : ℕ → ℕ → Cpu → Here
 reprogram_here id moment c = nothing_here (record c { cyclics = map (moment_at id moment) c.cyclics })

@@ -8,7 +8,7 @@ use Rattle.cyc_text.specs.Lines.{removed}
 use Rattle.cyc_model.specs.Acts.{calls_of}
 use Rattle.cyc_model.specs.Questions.{plain}
 use Rattle.cyc_model.specs.State.{State}
-use Rattle.cyc_model.specs.Places.{id_of, is_unknown}
+use Rattle.cyc_model.specs.Places.{id_of, is_no_cyclic}
 use Rattle.cyc_model.specs.Remove.{remove}
 use Rattle.cyc_model.specs.Softint.{interrupt, text_of_id, poll_id, leaving_ids, softint}
 use Rattle.cyc_model.specs.Report.{counts_of}
@@ -17,7 +17,7 @@ use Rattle.cyc_model.specs.Script.{refusal_of, steps_from, run_on, run_of}
 -- ---- the report
 
 -- what is printed of an id adds up, and the calls are those of its handler: each expiration was called, lost, or is pending
-pub record AddsUp (id : ℕ) (indexes : ℕ → ℕ) (script : Script) : Type 0 where
+pub record ReportAddsUp (id : ℕ) (indexes : ℕ → ℕ) (script : Script) : Type 0 where
   pub balance : (counts_of id (run_of indexes script).state).expired
       ≡ (counts_of id (run_of indexes script).state).called + (counts_of id (run_of indexes script).state).lost
       + (counts_of id (run_of indexes script).state).pending
@@ -25,7 +25,8 @@ pub record AddsUp (id : ℕ) (indexes : ℕ → ℕ) (script : Script) : Type 0 
 
 -- for each name of each script, whatever indexes its cyclics get
 abbrev pub ReportsAddUp : Type 0
-ReportsAddUp = (indexes : ℕ → ℕ) (script : Script) (name : ℕ) → AddsUp (id_of name (run_of indexes script).state) indexes script
+ReportsAddUp = (indexes : ℕ → ℕ) (script : Script) (name : ℕ)
+    → ReportAddsUp (id_of name (run_of indexes script).state) indexes script
 
 -- ---- the lines of removals
 
@@ -35,7 +36,7 @@ answer step text id s = removed step text (s.called id)
 
 -- the line of a poll that left this machine: none, where the removal has not answered
 abbrev pub answer_if_gone : ℕ → List ℕ → ℕ → State → List ℕ
-answer_if_gone step text id s = if is_unknown id s then answer step text id s else []
+answer_if_gone step text id s = if is_no_cyclic id s then answer step text id s else []
 
 -- the lines of the polls of these removals, one after the other
 abbrev pub poll_lines : List (List ℕ) → ℕ → List ℕ → State → List ℕ
@@ -49,7 +50,7 @@ abbrev pub RemovesTellCalls : Type 0
 RemovesTellCalls = (indexes : ℕ → ℕ) (cpus ceiling : ℕ) (texts : List (List ℕ)) (steps : List Step) (step name : ℕ)
     (text : List ℕ) (s : State)
     → 0 < cpus → s ≡ (run_on indexes cpus ceiling texts steps).state → refusal_of plain (Remove name) s ≡ None
-    → is_unknown (id_of name s) (remove plain step text name s).state ≡ true
+    → is_no_cyclic (id_of name s) (remove plain step text name s).state ≡ true
     → (remove plain step text name s).line ≡ answer step text (id_of name s) (remove plain step text name s).state
 
 -- and so does each poll of a soft interrupt
@@ -66,13 +67,13 @@ PollsTellCalls = (indexes : ℕ → ℕ) (cpus ceiling : ℕ) (texts : List (Lis
 abbrev pub NothingFollowsRemoval : Type 0
 NothingFollowsRemoval = (indexes : ℕ → ℕ) (cpus ceiling : ℕ) (texts : List (List ℕ)) (before after : List Step) (step id : ℕ)
     (s : State)
-    → 0 < cpus → s ≡ (run_on indexes cpus ceiling texts before).state → id ≤ s.last_id → is_unknown id s ≡ true
+    → 0 < cpus → s ≡ (run_on indexes cpus ceiling texts before).state → id ≤ s.last_id → is_no_cyclic id s ≡ true
     → (calls_of id (steps_from plain texts indexes step after s).acts ≡ 0)
-    × (is_unknown id (steps_from plain texts indexes step after s).state ≡ true)
+    × (is_no_cyclic id (steps_from plain texts indexes step after s).state ≡ true)
 
 -- and what is told of it stays what it was: what its removal left. No cyclic has the id 0, of which nothing is ever told
 abbrev pub RemovedCountsStay : Type 0
 RemovedCountsStay = (indexes further : ℕ → ℕ) (cpus ceiling : ℕ) (texts others : List (List ℕ)) (before after : List Step)
     (step id : ℕ) (s : State)
-    → 0 < cpus → s ≡ (run_on indexes cpus ceiling texts before).state → id ≤ s.last_id → is_unknown id s ≡ true
+    → 0 < cpus → s ≡ (run_on indexes cpus ceiling texts before).state → id ≤ s.last_id → is_no_cyclic id s ≡ true
     → counts_of id (steps_from plain others further step after s).state ≡ counts_of id s

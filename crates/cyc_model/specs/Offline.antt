@@ -5,26 +5,26 @@ use Rattle.cyc_types.specs.declared.refusal.Refusal.{Refusal}
 use Rattle.cyc_types.specs.declared.refusal.Refusal.TheVariants.{Pending}
 use Rattle.cyc_types.specs.Refusals.{number_of}
 use Rattle.cyc_text.specs.Lines.{accepted, refused, cyclics_left}
-use Rattle.cyc_model.specs.Cpu.{Cpu, cyclic_of, nothing_here}
+use Rattle.cyc_model.specs.Cpu.{Cpu, cyclic_with_id, nothing_here}
 use Rattle.cyc_model.specs.Moving.{take_here}
 use Rattle.cyc_model.specs.Questions.{Questions}
-use Rattle.cyc_model.specs.State.{State, Outcome, cpu_of, on, each, told, followed_by}
+use Rattle.cyc_model.specs.State.{State, Outcome, cpu_of, on_number, each, told, followed_by}
 use Rattle.cyc_model.specs.Places.{keep_counts}
-use Rattle.cyc_model.specs.Juggle.{Juggled, juggled, juggle_refusal, single_ids}
+use Rattle.cyc_model.specs.Juggle.{Juggled, juggled, juggle_refusal, single_ids_of}
 
 -- the ids of the cyclics of a CPU
-abbrev pub ids_on : ℕ → State → List ℕ
-ids_on n s = map (λ x. x.timer.id) (cpu_of n s).cyclics
+abbrev pub ids_of_cpu : ℕ → State → List ℕ
+ids_of_cpu n s = map (λ x. x.timer.id) (cpu_of n s).cyclics
 
 -- a component ends on the CPU, and its counts there are kept
 abbrev pub retire : ℕ → ℕ → State → Outcome
-retire n id s = on n (take_here n id) (keep_counts n (cyclic_of id (cpu_of n s)) s)
+retire n id s = on_number n (take_here n id) (keep_counts n (cyclic_with_id id (cpu_of n s)) s)
 
 abbrev pub go_offline : Cpu → Cpu
 go_offline c = record c { online = false }
 
 abbrev pub retire_all : ℕ → State → Outcome
-retire_all n s = followed_by (each (retire n) (ids_on n s) s) (on n (λ c. nothing_here (go_offline c)))
+retire_all n s = followed_by (each (retire n) (ids_of_cpu n s) s) (on_number n (λ c. nothing_here (go_offline c)))
 
 -- a call of one of these is outstanding on the CPU
 abbrev pub any_pending : Questions → ℕ → List ℕ → State → Bool
@@ -38,10 +38,10 @@ last_part false step n o = told (accepted step) (followed_by o (retire_all n))
 -- what moved stays moved, where others are left
 abbrev pub leaving : Questions → ℕ → ℕ → List ℕ → Juggled → Outcome
 leaving q step n (id ∷ ids) j = told (cyclics_left step j.report) j.outcome
-leaving q step n [] j = last_part (any_pending q n (ids_on n j.outcome.state) j.outcome.state) step n j.outcome
+leaving q step n [] j = last_part (any_pending q n (ids_of_cpu n j.outcome.state) j.outcome.state) step n j.outcome
 
 abbrev pub after_juggle : Questions → ℕ → ℕ → Juggled → Outcome
-after_juggle q step n j = leaving q step n (single_ids n j.outcome.state) j
+after_juggle q step n j = leaving q step n (single_ids_of n j.outcome.state) j
 
 abbrev pub offline_refusal : Questions → ℕ → State → Option Refusal
 offline_refusal q n s = juggle_refusal q n s

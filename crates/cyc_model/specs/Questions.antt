@@ -13,8 +13,8 @@ pub record Questions : Type 0 where
   -- the id of the cyclic whose removal is open
   pub removal : (n : ℕ) → Cpu → Option ℕ
 
-abbrev pub has_followed : Cpu → Bool
-has_followed c = (c.lock.hard_bank == c.lock.soft_bank) && (c.low.hard_bank == c.low.soft_bank)
+abbrev pub soft_has_followed : Cpu → Bool
+soft_has_followed c = (c.lock.hard_bank == c.lock.soft_bank) && (c.low.hard_bank == c.low.soft_bank)
 
 -- the calls of an id that are outstanding at both levels: a cyclic is at one of them
 abbrev pub outstanding_here : ℕ → Cpu → ℕ
@@ -23,7 +23,7 @@ outstanding_here id c = count c.lock id + count c.low id
 -- over plain levels
 abbrev pub plain : Questions
 plain = record {
-  followed = λ n id c. has_followed c;
+  followed = λ n id c. soft_has_followed c;
   outstanding = λ n id c. outstanding_here id c;
   removal = λ n c. c.removal;
 }

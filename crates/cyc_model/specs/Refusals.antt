@@ -12,7 +12,7 @@ use Rattle.cyc_script.specs.WellFormed.{moment_after}
 use Rattle.cyc_model.specs.Cpu.{Cpu}
 use Rattle.cyc_model.specs.Moving.{must_grow}
 use Rattle.cyc_model.specs.Questions.{Questions}
-use Rattle.cyc_model.specs.State.{State, Outcome, nothing, told, cpu_of, online_cpus}
+use Rattle.cyc_model.specs.State.{State, Outcome, nothing, told, cpu_of, cpus_online}
 
 -- why there is no room for so many more: asked for the sake of this id
 abbrev pub no_room : Questions → ℕ → ℕ → ℕ → Cpu → Option Refusal
@@ -22,22 +22,22 @@ no_room q n id more c = first_refusal (
     ∷ only_if (must_grow more c) (when (not (q.followed n id c)) Expanding)
     ∷ [])
 
-abbrev pub no_cpu : ℕ → State → Option Refusal
-no_cpu n s = when (nat_le (length s.cpus) n) NoCpu
+abbrev pub is_no_cpu : ℕ → State → Option Refusal
+is_no_cpu n s = when (nat_le (length s.cpus) n) NoCpu
 
-abbrev pub offline_cpu : ℕ → State → Option Refusal
-offline_cpu n s = when (not (cpu_of n s).online) Offline
+abbrev pub cpu_is_offline : ℕ → State → Option Refusal
+cpu_is_offline n s = when (not (cpu_of n s).online) Offline
 
 -- no other CPU is online
-abbrev pub last_cpu : ℕ → State → Option Refusal
-last_cpu n s = when (nat_le (length (online_cpus s)) 1) LastCpu
+abbrev pub is_last_online : ℕ → State → Option Refusal
+is_last_online n s = when (nat_le (length (cpus_online s)) 1) LastCpu
 
 -- the start and the interval of a cyclic (When::new)
 abbrev pub bad_when : ℤ → ℤ → List (Option Refusal)
 bad_when start interval = when (int_lt start (pos 0)) BadWhen ∷ when (int_lt interval (pos 1)) BadInterval ∷ []
 
-abbrev pub ids_spent : State → Option Refusal
-ids_spent s = when (nat_le greatest_id s.last_id) IdsSpent
+abbrev pub no_id_left : State → Option Refusal
+no_id_left s = when (nat_le greatest_id s.last_id) IdsSpent
 
 -- the number of an integer that isn't negative
 abbrev pub magnitude : ℤ → ℕ

@@ -5,7 +5,7 @@ use Rattle.cyc_script.specs.declared.step.Step.{Step}
 use Rattle.cyc_script.specs.declared.step.Step.TheVariants.{Add, Omni, Bind, Unbind, Reprogram, Remove, Advance, Softint, Juggle}
 use Rattle.cyc_script.specs.declared.step.Step.TheVariants.{Offline, Online, Suspend, Resume}
 use Rattle.cyc_script.specs.declared.script.Script.{Script}
-use Rattle.cyc_model.specs.Cpu.{new_cpu}
+use Rattle.cyc_model.specs.Cpu.{begun_cpu}
 use Rattle.cyc_model.specs.Questions.{Questions, plain}
 use Rattle.cyc_model.specs.State.{State, Outcome, nothing, followed_by}
 use Rattle.cyc_model.specs.Refusals.{unless}
@@ -78,7 +78,7 @@ start cpus ceiling names = record {
   suspended = false;
   last_id = 0;
   admissions = 0;
-  cpus = replicate cpus (new_cpu ceiling);
+  cpus = replicate cpus (begun_cpu ceiling);
   placed = [];
   ended = λ id n. record { expired = 0; lost = 0 };
   called = λ id. 0;

@@ -4,24 +4,24 @@ use Rattle.std.specs.Option.{option_map_or}
 use Rattle.cyc_types.specs.declared.refusal.Refusal.{Refusal}
 use Rattle.cyc_text.specs.Lines.{ran}
 use Rattle.cyc_script.specs.declared.step.Softint.{Softint as SoftintStep}
-use Rattle.cyc_model.specs.Acts.{calls_in}
+use Rattle.cyc_model.specs.Acts.{handler_calls}
 use Rattle.cyc_model.specs.Cpu.{Cpu}
 use Rattle.cyc_model.specs.Serving.{interrupt_here, serve_here}
 use Rattle.cyc_model.specs.Questions.{Questions}
-use Rattle.cyc_model.specs.State.{State, Outcome, cpu_of, numbers, on, each, told, followed_by, cpus_with}
-use Rattle.cyc_model.specs.Places.{is_leaving}
-use Rattle.cyc_model.specs.Refusals.{no_cpu}
+use Rattle.cyc_model.specs.State.{State, Outcome, cpu_of, numbers, on_number, each, told, followed_by, cpus_having}
+use Rattle.cyc_model.specs.Places.{is_being_removed}
+use Rattle.cyc_model.specs.Refusals.{is_no_cpu}
 use Rattle.cyc_model.specs.Remove.{poll, answered}
 
 abbrev pub softint_refusal : SoftintStep → State → Option Refusal
-softint_refusal i s = no_cpu i.cpu s
+softint_refusal i s = is_no_cpu i.cpu s
 
 abbrev pub with_ran_line : ℕ → Bool → Outcome → Outcome
-with_ran_line step idle o = told (ran step (calls_in o.acts) idle) o
+with_ran_line step idle o = told (ran step (handler_calls o.acts) idle) o
 
 abbrev pub interrupt : ℕ → SoftintStep → State → Outcome
 interrupt step i s = with_ran_line step (interrupt_here i.cpu i.level i.budget (cpu_of i.cpu s)).idle
-    (on i.cpu (serve_here i.cpu i.level i.budget) s)
+    (on_number i.cpu (serve_here i.cpu i.level i.budget) s)
 
 -- whether the removal of this id is open on the CPU
 abbrev pub is_open : ℕ → Cpu → Bool
@@ -42,7 +42,7 @@ polled step text id [] o = answered step text id o
 polled step text id (n ∷ ns) o = o
 
 abbrev pub with_poll : ℕ → List ℕ → ℕ → Outcome → Outcome
-with_poll step text id o = polled step text id (cpus_with id o.state) o
+with_poll step text id o = polled step text id (cpus_having id o.state) o
 
 -- an open removal is polled on every CPU on which it is open
 abbrev pub poll_id : Questions → List (List ℕ) → ℕ → ℕ → State → Outcome
@@ -50,7 +50,7 @@ poll_id q texts step id s = with_poll step (text_of_id id texts s.names) id (eac
 
 -- the ids whose removals are open, rising
 abbrev pub leaving_ids : State → List ℕ
-leaving_ids s = filter (λ id. is_leaving id s) (map (λ p. p.id) s.placed)
+leaving_ids s = filter (λ id. is_being_removed id s) (map (λ p. p.id) s.placed)
 
 abbrev pub poll_all : Questions → List (List ℕ) → ℕ → State → Outcome
 poll_all q texts step s = each (poll_id q texts step) (leaving_ids s) s

@@ -2,7 +2,7 @@
 use Rattle.std.specs.Prelude.{ℕ, ◌+◌, if◌then◌else◌, Bool, false, List, [], ◌∷◌, ◌++◌, slice_set, slice_index_or}
 use Rattle.cyc_types.specs.declared.level.Level.{Level}
 use Rattle.cyc_model.specs.Acts.{Act, calls_of}
-use Rattle.cyc_model.specs.Cpu.{Cpu, Here, new_cpu, has_cyclic}
+use Rattle.cyc_model.specs.Cpu.{Cpu, Here, begun_cpu, has_cyclic}
 
 -- an omnipresent cyclic: its level, the start and the interval of CPU 0's component, and by how much each CPU's starts later
 pub record Everywhere : Type 0 where
@@ -19,7 +19,7 @@ pub data Placement : Type 0 where
 -- an id that was given and whose removal has not answered
 pub record Placed : Type 0 where
   pub id : ℕ
-  pub place : Placement
+  pub placement : Placement
 
 -- the counts of stays that have ended
 pub record Ended : Type 0 where
@@ -76,7 +76,7 @@ each does (x ∷ xs) s = followed_by (does x s) (each does xs)
 
 -- what stands for a CPU that isn't there: it is offline and empty
 abbrev pub absent : Cpu
-absent = record (new_cpu 0) { online = false }
+absent = record (begun_cpu 0) { online = false }
 
 -- the CPU of a number
 abbrev pub cpu_of : ℕ → State → Cpu
@@ -97,24 +97,24 @@ done_on n d s = record {
   state = record s { cpus = slice_set s.cpus n d.cpu; called = counting d.acts s.called };
 }
 
-abbrev pub on : ℕ → (Cpu → Here) → State → Outcome
-on n does s = done_on n (does (cpu_of n s)) s
+abbrev pub on_number : ℕ → (Cpu → Here) → State → Outcome
+on_number n does s = done_on n (does (cpu_of n s)) s
 
 -- a number, where the test holds
 abbrev pub kept_if : Bool → ℕ → List ℕ → List ℕ
 kept_if test n ns = if test then n ∷ ns else ns
 
 -- the numbers of the CPUs of which this holds, from this number on
-abbrev pub numbers_from : ℕ → (Cpu → Bool) → List Cpu → List ℕ
-numbers_from n test [] = []
-numbers_from n test (c ∷ cs) = kept_if (test c) n (numbers_from (n + 1) test cs)
+abbrev pub cpus_from : ℕ → (Cpu → Bool) → List Cpu → List ℕ
+cpus_from n test [] = []
+cpus_from n test (c ∷ cs) = kept_if (test c) n (cpus_from (n + 1) test cs)
 
 abbrev pub numbers : (Cpu → Bool) → State → List ℕ
-numbers test s = numbers_from 0 test s.cpus
+numbers test s = cpus_from 0 test s.cpus
 
-abbrev pub online_cpus : State → List ℕ
-online_cpus s = numbers (λ c. c.online) s
+abbrev pub cpus_online : State → List ℕ
+cpus_online s = numbers (λ c. c.online) s
 
 -- the numbers of the CPUs that have the cyclic
-abbrev pub cpus_with : ℕ → State → List ℕ
-cpus_with id s = numbers (has_cyclic id) s
+abbrev pub cpus_having : ℕ → State → List ℕ
+cpus_having id s = numbers (has_cyclic id) s

@@ -2,6 +2,7 @@
 use Rattle.std.specs.Prelude.{Bool, true, false, length, sum_by, ◌≤◌, ◌≡◌, ◌≢◌, ℕ, ◌+◌, ◌<◌, List, All, replicate, slice_set}
 use Rattle.std.specs.Prelude.{slice_index_or, Some}
 use Rattle.std.specs.List.{slice_get}
+use Rattle.cyc_types.specs.Limits.{most_cpus}
 use Rattle.cyc_types.specs.declared.firing.Sent.{Sent}
 use Rattle.cyc_types.specs.declared.level.Level.{Level}
 use Rattle.cyc_types.specs.declared.receipt.Receipt.{Receipt}
@@ -15,7 +16,7 @@ pub record RecordsView : Type 0 where
   pub list : List Record
   pub room : ℕ
 
--- the record at a place
+-- the record at a position
 abbrev pub IsRecord : List Record → ℕ → Record → Type 0
 IsRecord rs k r = slice_get rs k ≡ Some r
 
@@ -36,7 +37,7 @@ HaveCounts rs = (k : ℕ) (r : Record) → IsRecord rs k r → AreCounts r.ended
 
 -- each record has the counts of as many CPUs as a system can have
 abbrev pub HaveAllCounts : List Record → Type 0
-HaveAllCounts rs = (k : ℕ) (r : Record) → IsRecord rs k r → length r.ended ≡ 16
+HaveAllCounts rs = (k : ℕ) (r : Record) → IsRecord rs k r → length r.ended ≡ most_cpus
 
 -- the cyclic has a component on each online CPU
 abbrev pub is_everywhere : Placement → Bool
@@ -55,11 +56,11 @@ summed a b = record { sent = a.sent + b.sent; lost = a.lost + b.lost }
 
 -- the record of an id that was just given
 abbrev pub new_record : ℕ → Level → Placement → Record
-new_record id level place = record { id = id; level = level; place = place; ended = replicate 16 no_counts }
+new_record id level placement = record { id = id; level = level; placement = placement; ended = replicate most_cpus no_counts }
 
 -- the record of a cyclic that is now there
-abbrev pub with_place : Placement → Record → Record
-with_place place r = record r { place = place }
+abbrev pub with_placement : Placement → Record → Record
+with_placement placement r = record r { placement = placement }
 
 -- what the stays that have ended on a CPU left
 abbrev pub ended_on : ℕ → Record → Sent

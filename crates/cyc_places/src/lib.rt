@@ -5,5 +5,5 @@
 mod record;
 mod records;
 
-pub use record::{CPUS, Placement, Record};
+pub use record::{Placement, Record};
 pub use records::Records;

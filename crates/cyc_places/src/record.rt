@@ -1,11 +1,9 @@
 //! What a system keeps of a cyclic.
 
 ghost use Rattle.std.specs.Prelude.{◌≡◌, ◌*◌, ◌^◌, ◌<◌, ◌≤◌, sum_by, length};
+ghost use Rattle.cyc_types.specs.Limits.{most_cpus};
 
-use cyc_types::{CyclicId, Level, Moment, Sent, When};
-
-/// The most CPUs of a system (our own rule).
-pub const CPUS: usize = 16;
+use cyc_types::{CPUS, CyclicId, Level, Moment, Sent, When};
 
 /// Where a cyclic is (`cyc_id_t` of sys/cyclic_impl.h).
 #[derive(Clone, Copy)]
@@ -38,9 +36,9 @@ pub struct Record {
     /// At which level its handler is called.
     pub level: Level,
     /// Where it is.
-    pub place: Placement,
+    pub placement: Placement,
     /// By the number of the CPU, the counts of its stays that have ended there (our own).
-    pub ended: [Sent; CPUS],
+    pub ended: [Sent; CPUS as usize],
 }
 
 impl Record {
@@ -48,17 +46,17 @@ impl Record {
     pub(crate) const VACANT: Record = Record {
         id: CyclicId::LAST,
         level: Level::High,
-        place: Placement::On {
+        placement: Placement::On {
             cpu: 0,
             bound: false,
         },
-        ended: [Sent { sent: 0, lost: 0 }; CPUS],
+        ended: [Sent { sent: 0, lost: 0 }; CPUS as usize],
     };
 
     /// All expirations of the stays that have ended.
     pub fn ended_sent(&self) -> u128
         ensures value { result ≡ sum_by (λ s. s.sent) self.now.ended }
-        ensures few { result < 16 * 2 ^ 64 }
+        ensures few { result < most_cpus * 2 ^ 64 }
     {
         let mut total = 0;
         for counts in &self.ended {
@@ -70,7 +68,7 @@ impl Record {
     /// Those of them that were lost at the ceiling.
     pub fn ended_lost(&self) -> u128
         ensures value { result ≡ sum_by (λ s. s.lost) self.now.ended }
-        ensures few { result < 16 * 2 ^ 64 }
+        ensures few { result < most_cpus * 2 ^ 64 }
     {
         let mut total = 0;
         for counts in &self.ended {

@@ -6,13 +6,14 @@ ghost use Rattle.std.specs.Bool.{OnTrue, OnFalse};
 ghost use Rattle.std.specs.List.{slice_get};
 ghost use Rattle.cyc_finder.specs.Sorted.{Rises, IsAt};
 ghost use Rattle.cyc_types.specs.declared.refusal.Refusal.TheVariants.{Memory};
+ghost use Rattle.cyc_types.specs.Limits.{most_cpus};
 ghost use Rattle.cyc_types.specs.Counting.{no_counts};
-ghost use Rattle.cyc_places.specs.Places.{RecordsView, IsRecord, HasNoRecord, new_record, with_place, with_ended, ended_on};
+ghost use Rattle.cyc_places.specs.Places.{RecordsView, IsRecord, HasNoRecord, new_record, with_placement, with_ended, ended_on};
 ghost use Rattle.cyc_places.specs.Places.{summed, HasRisingIds, HaveCounts, HaveAllCounts, IsReceiptOf};
 
-use crate::record::{CPUS, Placement, Record};
+use crate::record::{Placement, Record};
 use cyc_finder::{HINTS, HasId, hint_of, search};
-use cyc_types::{CyclicId, Level, Receipt, Refusal, Sent};
+use cyc_types::{CPUS, CyclicId, Level, Receipt, Refusal, Sent};
 use std::alloc::Global;
 use std::collections::VecDeque;
 use std::marker::Model;
@@ -68,7 +69,7 @@ impl Model for Records {
         × (IsSome r.spare → deque_len r.ids < deque_capacity r.ids) };
 }
 
-// The place of an id among those of the front and then those of the back, which rise. None where it is in neither.
+// The position of an id among those of the front and then those of the back, which rise. None where it is in neither.
 fn find_in(front: &[RecordId], back: &[RecordId], id: CyclicId) -> Option<usize>
     requires rises { Rises (λ kept. kept.id) (front.now ++ back.now) }
     requires countable { length front.now + length back.now < 2 ^ 64 }
@@ -77,7 +78,7 @@ fn find_in(front: &[RecordId], back: &[RecordId], id: CyclicId) -> Option<usize>
 {
     match back.first() {
         Some(first) if first.id.number() <= id.number() => match search(back, id) {
-            Ok(place) => Some(front.len() + place),
+            Ok(position) => Some(front.len() + position),
             Err(_) => None,
         },
         _ => search(front, id).ok(),
@@ -113,10 +114,10 @@ impl Records {
     }
 
     /// Puts in a record, with no ended stay, behind the others, whose ids are smaller. Takes no memory.
-    pub fn push(&mut self, id: CyclicId, level: Level, place: Placement)
+    pub fn push(&mut self, id: CyclicId, level: Level, placement: Placement)
         requires last { All (λ r. r.id < id) self.old.list }
         requires reserved { length self.old.list < self.old.room }
-        ensures { self.new.list ≡ self.old.list ++ new_record id level place ∷ [] }
+        ensures { self.new.list ≡ self.old.list ++ new_record id level placement ∷ [] }
     {
         let Some(mut kept) = self.spare.take() else {
             unreachable!()
@@ -124,8 +125,8 @@ impl Records {
         *kept = Record {
             id,
             level,
-            place,
-            ended: [Sent { sent: 0, lost: 0 }; CPUS],
+            placement,
+            ended: [Sent { sent: 0, lost: 0 }; CPUS as usize],
         };
         self.list.push_back_reserved(kept);
         self.ids.push_back_reserved(RecordId { id });
@@ -138,7 +139,7 @@ impl Records {
         self.list.len()
     }
 
-    /// The place of the record of this id. None where it has none. O(log n).
+    /// The position of the record of this id. None where it has none. O(log n).
     pub fn find(&self, id: CyclicId) -> Option<usize>
         ensures none { IfNone result (HasNoRecord id self.now.list) }
         ensures some { IfSome result (λ k. (r : Record) × IsRecord self.now.list k r × (r.id ≡ id)) }
@@ -147,17 +148,17 @@ impl Records {
         find_in(front, back, id)
     }
 
-    /// Whether the record of this id is at this place.
+    /// Whether the record of this id is at this position.
     #[inline(always)]
-    fn is_at(&self, id: CyclicId, place: usize) -> bool
-        ensures there { OnTrue result ((r : Record) × IsRecord self.now.list place r × (r.id ≡ id)) }
-        ensures elsewhere { OnFalse result ((r : Record) → IsRecord self.now.list place r → r.id ≢ id) }
+    fn is_at(&self, id: CyclicId, position: usize) -> bool
+        ensures there { OnTrue result ((r : Record) × IsRecord self.now.list position r × (r.id ≡ id)) }
+        ensures elsewhere { OnFalse result ((r : Record) → IsRecord self.now.list position r → r.id ≢ id) }
     {
-        place < self.ids.len() && self.ids[place].id.number() == id.number()
+        position < self.ids.len() && self.ids[position].id.number() == id.number()
     }
 
-    /// As `find`, by two looks: as far from the first record as the id is above its id, and where `seek` found it last. None unless
-    /// it is at one of them. O(1).
+    /// As `find`, by two looks: as far from the first record as the id is above its id, and where `seek` found it last. None
+    /// unless it is at one of them. O(1).
     #[inline(always)]
     pub fn soon(&self, id: CyclicId) -> Option<usize>
         ensures none { IfNone result ((first r : Record) → IsRecord self.now.list 0 first → first.id ≤ id
@@ -186,39 +187,39 @@ impl Records {
         ensures some { IfSome result (λ k. (r : Record) × IsRecord self.new.list k r × (r.id ≡ id)) }
         ensures same { self.new ≡ self.old }
     {
-        let place = self.find(id)?;
-        self.hints[hint_of(id)] = place.min(usize::from(u16::MAX)) as u16;
-        Some(place)
+        let position = self.find(id)?;
+        self.hints[hint_of(id)] = position.min(usize::from(u16::MAX)) as u16;
+        Some(position)
     }
 
-    /// The record at a place.
-    pub fn at(&self, place: usize) -> &Record
-        requires { place < length self.now.list }
-        ensures { IsRecord self.now.list place result.now }
+    /// The record at a position.
+    pub fn at(&self, position: usize) -> &Record
+        requires { position < length self.now.list }
+        ensures { IsRecord self.now.list position result.now }
     {
-        &self.list[place]
+        &self.list[position]
     }
 
     /// The cyclic of this record is now there.
-    pub fn set_place(&mut self, place: usize, there: Placement)
-        requires { place < length self.old.list }
-        ensures { (r : Record) → IsRecord self.old.list place r
-            → self.new.list ≡ slice_set self.old.list place (with_place there r) }
+    pub fn set_placement(&mut self, position: usize, there: Placement)
+        requires { position < length self.old.list }
+        ensures { (r : Record) → IsRecord self.old.list position r
+            → self.new.list ≡ slice_set self.old.list position (with_placement there r) }
     {
-        self.list[place].place = there;
+        self.list[position].placement = there;
     }
 
     /// A stay of the cyclic has ended on the CPU of this number with these counts.
-    pub fn add_ended(&mut self, place: usize, cpu: usize, counts: Sent)
-        requires here { place < length self.old.list }
-        requires cpu { cpu < CPUS }
+    pub fn add_ended(&mut self, position: usize, cpu: usize, counts: Sent)
+        requires here { position < length self.old.list }
+        requires cpu { cpu < most_cpus }
         requires counted { counts.lost ≤ counts.sent }
-        requires fits { (r : Record) → IsRecord self.old.list place r → ((ended_on cpu r).sent + counts.sent < 2 ^ 64)
+        requires fits { (r : Record) → IsRecord self.old.list position r → ((ended_on cpu r).sent + counts.sent < 2 ^ 64)
             × ((ended_on cpu r).lost + counts.lost < 2 ^ 64) }
-        ensures { (r : Record) → IsRecord self.old.list place r
-            → self.new.list ≡ slice_set self.old.list place (with_ended cpu (summed (ended_on cpu r) counts) r) }
+        ensures { (r : Record) → IsRecord self.old.list position r
+            → self.new.list ≡ slice_set self.old.list position (with_ended cpu (summed (ended_on cpu r) counts) r) }
     {
-        let record = &mut self.list[place];
+        let record = &mut self.list[position];
         let ended = record.ended[cpu];
         record.ended[cpu] = Sent {
             sent: ended.sent + counts.sent,
@@ -228,14 +229,14 @@ impl Records {
 
     /// A stay of the cyclic begins on the CPU of this number, and takes on the counts that earlier ones left there, which it
     /// gives.
-    pub fn take_ended(&mut self, place: usize, cpu: usize) -> Sent
-        requires here { place < length self.old.list }
-        requires cpu { cpu < CPUS }
-        ensures counts { (r : Record) → IsRecord self.old.list place r → result ≡ ended_on cpu r }
-        ensures list { (r : Record) → IsRecord self.old.list place r
-            → self.new.list ≡ slice_set self.old.list place (with_ended cpu no_counts r) }
+    pub fn take_ended(&mut self, position: usize, cpu: usize) -> Sent
+        requires here { position < length self.old.list }
+        requires cpu { cpu < most_cpus }
+        ensures counts { (r : Record) → IsRecord self.old.list position r → result ≡ ended_on cpu r }
+        ensures list { (r : Record) → IsRecord self.old.list position r
+            → self.new.list ≡ slice_set self.old.list position (with_ended cpu no_counts r) }
     {
-        let record = &mut self.list[place];
+        let record = &mut self.list[position];
         let counts = record.ended[cpu];
         record.ended[cpu] = Sent { sent: 0, lost: 0 };
         counts
@@ -243,20 +244,20 @@ impl Records {
 
     /// The removal of the cyclic has answered: its record goes. It moves 16 bytes for each record between it and the nearer
     /// end: 8 of its box and 8 of its id.
-    pub fn remove(&mut self, place: usize)
-        requires { place < length self.old.list }
-        ensures { self.new.list ≡ remove self.old.list place }
+    pub fn remove(&mut self, position: usize)
+        requires { position < length self.old.list }
+        ensures { self.new.list ≡ remove self.old.list position }
     {
-        self.spare = self.list.remove(place);
-        self.ids.remove(place);
+        self.spare = self.list.remove(position);
+        self.ids.remove(position);
     }
 
     /// The receipt of a cyclic all of whose stays have ended: the counts of all of them.
-    pub fn receipt(&self, place: usize) -> Receipt
-        requires { place < length self.now.list }
-        ensures { (r : Record) → IsRecord self.now.list place r → IsReceiptOf result r }
+    pub fn receipt(&self, position: usize) -> Receipt
+        requires { position < length self.now.list }
+        ensures { (r : Record) → IsRecord self.now.list position r → IsReceiptOf result r }
     {
-        let record = &self.list[place];
+        let record = &self.list[position];
         Receipt {
             id: record.id,
             sent: record.ended_sent(),

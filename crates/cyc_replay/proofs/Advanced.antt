@@ -9,12 +9,12 @@ use Rattle.cyc_core.specs.Tables.{Tables}
 use Rattle.cyc_script.specs.Limits.{most_steps}
 use Rattle.cyc_script.specs.declared.step.Step.TheVariants.{Advance}
 use Rattle.cyc_system.specs.System.{RunningSystem, running_system}
-use Rattle.cyc_model.specs.State.{State, Outcome, online_cpus}
+use Rattle.cyc_model.specs.State.{State, Outcome, cpus_online}
 use Rattle.cyc_types.specs.Reasons.{when, or_else, bad_now}
 use Rattle.cyc_model.specs.Advance.{advance, advance_refusal}
 use Rattle.cyc_replay.specs.SystemAdvancing.{at_clock, fired_and_lost, HasFired, IsAdvanced}
 use Rattle.cyc_replay.specs.declared.machine.Machine.{Machine}
-use Rattle.cyc_replay.specs.Machine.{Holds, IsReached}
+use Rattle.cyc_replay.specs.Machine.{ShowsMachine, IsReached}
 use Rattle.cyc_replay.specs.Words.{Comes, TakesWord}
 use Rattle.cyc_replay.proofs.Doing.{called_done, word_done}
 use Rattle.cyc_model.proofs.Still.{still_fires}
@@ -34,7 +34,7 @@ pub stands_still : (now : ℕ) (s : State) → s.suspended ≡ true → advance_
 stands_still now s on = ap (λ b. or_else (when b Suspended) (or_else (bad_now now) None)) on
 
 -- the clock is set
-pub holds_at : (now : ℕ) (s : State) (m : Machine) → Holds s m → Holds (at_clock now s) (record m { clock = now })
+pub holds_at : (now : ℕ) (s : State) (m : Machine) → ShowsMachine s m → ShowsMachine (at_clock now s) (record m { clock = now })
 holds_at now s m h = record {
   system = h.system;
   shows = (let w = h.shows in
@@ -44,18 +44,18 @@ holds_at now s m h = record {
   called = h.called;
   names = h.names;
   remembers = remembers_on s (at_clock now s) m (record m { clock = now }) h.remembers
-      (record { names = refl; counted = refl; named = refl }) (let same : s.last_id ≤ s.last_id = omega arith in same)
-      (λ id low gone. gone) (λ id low gone. refl);
+      (record { names = refl; named = refl }) (let same : s.last_id ≤ s.last_id = omega arith in same)
+      (λ id low gone. gone) (λ id low gone. gone) (λ id low gone. refl);
   tally = h.tally;
   most = h.most;
   room = h.room;
 }
 
-pub begins : (step now : ℕ) (s : State) (m : Machine) → step ≤ most_steps → IsReached step s → Holds s m → now < never
+pub begins : (step now : ℕ) (s : State) (m : Machine) → step ≤ most_steps → IsReached step s → ShowsMachine s m → now < never
     → s.suspended ≡ false
     → HasFired tally_count 0 (fired_and_lost 0 0) (at_clock now s) (running_system m.tally m.system)
     (running_system m.tally m.system)
-    → IsAdvancing step 0 0 0 s (running_system m.tally m.system) (record m { clock = now })
+    → IsAdvancing step 0 (fired_and_lost 0 0) s (running_system m.tally m.system) (record m { clock = now })
 begins step now s m few r h before awake fired = record {
   reached = r;
   few = few;
@@ -66,9 +66,9 @@ begins step now s m few r h before awake fired = record {
   called = h.called;
   system = h.system;
   names = h.names;
-  remembers = remembers_on s s m (record m { clock = now }) h.remembers (record { names = refl; counted = refl; named = refl })
+  remembers = remembers_on s s m (record m { clock = now }) h.remembers (record { names = refl; named = refl })
       (omega arith)
-      (λ id low gone. gone) (λ id low gone. refl);
+      (λ id low gone. gone) (λ id low gone. gone) (λ id low gone. refl);
   tally = h.tally;
   most = h.most;
   room = h.room;
@@ -76,7 +76,7 @@ begins step now s m few r h before awake fired = record {
 
 -- the clock is the one that was set
 pub fired_at : (step n expired lost now : ℕ) (s : State) (first : RunningSystem TallyView Tables) (t : Machine)
-    → IsAdvancing step n expired lost s first t → t.clock ≡ now
+    → IsAdvancing step n (fired_and_lost expired lost) s first t → t.clock ≡ now
     → HasFired tally_count n (fired_and_lost expired lost) (at_clock now s) first (running_system t.tally t.system)
 fired_at step n expired lost now s first t a clock =
     subst (λ k. HasFired tally_count n (fired_and_lost expired lost) (at_clock k s) first (running_system t.tally t.system))
@@ -84,10 +84,11 @@ fired_at step n expired lost now s first t a clock =
 
 -- after the last fire
 pub advanced : (step k n expired lost now : ℕ) (s : State) (first : RunningSystem TallyView Tables) (t : Machine)
-    → IsAdvancing step n expired lost s first t → t.clock ≡ now → now < never
-    → IsAdvanced tally_count now expired lost s first (running_system t.tally t.system) → Comes [] s (advance k now s) t
+    → IsAdvancing step n (fired_and_lost expired lost) s first t → t.clock ≡ now → now < never
+    → IsAdvanced tally_count now (fired_and_lost expired lost) s first (running_system t.tally t.system)
+    → Comes [] s (advance k now s) t
 advanced step k n expired lost now s first t a clock before d =
-    let still = still_fires now (online_cpus s) (record s { clock = now }) in
+    let still = still_fires now (cpus_online s) (record s { clock = now }) in
     let o = d.comes k in
     record {
       holds = record {
@@ -102,7 +103,7 @@ advanced step k n expired lost now s first t a clock before d =
         names = still.names ∙ a.names;
         remembers = remembers_does [] (λ j. j) k (Advance now) s t t tt (reached_good step s a.reached)
             (in_time now s before a.awake) a.remembers
-            (record { names = refl; counted = refl; named = refl }) (let last = still.last in omega (arith, last));
+            (record { names = refl; named = refl }) (let last = still.last in omega (arith, last));
         tally = a.tally;
         most = a.most;
         room = subst (λ j. HaveRoomFor j t.system.cpus) (sym (ap length still.names)) a.room;

@@ -4,9 +4,9 @@ use Rattle.std.proofs.lemmas.List.{length-set}
 use Rattle.cyc_core.specs.Tables.{Tables}
 use Rattle.cyc_cpu.specs.Soft.{raise_tables}
 use Rattle.cyc_cpu.specs.declared.moving.Taken.{Taken}
-use Rattle.cyc_places.specs.declared.record.Placement.TheVariants as place
+use Rattle.cyc_places.specs.declared.record.Placement.TheVariants as placements
 use Rattle.cyc_places.specs.declared.record.Record.{Record}
-use Rattle.cyc_places.specs.Places.{IsRecord, with_place}
+use Rattle.cyc_places.specs.Places.{IsRecord, with_placement}
 use Rattle.cyc_agreement.proofs.Given.{agrees_same}
 use Rattle.cyc_agreement.proofs.MayGo
 use Rattle.cyc_agreement.proofs.Recording.{one_record}
@@ -15,7 +15,7 @@ use Rattle.cyc_agreement.proofs.Shifted as shifted
 use Rattle.cyc_agreement.proofs.Spots.{get_some, same_some}
 use Rattle.cyc_agreement.proofs.Who.{SameWho, same_changed, same_then, same_asked, same_reserve}
 use Rattle.cyc_system.specs.Agreement.{Agrees}
-use Rattle.cyc_system.specs.Binding.{HasPlace, Records}
+use Rattle.cyc_system.specs.Binding.{HasPlacement, Records}
 use Rattle.cyc_system.specs.Cpus.{CpusView, Works}
 use Rattle.cyc_system.specs.Destination.{destination}
 use Rattle.cyc_system.specs.Juggling.{TakesTurn}
@@ -34,13 +34,13 @@ same_agrees v w u a same cpus records last =
     (λ z. record { cpus = cpus z; records = sym records z; last = sym last z }) (agrees_same v u a same)
 
 -- a cyclic went to its destination
-moved_agrees : (source id d : ℕ) (taken : Taken) (v w : SystemView Tables) → Half v → Agrees v → HasPlace id source false v
+moved_agrees : (source id d : ℕ) (taken : Taken) (v w : SystemView Tables) → Half v → Agrees v → HasPlacement id source false v
     → destination (Some source) v.cpus ≡ Some d → Works raise_tables (moving id source d taken) v.cpus w.cpus
-    → Records id (place.On d false) v w → Agrees w
+    → Records id (placements.On d false) v w → Agrees w
 moved_agrees source id d taken v w hv a (j, q, at, known, stands) dest works (k, r, is, named, records, last) =
     let spot : j ≡ k = one_record v.records k j r q hv.rising is at (known ∙ sym named) in
     let same : q ≡ r = same_some (sym at ∙ subst (λ i. IsRecord v.records i r) (sym spot) is) in
-    let here : r.place ≡ place.On source false = ap (λ (x : Record). x.place) (sym same) ∙ stands in
+    let here : r.placement ≡ placements.On source false = ap (λ (x : Record). x.placement) (sym same) ∙ stands in
     let (cpu, there) = get_some v.cpus.cpus source (MayGo.low_source v a hv.rising source d k r is here dest) in
     let ne : source ≢ d = λ e. MayGo.apart v a hv.rising source d k r is here dest (sym e) in
     let (but, now, gone) = shifted.went raise_tables r.id source d v.cpus w.cpus (ids_up v.cpus source cpu hv.tied there)
@@ -73,4 +73,4 @@ turn_records source id StaysBound v w (at, same) = ap (λ (x : SystemView Tables
 turn_records source id StaysPending v w (at, k, some, (works, records, last)) = ap (λ rs. length rs) records
 turn_records source id StaysRefused v w (at, d, dest, e, (works, records, last)) = ap (λ rs. length rs) records
 turn_records source id Moves v w (at, d, dest, works, (k, r, is, named, records, last)) =
-    ap (λ rs. length rs) records ∙ length-set v.records k (with_place (place.On d false) r)
+    ap (λ rs. length rs) records ∙ length-set v.records k (with_placement (placements.On d false) r)

@@ -13,11 +13,11 @@ use Rattle.cyc_system.specs.Cpus.{numbers_from as online_from}
 use Rattle.cyc_system.specs.System.{SystemView, ids_of, is_leaving_here}
 use Rattle.cyc_system.proofs.Spots.{same_some, none_some}
 use Rattle.cyc_system.proofs.Recording.{tail_rises}
-use Rattle.cyc_system.specs.Removing.{cpus_with as cpus_with_in, Answers}
+use Rattle.cyc_system.specs.Removing.{cpus_with as cpus_with_in, AnswersRemoval}
 use Rattle.cyc_system.specs.Polling.{leaving_cpus}
-use Rattle.cyc_model.specs.Cpu.{Cpu, is_of, has_cyclic, cyclic_of}
+use Rattle.cyc_model.specs.Cpu.{Cpu, is_of, has_cyclic, cyclic_with_id}
 use Rattle.cyc_model.specs.Questions.{outstanding_here}
-use Rattle.cyc_model.specs.State.{State, Ended, Placed, absent, cpu_of, kept_if, numbers_from, numbers, cpus_with}
+use Rattle.cyc_model.specs.State.{State, Ended, Placed, absent, cpu_of, kept_if, cpus_from, numbers, cpus_having}
 use Rattle.cyc_model.specs.Places.{forgotten}
 use Rattle.cyc_model.specs.Remove.{ended_expired, ended_lost}
 use Rattle.cyc_model.specs.Softint.{is_open}
@@ -25,7 +25,7 @@ use Rattle.cyc_model.specs.Report.{counts_of}
 use Rattle.cyc_model.proofs.Removing.{none_with}
 use Rattle.cyc_cpu_model.specs.Shown.{shown_cpu}
 use Rattle.cyc_replay.specs.Shown.{shown_list, shown_cpus, shown_record, shown_counts, ShowsSystem}
-use Rattle.cyc_replay.specs.Removal.{told_by}
+use Rattle.cyc_replay.specs.Removal.{told_by_receipt}
 use Rattle.cyc_replay.proofs.Cpus.{cpu_at, long_shown}
 use Rattle.cyc_replay.proofs.Asking.{any_id}
 use Rattle.cyc_replay.proofs.Sums.{tally_none, sum_ended, none_in_all}
@@ -41,7 +41,7 @@ online_kept false k tests = refl
 same_numbers : (test : Cpu → Bool) (own : CpuView Tables → Bool)
     → ((o : Bool) (v : CpuView Tables) → test (shown_cpu o v) ≡ own v)
     → (k : ℕ) (os : List Bool) (vs : List (CpuView Tables)) → length os ≡ length vs
-    → numbers_from k test (shown_list os vs) ≡ online_from k (map own vs)
+    → cpus_from k test (shown_list os vs) ≡ online_from k (map own vs)
 same_numbers test own same k [] [] long = refl
 same_numbers test own same k [] (v ∷ vs) long = absurd (omega (arith, long))
 same_numbers test own same k (o ∷ os) [] long = absurd (omega (arith, long))
@@ -51,13 +51,13 @@ same_numbers test own same k (o ∷ os) (v ∷ vs) long =
 
 module _ (id : ℕ) (m : State) (v : SystemView Tables) (h : ShowsSystem m v)
     (long : length v.cpus.online ≡ length v.cpus.cpus) where
-  pub same_with : cpus_with id m ≡ cpus_with_in id v.cpus
-  same_with = ap (numbers_from 0 (has_cyclic id)) h.cpus
+  pub same_with : cpus_having id m ≡ cpus_with_in id v.cpus
+  same_with = ap (cpus_from 0 (has_cyclic id)) h.cpus
       ∙ same_numbers (has_cyclic id) (λ cpu. list_any (λ own. own == id) (ids_of cpu))
       (λ o x. any_id id x.cyclics) 0 v.cpus.online v.cpus.cpus long
 
   pub same_open : numbers (is_open id) m ≡ leaving_cpus id v.cpus
-  same_open = ap (numbers_from 0 (is_open id)) h.cpus
+  same_open = ap (cpus_from 0 (is_open id)) h.cpus
       ∙ same_numbers (is_open id) (is_leaving_here id) (λ o x. refl) 0 v.cpus.online v.cpus.cpus long
 
 -- ---- the record that goes
@@ -127,44 +127,44 @@ module _ (id k : ℕ) (r : Record) (m : State) (u : SystemView Tables) (h : Show
 -- ---- where it answers
 
 module _ (id : ℕ) (receipt : Receipt) (m : State) (u t : SystemView Tables) (h : ShowsSystem m u) (hu : Half u)
-    (a : Answers id receipt u t) where
-  pub nowhere : cpus_with id m ≡ []
+    (a : AnswersRemoval id receipt u t) where
+  pub nowhere : cpus_having id m ≡ []
   nowhere = same_with id m u h hu.long ∙ a.nowhere
 
   pub forgotten_shows : ShowsSystem (forgotten id m) t
   forgotten_shows = record {
     cpus = h.cpus ∙ ap shown_cpus (sym a.cpus);
     placed = ap (filter (λ (p : Placed). not (p.id == id))) h.placed
-        ∙ one_goes id a.place a.own u.records hu.rising a.here a.named
+        ∙ one_goes id a.position a.own u.records hu.rising a.here a.named
         ∙ ap (map shown_record) (sym a.records);
-    ended = λ k r is n. let (j, there, rest) = stood u.records a.place k r (subst (λ rs. IsRecord rs k r) a.records is) in
+    ended = λ k r is n. let (j, there, rest) = stood u.records a.position k r (subst (λ rs. IsRecord rs k r) a.records is) in
         h.ended j r there n;
     fresh = h.fresh;
     last = h.last ∙ sym a.last;
   }
 
   pub forgotten_half : Half t
-  forgotten_half = half_parts (record u { records = without u.records a.place }) t
-      (half_gone u a.place hu) a.cpus a.records a.last
+  forgotten_half = half_parts (record u { records = without u.records a.position }) t
+      (half_gone u a.position hu) a.cpus a.records a.last
 
   pub all_expired : ended_expired id m ≡ receipt.sent
-  all_expired = ended_sent id a.place a.own m u h hu a.here a.named ∙ sym a.counts.sent
+  all_expired = ended_sent id a.position a.own m u h hu a.here a.named ∙ sym a.counts.sent
 
   pub all_lost : ended_lost id m ≡ receipt.lost
-  all_lost = ended_gone id a.place a.own m u h hu a.here a.named ∙ sym a.counts.lost
+  all_lost = ended_gone id a.position a.own m u h hu a.here a.named ∙ sym a.counts.lost
 
-  none_there : (n : ℕ) → cyclic_of id (cpu_of n m) ≡ None
+  none_there : (n : ℕ) → cyclic_with_id id (cpu_of n m) ≡ None
   none_there n = none_with id m nowhere n
 
   none_outstanding : (n : ℕ) → n < length m.cpus → outstanding_here id (cpu_of n m) ≡ 0
   none_outstanding n low =
-      let e = as_few id a.place a.own m u h hu a.here a.named in
+      let e = as_few id a.position a.own m u h hu a.here a.named in
       let same : cpu_of n m ≡ cpu_at u.cpus n = ap (λ cs. get_or cs n absent) h.cpus in
       ap (outstanding_here id) same ∙ none_out id (cpu_at u.cpus n) (own_at u n hu (omega (arith, low, e)))
-      (ap (cyclic_of id) (sym same) ∙ none_there n)
+      (ap (cyclic_with_id id) (sym same) ∙ none_there n)
 
   -- all that is left to be told of it
-  pub counts_left : counts_of id (forgotten id m) ≡ told_by receipt (m.called id)
+  pub counts_left : counts_of id (forgotten id m) ≡ told_by_receipt receipt (m.called id)
   counts_left =
       let e = all_expired in
       let x = none_in_all (λ c. sum_by (λ y. cond (is_of id y) y.timer.expired 0) c.cyclics) m.cpus

@@ -12,41 +12,41 @@ use Rattle.cyc_cpu_model.specs.Rows.{Cyclic as Timed}
 use Rattle.cyc_core.specs.Tables.{Tables}
 use Rattle.cyc_cpu.specs.Cpu.{CpuView}
 use Rattle.cyc_places.specs.declared.record.Placement.{Placement as RecordPlacement}
-use Rattle.cyc_places.specs.declared.record.Placement.TheVariants as place
+use Rattle.cyc_places.specs.declared.record.Placement.TheVariants as placements
 use Rattle.cyc_places.specs.declared.record.Record.{Record}
 use Rattle.cyc_places.specs.Places.{HasRisingIds, is_everywhere as everywhere_in}
 use Rattle.cyc_system.specs.System.{SystemView, ids_of, is_leaving_here, record_of, is_unknown as unknown_in}
 use Rattle.cyc_system.specs.System.{is_leaving as leaving_in, is_omnipresent as omnipresent_in}
 use Rattle.cyc_system.specs.Refusals as why
-use Rattle.cyc_system.specs.Binding.{HasPlace, HasHome}
+use Rattle.cyc_system.specs.Binding.{HasPlacement, HasHome}
 use Rattle.cyc_system.proofs.Recording.{record_here}
 use Rattle.cyc_model.specs.Cpu.{Cpu, is_of, has_cyclic}
 use Rattle.cyc_model.specs.State.{State, Placement, Placed, absent}
-use Rattle.cyc_model.specs.Places.{placement_of, is_unknown, is_leaving, is_everywhere, is_omnipresent, is_bound_at, is_bound}
+use Rattle.cyc_model.specs.Places.{placement_of, is_no_cyclic, is_being_removed, is_placed_everywhere, is_omni, is_bound_at, is_bound}
 use Rattle.cyc_model.specs.Places.{home_at, home_of}
 use Rattle.cyc_types.specs.Reasons.{when, or_else}
-use Rattle.cyc_model.specs.Refusals.{no_cpu, offline_cpu, ids_spent}
-use Rattle.cyc_model.specs.Bind.{no_cyclic, omnipresent}
-use Rattle.cyc_model.specs.Reprogram.{no_component}
-use Rattle.cyc_cpu_model.specs.Shown.{shown}
+use Rattle.cyc_model.specs.Refusals.{is_no_cpu, cpu_is_offline, no_id_left}
+use Rattle.cyc_model.specs.Bind.{cyclic_is_absent, cyclic_is_omni}
+use Rattle.cyc_model.specs.Reprogram.{has_no_component}
+use Rattle.cyc_cpu_model.specs.Shown.{shown_cyclic}
 use Rattle.cyc_cpu_model.specs.Answers.{IsRefused}
-use Rattle.cyc_replay.specs.Shown.{shown_list, shown_place, shown_record, ShowsSystem}
+use Rattle.cyc_replay.specs.Shown.{shown_list, shown_placement, shown_record, ShowsSystem}
 use Rattle.cyc_replay.proofs.Cpus.{long_shown}
 
 -- ---- where a cyclic is
 
 abbrev place_in : Option Record → Option Placement
-place_in o = option_map (λ (r : Record). shown_place r.level r.place) o
+place_in o = option_map (λ (r : Record). shown_placement r.level r.placement) o
 
 find_shown : (id : ℕ) (rs : List Record)
-    → option_map (λ (p : Placed). p.place) (find (λ (p : Placed). p.id == id) (map shown_record rs))
+    → option_map (λ (p : Placed). p.placement) (find (λ (p : Placed). p.id == id) (map shown_record rs))
     ≡ place_in (find (λ (r : Record). r.id == id) rs)
 find_shown id [] = refl
 find_shown id (r ∷ rs) = pick (r.id == id) (find_shown id rs)
   where
-    pick : (b : Bool) → option_map (λ (p : Placed). p.place) (find (λ (p : Placed). p.id == id) (map shown_record rs))
+    pick : (b : Bool) → option_map (λ (p : Placed). p.placement) (find (λ (p : Placed). p.id == id) (map shown_record rs))
         ≡ place_in (find (λ (q : Record). q.id == id) rs)
-        → option_map (λ (p : Placed). p.place)
+        → option_map (λ (p : Placed). p.placement)
         (cond b (Some (shown_record r)) (find (λ (p : Placed). p.id == id) (map shown_record rs)))
         ≡ place_in (cond b (Some r) (find (λ (q : Record). q.id == id) rs))
     pick true rest = refl
@@ -54,40 +54,42 @@ find_shown id (r ∷ rs) = pick (r.id == id) (find_shown id rs)
 
 pub place_shown : (id : ℕ) (s : State) (v : SystemView Tables) → ShowsSystem s v → placement_of id s ≡ place_in (record_of id v)
 place_shown id s v h =
-    ap (λ ps. option_map (λ (p : Placed). p.place) (find (λ (p : Placed). p.id == id) ps)) h.placed ∙ find_shown id v.records
+    ap (λ ps. option_map (λ (p : Placed). p.placement) (find (λ (p : Placed). p.id == id) ps)) h.placed ∙ find_shown id v.records
 
 is_some_in : (o : Option Record) → is_some (place_in o) ≡ is_some o
 is_some_in None = refl
 is_some_in (Some r) = refl
 
-pub unknown_shown : (id : ℕ) (s : State) (v : SystemView Tables) → ShowsSystem s v → is_unknown id s ≡ unknown_in id v
+pub unknown_shown : (id : ℕ) (s : State) (v : SystemView Tables) → ShowsSystem s v → is_no_cyclic id s ≡ unknown_in id v
 unknown_shown id s v h = ap (λ o. not (is_some o)) (place_shown id s v h) ∙ ap not (is_some_in (record_of id v))
 
-everywhere_shown : (level : Level) (p : RecordPlacement) → is_everywhere (Some (shown_place level p)) ≡ everywhere_in p
-everywhere_shown level (place.On cpu bound) = refl
-everywhere_shown level (place.Everywhere first skew) = refl
+everywhere_shown : (level : Level) (p : RecordPlacement) → is_placed_everywhere (Some (shown_placement level p)) ≡ everywhere_in p
+everywhere_shown level (placements.On cpu bound) = refl
+everywhere_shown level (placements.Everywhere first skew) = refl
 
-everywhere_of : (o : Option Record) → is_everywhere (place_in o) ≡ option_map_or (λ (r : Record). everywhere_in r.place) o false
+everywhere_of : (o : Option Record) → is_placed_everywhere (place_in o) ≡ option_map_or (λ (r : Record). everywhere_in
+    r.placement) o
+    false
 everywhere_of None = refl
-everywhere_of (Some r) = everywhere_shown r.level r.place
+everywhere_of (Some r) = everywhere_shown r.level r.placement
 
-pub omnipresent_shown : (id : ℕ) (s : State) (v : SystemView Tables) → ShowsSystem s v → is_omnipresent id s ≡ omnipresent_in id v
-omnipresent_shown id s v h = ap is_everywhere (place_shown id s v h) ∙ everywhere_of (record_of id v)
+pub omnipresent_shown : (id : ℕ) (s : State) (v : SystemView Tables) → ShowsSystem s v → is_omni id s ≡ omnipresent_in id v
+omnipresent_shown id s v h = ap is_placed_everywhere (place_shown id s v h) ∙ everywhere_of (record_of id v)
 
 -- the CPU of a cyclic that is on one
 pub home_shown : (id n : ℕ) (s : State) (v : SystemView Tables) → ShowsSystem s v → HasRisingIds v.records → HasHome id n v
     → home_of id s ≡ n
 home_shown id n s v h rising (bound, (k, r, is, named, at)) =
     ap home_at (place_shown id s v h ∙ ap place_in (record_here id k r v.records rising is named))
-    ∙ ap (λ p. home_at (Some (shown_place r.level p))) at
+    ∙ ap (λ p. home_at (Some (shown_placement r.level p))) at
 
 -- whether it is bound to it
 pub bound_shown : (id n : ℕ) (bound : Bool) (s : State) (v : SystemView Tables) → ShowsSystem s v → HasRisingIds v.records
-    → HasPlace id n bound v
+    → HasPlacement id n bound v
     → is_bound id s ≡ bound
 bound_shown id n bound s v h rising (k, r, is, named, at) =
     ap is_bound_at (place_shown id s v h ∙ ap place_in (record_here id k r v.records rising is named))
-    ∙ ap (λ p. is_bound_at (Some (shown_place r.level p))) at
+    ∙ ap (λ p. is_bound_at (Some (shown_placement r.level p))) at
 
 -- ---- the CPUs
 
@@ -101,7 +103,7 @@ any_leaving id (o ∷ os) (v ∷ vs) long =
     ap (λ b. option_map_or (λ own. own == id) v.removal false || b) (any_leaving id os vs (omega (arith, long)))
 
 pub leaving_shown : (id : ℕ) (s : State) (v : SystemView Tables) → ShowsSystem s v → length v.cpus.online ≡ length v.cpus.cpus
-    → is_leaving id s ≡ leaving_in id v
+    → is_being_removed id s ≡ leaving_in id v
 leaving_shown id s v h long =
     ap (λ cs. list_any (λ (c : Cpu). option_map_or (λ own. own == id) c.removal false) cs) h.cpus
     ∙ any_leaving id v.cpus.online v.cpus.cpus long
@@ -115,7 +117,7 @@ online_at (o ∷ os) [] n long = absurd (omega (arith, long))
 online_at (o ∷ os) (v ∷ vs) zero long = refl
 online_at (o ∷ os) (v ∷ vs) (suc n) long = online_at os vs n (omega (arith, long))
 
-pub any_id : (id : ℕ) (cs : List Timed) → list_any (is_of id) (map shown cs)
+pub any_id : (id : ℕ) (cs : List Timed) → list_any (is_of id) (map shown_cyclic cs)
     ≡ list_any (λ own. own == id) (map (λ (c : Timed). c.timer.id) cs)
 any_id id [] = refl
 any_id id (c ∷ cs) = ap (λ b. (c.timer.id == id) || b) (any_id id cs)
@@ -132,23 +134,23 @@ has_at id (o ∷ os) (v ∷ vs) (suc n) long = has_at id os vs n (omega (arith, 
 -- ---- the reasons for a refusal
 
 module _ (s : State) (v : SystemView Tables) (h : ShowsSystem s v) (long : length v.cpus.online ≡ length v.cpus.cpus) where
-  pub same_ids_spent : ids_spent s ≡ why.ids_spent v
+  pub same_ids_spent : no_id_left s ≡ why.ids_spent v
   same_ids_spent = ap (λ n. when (nat_le greatest_id n) IdsSpent) h.last
 
-  pub same_no_cyclic : (id : ℕ) → no_cyclic id s ≡ why.no_cyclic id v
+  pub same_no_cyclic : (id : ℕ) → cyclic_is_absent id s ≡ why.no_cyclic id v
   same_no_cyclic id = λ z. when (unknown_shown id s v h z || leaving_shown id s v h long z) NoCyclic
 
-  pub same_omnipresent : (id : ℕ) → omnipresent id s ≡ why.omnipresent id v
+  pub same_omnipresent : (id : ℕ) → cyclic_is_omni id s ≡ why.omnipresent id v
   same_omnipresent id = ap (λ b. when b Omnipresent) (omnipresent_shown id s v h)
 
-  pub same_no_cpu : (n : ℕ) → no_cpu n s ≡ why.no_cpu n v
+  pub same_no_cpu : (n : ℕ) → is_no_cpu n s ≡ why.no_cpu n v
   same_no_cpu n = ap (λ m. when (nat_le m n) NoCpu) (ap (λ cs. length cs) h.cpus ∙ long_shown v.cpus.online v.cpus.cpus long)
 
-  pub same_offline : (n : ℕ) → offline_cpu n s ≡ why.offline_cpu n v
+  pub same_offline : (n : ℕ) → cpu_is_offline n s ≡ why.offline_cpu n v
   same_offline n = ap (λ b. when (not b) Offline)
       (ap (λ cs. (get_or cs n absent).online) h.cpus ∙ online_at v.cpus.online v.cpus.cpus n long)
 
-  pub same_no_component : (id n : ℕ) → no_component id n s ≡ why.no_component id n v
+  pub same_no_component : (id n : ℕ) → has_no_component id n s ≡ why.no_component id n v
   same_no_component id n = λ z. when (not (omnipresent_shown id s v h z
       && (ap (λ cs. has_cyclic id (get_or cs n absent)) h.cpus ∙ has_at id v.cpus.online v.cpus.cpus n long) z)) NoCyclic
 

@@ -14,7 +14,7 @@ use Rattle.cyc_cpu.specs.Cpu.{CpuView, running}
 use Rattle.cyc_cpu.specs.Soft.{raise_tables, Interrupts}
 use Rattle.cyc_cpu.specs.Calls.{Suspend, Resume}
 use Rattle.cyc_cpu.specs.Calls.{CpuCall, Fire, SoftInterrupt, Add, Place, Reprogram, AskPending, AskTotals, AskRoom, Reserve}
-use Rattle.cyc_cpu.specs.Calls.{Widen, BeginRemove, PollRemove, TakeNow, AskSettled, Changes, Does}
+use Rattle.cyc_cpu.specs.Calls.{Widen, BeginRemove, PollRemove, TakeNow, AskSettled, CpuChanges, CpuDoes}
 use Rattle.cyc_system.specs.Cpus.{CpusView, IsCpu, with_cpu, on, DoesAt, RunningCpus, running_cpus, RunsAt}
 use Rattle.cyc_system.proofs.CpusSpots.{cpu_beside, get_set_same}
 use Rattle.cyc_model.specs.Acts.{calls_of, events_at}
@@ -68,8 +68,8 @@ cpu_is v n x long is =
 abbrev no_calls : Calls (Unit {0})
 no_calls = record { count = λ c id. 0; called = λ c id level d. ⊥; may_refuse = λ c id. ⊥ }
 
-does_of : (call : CpuCall) (x y : CpuView Tables) → Changes raise_tables x call y
-    → Does no_calls raise_tables (Interrupts no_calls) (running tt x) call (running tt y)
+does_of : (call : CpuCall) (x y : CpuView Tables) → CpuChanges raise_tables x call y
+    → CpuDoes no_calls raise_tables (Interrupts no_calls) (running tt x) call (running tt y)
 does_of (Fire now answer) x y d = absurd d
 does_of (SoftInterrupt level budget answer) x y d = absurd d
 does_of (Add id level when now answer) x y d = (d, refl)
@@ -87,7 +87,7 @@ does_of (AskSettled answer) x y d = (d, refl)
 does_of Suspend x y d = (d, refl)
 does_of Resume x y d = (d, refl)
 
-no_stop : (call : CpuCall) (x y : CpuView Tables) → Changes raise_tables x call y → IsStopped call → ⊥
+no_stop : (call : CpuCall) (x y : CpuView Tables) → CpuChanges raise_tables x call y → IsStopped call → ⊥
 no_stop (Fire now answer) x y d stopped = d
 no_stop (SoftInterrupt level budget answer) x y d stopped = d
 no_stop (Add id level when now answer) x y d stopped = absurd stopped

@@ -1,5 +1,5 @@
 -- A step that was done, and one that was refused.
-use Rattle.std.proofs.Common.{◌≡◌, ℕ, ◌+◌, ◌≤◌, List, [], ◌∷◌, length, map, Some, None, ap, sym, ◌∙◌, subst, arith, refl}
+use Rattle.std.proofs.Common.{◌≡◌, ℕ, ◌+◌, ◌≤◌, List, [], ◌∷◌, length, Some, None, ap, sym, ◌∙◌, subst, arith, refl}
 use Rattle.std.specs.Prelude.{Result, Ok, Err}
 use Rattle.cyc_types.specs.Tally.{tally_count}
 use Rattle.cyc_types.specs.declared.refusal.Refusal.{Refusal}
@@ -11,11 +11,12 @@ use Rattle.cyc_model.specs.Refusals.{unless, refusal, after_refusal}
 use Rattle.cyc_model.specs.Script.{refusal_of, does, word}
 use Rattle.cyc_model.proofs.Events.{calls_append}
 use Rattle.cyc_model.proofs.Telling.{tells_steps}
+use Rattle.cyc_cpu_model.specs.Answers.{IsRefused}
 use Rattle.cyc_replay.specs.Shown.{IsSystem, ShowsSystem}
-use Rattle.cyc_replay.specs.SystemWords.{Gives, IsDone, IsDoneWith, IsRefusedFor}
+use Rattle.cyc_replay.specs.SystemWords.{GivesIndexes, IsDone, IsDoneWith, IsRefusedFor}
 use Rattle.cyc_replay.specs.declared.machine.Machine.{Machine}
-use Rattle.cyc_replay.specs.Machine.{Holds, Remembers, IsWide, IsReached, AllMost, number_of}
-use Rattle.cyc_replay.specs.Words.{Comes, Accepts, AcceptsWith, Answers}
+use Rattle.cyc_replay.specs.Machine.{ShowsMachine, Remembers, IsWide, IsReached, AllMost, numbers_of}
+use Rattle.cyc_replay.specs.Words.{Comes}
 use Rattle.cyc_core.specs.Tables.{Tables}
 use Rattle.cyc_system.specs.System.{SystemView}
 use Rattle.cyc_system.specs.Agreement.{most_on}
@@ -26,6 +27,28 @@ use Rattle.cyc_replay.proofs.Introduced.{introduces_does}
 use Rattle.cyc_replay.proofs.Mosts.{most_kept}
 use Rattle.cyc_replay.proofs.Named.{reached_good}
 use Rattle.cyc_replay.proofs.Remembering.{SameNames, remembers_on, remembers_does}
+
+-- the definition does not refuse the step, and comes to what the machine did, where the cyclics that it puts on CPUs get the
+-- indexes that they got there
+pub record Accepts (x : Step) (s : State) (m : Machine) : Type 0 where
+  pub accepted : refusal_of plain x s ≡ None
+  pub given : List ℕ
+  pub comes : (texts : List (List ℕ)) (indexes : ℕ → ℕ) (step : ℕ) → GivesIndexes indexes s.admissions given
+      → Comes given s (does plain texts indexes step x s) m
+
+-- the same of a step whose line tells more: this one, where the step has this number
+pub record AcceptsWith (line : ℕ → List ℕ) (x : Step) (s : State) (m : Machine) : Type 0 where
+  pub accepted : refusal_of plain x s ≡ None
+  pub given : List ℕ
+  pub comes : (texts : List (List ℕ)) (indexes : ℕ → ℕ) (step : ℕ) → GivesIndexes indexes s.admissions given
+      → Comes given s (does plain texts indexes step x s) m
+  pub said : (texts : List (List ℕ)) (indexes : ℕ → ℕ) (step : ℕ) → GivesIndexes indexes s.admissions given
+      → (does plain texts indexes step x s).line ≡ line step
+
+-- the step is done, or refused for one reason by both; want of memory comes where there is no other reason
+abbrev pub Answers : {A : Type 0} → Step → Result A Refusal → State → Machine → Type 0
+Answers x (Ok done) s m = Accepts x s m
+Answers x (Err e) s m = IsRefused e (refusal_of plain x s) × ShowsMachine s m
 
 -- the word of a step that is not refused, and of one that is
 pub word_done : (texts : List (List ℕ)) (indexes : ℕ → ℕ) (step : ℕ) (x : Step) (s : State) → refusal_of plain x s ≡ None
@@ -59,7 +82,7 @@ pub record Leaves (x : Step) (s : State) (n : Machine) : Type 0 where
   pub suspended : (texts : List (List ℕ)) (indexes : ℕ → ℕ) (step : ℕ)
       → (does plain texts indexes step x s).state.suspended ≡ s.suspended
   pub names : (texts : List (List ℕ)) (indexes : ℕ → ℕ) (step : ℕ)
-      → (does plain texts indexes step x s).state.names ≡ map number_of n.names.items
+      → (does plain texts indexes step x s).state.names ≡ numbers_of n.names
   pub last : (texts : List (List ℕ)) (indexes : ℕ → ℕ) (step : ℕ) → s.last_id ≤ (does plain texts indexes step x s).state.last_id
 
 -- what each call of a system keeps, but that a suspend and a resume do not keep the mark
@@ -69,7 +92,7 @@ pub record Keeps (s : State) (v : SystemView Tables) : Type 0 where
   pub room : HaveRoomFor (length s.names) v.cpus
   pub suspended : s.suspended ≡ is_suspended v
 
-pub keeps : (s : State) (m : Machine) (w : SystemView Tables) → Holds s m → IsSystem w
+pub keeps : (s : State) (m : Machine) (w : SystemView Tables) → ShowsMachine s m → IsSystem w
     → ((n : ℕ) → most_on n w.cpus ≡ most_on n m.system.cpus)
     → HaveRoomFor (length s.names) w.cpus → is_suspended w ≡ is_suspended m.system → Keeps s w
 keeps s m w h system most room mark = record {
@@ -80,11 +103,11 @@ keeps s m w h system most room mark = record {
 }
 
 -- what the definition comes to, where the step calls no handler
-pub done_comes : (x : Step) (s : State) (m n : Machine) → Holds s m → Keeps s n.system → (done : IsDone x s n.system)
+pub done_comes : (x : Step) (s : State) (m n : Machine) → ShowsMachine s m → Keeps s n.system → (done : IsDone x s n.system)
     → n.clock ≡ m.clock
     → n.tally ≡ m.tally → Leaves x s n
     → ((texts : List (List ℕ)) (indexes : ℕ → ℕ) (step : ℕ) → Remembers (does plain texts indexes step x s).state n)
-    → (texts : List (List ℕ)) (indexes : ℕ → ℕ) (step : ℕ) → Gives indexes s.admissions done.given
+    → (texts : List (List ℕ)) (indexes : ℕ → ℕ) (step : ℕ) → GivesIndexes indexes s.admissions done.given
     → Comes done.given s (does plain texts indexes step x s) n
 done_comes x s m n h kept done clock tally leaves remembers texts indexes step gives =
     let o = done.comes texts indexes step gives in
@@ -111,7 +134,8 @@ done_comes x s m n h kept done clock tally leaves remembers texts indexes step g
     }
 
 -- a step that calls no handler
-pub accepts : (x : Step) (s : State) (m n : Machine) → Holds s m → Keeps s n.system → IsDone x s n.system → n.clock ≡ m.clock
+pub accepts : (x : Step) (s : State) (m n : Machine) → ShowsMachine s m → Keeps s n.system → IsDone x s n.system
+    → n.clock ≡ m.clock
     → n.tally ≡ m.tally → Leaves x s n
     → ((texts : List (List ℕ)) (indexes : ℕ → ℕ) (step : ℕ) → Remembers (does plain texts indexes step x s).state n)
     → Accepts x s n
@@ -122,24 +146,26 @@ accepts x s m n h kept done clock tally leaves remembers = record {
 }
 
 -- a step that is refused leaves the machine as it shows it
-pub refuses : (s : State) (m n : Machine) → Holds s m → Keeps s n.system → ShowsSystem s n.system → n.clock ≡ m.clock
+pub refuses : (s : State) (m n : Machine) → ShowsMachine s m → Keeps s n.system → ShowsSystem s n.system → n.clock ≡ m.clock
     → n.tally ≡ m.tally
-    → SameNames m n → Holds s n
+    → SameNames m n → ShowsMachine s n
 refuses s m n h kept shows clock tally same = record {
   system = kept.system;
   shows = shows;
   clock = h.clock ∙ sym clock;
   suspended = kept.suspended;
   called = λ id. ap (λ t. tally_count t id) tally ∙ h.called id;
-  names = h.names ∙ sym (ap (map number_of) same.names);
-  remembers = remembers_on s s m n h.remembers same (omega arith) (λ id low gone. gone) (λ id low gone. refl);
+  names = h.names ∙ sym (ap numbers_of same.names);
+  remembers = remembers_on s s m n h.remembers same (omega arith) (λ id low gone. gone) (λ id low gone. gone)
+      (λ id low gone. refl);
   tally = subst (λ t. IsWide t) (sym tally) h.tally;
   most = kept.most;
   room = kept.room;
 }
 
 -- a step that is done, gives no id and ends no removal
-pub lasts : (step : ℕ) (x : Step) (s : State) (m n : Machine) → IsReached step s → IsLasting x → Holds s m → Keeps s n.system
+pub lasts : (step : ℕ) (x : Step) (s : State) (m n : Machine) → IsReached step s → IsLasting x → ShowsMachine s m
+    → Keeps s n.system
     → IsDone x s n.system
     → n.clock ≡ m.clock → n.tally ≡ m.tally → SameNames m n → Leaves x s n → Accepts x s n
 lasts step x s m n r is h kept done clock tally same leaves = accepts x s m n h kept done clock tally leaves
@@ -149,7 +175,7 @@ lasts step x s m n r is h kept done clock tally same leaves = accepts x s m n h 
 -- one that says no more than whether it was done
 pub answered : (step : ℕ) (x : Step) (answer : Result (Unit {0}) Refusal) (s : State) (m n : Machine) → IsReached step s
     → IsLasting x
-    → Holds s m → Keeps s n.system
+    → ShowsMachine s m → Keeps s n.system
     → (answer ≡ Ok tt → IsDone x s n.system) → ((e : Refusal) → answer ≡ Err e → IsRefusedFor e x s n.system)
     → n.clock ≡ m.clock → n.tally ≡ m.tally → SameNames m n → Leaves x s n → Answers x answer s n
 answered step x (Ok done) s m n r is h kept accepted refused clock tally same leaves =
@@ -159,7 +185,7 @@ answered step x (Err e) s m n r is h kept accepted refused clock tally same leav
 
 -- one whose line tells more
 pub lasts_with : (line : ℕ → List ℕ) (step : ℕ) (x : Step) (s : State) (m n : Machine) → IsReached step s → IsLasting x
-    → Holds s m
+    → ShowsMachine s m
     → Keeps s n.system → IsDoneWith line x s n.system → n.clock ≡ m.clock → n.tally ≡ m.tally → SameNames m n → Leaves x s n
     → AcceptsWith line x s n
 lasts_with line step x s m n r is h kept told clock tally same leaves = record {

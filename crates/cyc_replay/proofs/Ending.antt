@@ -20,11 +20,11 @@ use Rattle.cyc_places.specs.Places.{IsRecord, ended_on, summed, with_ended}
 use Rattle.cyc_system.specs.System.{SystemView}
 use Rattle.cyc_system.proofs.Spots.{same_some, none_some, get_some}
 use Rattle.cyc_model.specs.Acts.{at_own}
-use Rattle.cyc_model.specs.Cpu.{Cyclic, Cpu, cyclic_of, handler_level_of, happen}
+use Rattle.cyc_model.specs.Cpu.{CyclicState, Cpu, cyclic_with_id, handler_level_of, happen}
 use Rattle.cyc_model.specs.Moving.{mark_here}
 use Rattle.cyc_model.specs.Questions.{outstanding_here}
 use Rattle.cyc_model.specs.State.{State, Ended}
-use Rattle.cyc_model.specs.Places.{with_ended as with_ended_in}
+use Rattle.cyc_model.specs.Places.{keeping_counts as with_ended_in}
 use Rattle.cyc_cpu_model.specs.Tied.{HasOwn}
 use Rattle.cyc_replay.specs.Shown.{shown_cpus, shown_record, shown_counts, ShowsSystem}
 use Rattle.cyc_replay.proofs.Cpus.{cpu_at, cpu_is}
@@ -46,15 +46,15 @@ none_counted None isnt = refl
 none_counted (Some c) isnt = absurd (isnt refl)
 
 -- a cyclic that isn't on the CPU has none there
-pub none_out : (id : ℕ) (c : Cpu) → HasOwn c → cyclic_of id c ≡ None → outstanding_here id c ≡ 0
+pub none_out : (id : ℕ) (c : Cpu) → HasOwn c → cyclic_with_id id c ≡ None → outstanding_here id c ≡ 0
 none_out id c own none =
     let high : handler_level_of id c ≡ level.High = ap high_of none in
     let lock = none_counted (c.lock.cyclics id) (λ is. not_lock (sym high ∙ own.known soft.Lock id is)) in
     let low = none_counted (c.low.cyclics id) (λ is. not_low (sym high ∙ own.known soft.Low id is)) in
     omega (arith, lock, low)
   where
-    high_of : Option Cyclic → Level
-    high_of o = option_map_or (λ (x : Cyclic). x.timer.level) o level.High
+    high_of : Option CyclicState → Level
+    high_of o = option_map_or (λ (x : CyclicState). x.timer.level) o level.High
 
     not_lock : level.High ≡ level.Lock → ⊥
     not_lock e = cc
@@ -76,10 +76,11 @@ map_set f [] k r x is same = absurd (none_some is)
 map_set f (y ∷ ys) zero r x is same = ap (λ z. z ∷ map f ys) (same ∙ ap f (sym (same_some is)))
 map_set f (y ∷ ys) (suc k) r x is same = ap (λ zs. f y ∷ zs) (map_set f ys k r x is same)
 
-abbrev counted : Bool → Ended → Cyclic → Ended
+abbrev counted : Bool → Ended → CyclicState → Ended
 counted b e x = cond b (record { expired = e.expired + x.timer.expired; lost = e.lost + x.lost }) e
 
-module _ (n id : ℕ) (x : Cyclic) (counts : Sent) (k : ℕ) (r : Record) (m : State) (v w : SystemView Tables) (h : ShowsSystem m v)
+module _ (n id : ℕ) (x : CyclicState) (counts : Sent) (k : ℕ) (r : Record) (m : State) (v w : SystemView Tables) (h :
+    ShowsSystem m v)
     (hv : Half v)
     (within : n < length v.cpus.cpus) (is : IsRecord v.records k r) (named : r.id ≡ id) (own : x.timer.id ≡ id)
     (sent : counts.sent ≡ x.timer.expired) (lost : counts.lost ≡ x.lost)

@@ -12,11 +12,11 @@ use Rattle.cyc_system.specs.Cpus.{CpusView}
 use Rattle.cyc_system.specs.System.{SystemView}
 use Rattle.cyc_places.specs.Places.{IsRecord}
 use Rattle.cyc_model.specs.Acts.{Act, calls_of, events_at}
-use Rattle.cyc_model.specs.Cpu.{Cyclic, Cpu}
+use Rattle.cyc_model.specs.Cpu.{CyclicState, Cpu}
 use Rattle.cyc_model.specs.Serving.{level_at}
 use Rattle.cyc_model.specs.Moving.{widen_here, place_here, enter_here}
 use Rattle.cyc_model.specs.State.{State, absent, cpu_of}
-use Rattle.cyc_model.specs.Add.{cyclic_with}
+use Rattle.cyc_model.specs.Add.{cyclic_that_expired}
 use Rattle.cyc_model.specs.Free.{AllCanBeAdmitted}
 use Rattle.cyc_model.proofs.Events.{calls_append, events_append}
 use Rattle.cyc_model.proofs.Local.{AllOn, local_widen, other_events}
@@ -26,7 +26,7 @@ use Rattle.cyc_replay.proofs.Lists.{set_twice, set_get, get_set}
 use Rattle.cyc_replay.proofs.Cpus.{cpu_at, DoneAt}
 
 -- after a growth and an admission
-pub record Entered (n index : ℕ) (x : Cyclic) (v w : CpusView Tables) : Type 0 where
+pub record Entered (n index : ℕ) (x : CyclicState) (v w : CpusView Tables) : Type 0 where
   pub cpus : shown_cpus w ≡ slice_set (shown_cpus v) n (enter_here n index x (cpu_at v n)).cpu
   pub quiet : (q : ℕ) → calls_of q (enter_here n index x (cpu_at v n)).acts ≡ 0
   pub free : (soft : Soft) → AllCanBeAdmitted (events_at n soft (enter_here n index x (cpu_at v n)).acts)
@@ -41,9 +41,9 @@ at_set v w n c low is = ap (λ cs. get_or cs n absent) is ∙ get_set (shown_cpu
 pub entered : (n id : ℕ) (level : Level) (interval moment : ℕ) (carried : Sent) (v u w : CpusView Tables)
     → (wide : DoneAt n (Widen 1) v u)
     → (p : DoneAt n (Place id level interval moment carried) u w)
-    → Entered n p.index (cyclic_with id level interval moment carried.sent carried.lost) v w
+    → Entered n p.index (cyclic_that_expired id level interval moment carried.sent carried.lost) v w
 entered n id level interval moment carried v u w wide p =
-    let x : Cyclic = cyclic_with id level interval moment carried.sent carried.lost in
+    let x : CyclicState = cyclic_that_expired id level interval moment carried.sent carried.lost in
     let c = cpu_at v n in
     let grown = widen_here n 1 c in
     let at : cpu_at u n ≡ grown.cpu = at_set v u n grown.cpu wide.within wide.cpus in

@@ -21,7 +21,7 @@ use Rattle.cyc_timers.specs.declared.fire.Fired.{Fired}
 use Rattle.cyc_timers.specs.declared.fire.FireRefused.{FireRefused}
 use Rattle.cyc_timers.specs.Made.{Stops}
 use Rattle.cyc_cpu.specs.Cpu.{CpuView, running}
-use Rattle.cyc_cpu.specs.Calls.{Fire, WhyNoFire, no_interrupts, Does as DoesHere}
+use Rattle.cyc_cpu.specs.Calls.{Fire, WhyNoFire, no_interrupts, CpuDoes as DoesHere}
 use Rattle.cyc_cpu.proofs.Calling.{refused_not}
 use Rattle.cyc_cpu.specs.Soft.{raise_tables}
 use Rattle.cyc_system.specs.Cpus.{IsCpu}
@@ -30,19 +30,19 @@ use Rattle.cyc_system.proofs.Spots.{same_some, none_some}
 use Rattle.cyc_system.specs.Calls.{Does, FireOne, no_fire}
 use Rattle.cyc_agreement.specs.Suspending.{is_suspended}
 use Rattle.cyc_model.specs.Acts.{calls_of}
-use Rattle.cyc_model.specs.Cpu.{Cyclic, Cpu}
+use Rattle.cyc_model.specs.Cpu.{CyclicState, Cpu}
 use Rattle.cyc_model.specs.Firing.{fire_here}
 use Rattle.cyc_types.specs.Reasons.{when, or_else}
-use Rattle.cyc_model.specs.State.{State, absent, cpu_of, on, each, numbers_from}
+use Rattle.cyc_model.specs.State.{State, absent, cpu_of, on_number, each, cpus_from}
 use Rattle.cyc_model.proofs.Events.{calls_append}
 use Rattle.cyc_model.proofs.Totals.{expired_in}
 use Rattle.cyc_model.proofs.Numbers.{Has, numbers_few}
 use Rattle.cyc_model.proofs.Calm.{good_clock}
-use Rattle.cyc_cpu_model.specs.Shown.{shown}
+use Rattle.cyc_cpu_model.specs.Shown.{shown_cyclic}
 use Rattle.cyc_replay.specs.SystemAdvancing.{at_clock, online_below, fired_and_lost, HasFired}
 use Rattle.cyc_replay.specs.Shown.{shown_list, IsSystem}
 use Rattle.cyc_replay.specs.declared.machine.Machine.{Machine}
-use Rattle.cyc_replay.specs.Machine.{IsWide, AllMost, number_of}
+use Rattle.cyc_replay.specs.Machine.{IsWide, AllMost, numbers_of}
 use Rattle.cyc_replay.specs.Advancing.{IsAdvancing}
 use Rattle.cyc_replay.proofs.Mosts.{most_changed}
 use Rattle.cyc_replay.proofs.SystemSuspending.{mark_at}
@@ -105,35 +105,35 @@ AllBelow k [] = Unit {0}
 AllBelow k (n ∷ ns) = (n < k) × AllBelow k ns
 
 numbers_below : (test : Cpu → Bool) (from high : ℕ) (cs : List Cpu) → from + length cs ≤ high
-    → AllBelow high (numbers_from from test cs)
+    → AllBelow high (cpus_from from test cs)
 unfolding AllBelow
 numbers_below test from high [] le = tt
 numbers_below test from high (c ∷ cs) le = by (test c) (numbers_below test (from + 1) high cs (omega (arith, le)))
   where
-    by : (b : Bool) → AllBelow high (numbers_from (from + 1) test cs)
-        → AllBelow high (cond b (from ∷ numbers_from (from + 1) test cs) (numbers_from (from + 1) test cs))
+    by : (b : Bool) → AllBelow high (cpus_from (from + 1) test cs)
+        → AllBelow high (cond b (from ∷ cpus_from (from + 1) test cs) (cpus_from (from + 1) test cs))
     by true r = (omega (arith, le), r)
     by false r = r
 
 not_fired_yet : (n now : ℕ) (ns : List ℕ) (s : State) → AllBelow n ns
-    → cpu_of n (each (λ k. on k (fire_here k now)) ns s).state ≡ cpu_of n s
+    → cpu_of n (each (λ k. on_number k (fire_here k now)) ns s).state ≡ cpu_of n s
 unfolding AllBelow
 not_fired_yet n now [] s below = refl
 not_fired_yet n now (k ∷ ns) s below =
-    not_fired_yet n now ns (on k (fire_here k now) s).state below.1
+    not_fired_yet n now ns (on_number k (fire_here k now) s).state below.1
     ∙ get_or-set_other s.cpus k n (fire_here k now (cpu_of k s)).cpu absent (λ e. let low = below.0 in omega (arith, low, e))
 
 called_fires : (id now : ℕ) (ns : List ℕ) (s : State)
-    → (each (λ k. on k (fire_here k now)) ns s).state.called id
-    ≡ s.called id + calls_of id (each (λ k. on k (fire_here k now)) ns s).acts
+    → (each (λ k. on_number k (fire_here k now)) ns s).state.called id
+    ≡ s.called id + calls_of id (each (λ k. on_number k (fire_here k now)) ns s).acts
 called_fires id now [] s = omega arith
 called_fires id now (k ∷ ns) s =
-    let t = (on k (fire_here k now) s).state in
+    let t = (on_number k (fire_here k now) s).state in
     let a = called_fires id now ns t in
-    let b = calls_append id (fire_here k now (cpu_of k s)).acts (each (λ j. on j (fire_here j now)) ns t).acts in
+    let b = calls_append id (fire_here k now (cpu_of k s)).acts (each (λ j. on_number j (fire_here j now)) ns t).acts in
     let c : t.called id ≡ s.called id + calls_of id (fire_here k now (cpu_of k s)).acts = refl in omega (arith, a, b, c)
 
-timers_shown : (cs : List Timed) → map (λ (c : Cyclic). c.timer) (map shown cs) ≡ timers cs
+timers_shown : (cs : List Timed) → map (λ (c : CyclicState). c.timer) (map shown_cyclic cs) ≡ timers cs
 timers_shown [] = refl
 timers_shown (c ∷ cs) = ap (λ ts. c.timer ∷ ts) (timers_shown cs)
 
@@ -163,10 +163,10 @@ take_low (suc n) (c ∷ cs) = let r = take_low n cs in omega (arith, r)
 
 shown_at : (os : List Bool) (vs : List (CpuView Tables)) (n : ℕ) (x : CpuView Tables) → length os ≡ length vs
     → slice_get vs n ≡ Some x
-    → (slice_index_or (shown_list os vs) n absent).cyclics ≡ map shown x.cyclics
+    → (slice_index_or (shown_list os vs) n absent).cyclics ≡ map shown_cyclic x.cyclics
 shown_at os [] n x long is = absurd (none_some is)
 shown_at [] (v ∷ vs) n x long is = absurd (omega (arith, long))
-shown_at (o ∷ os) (v ∷ vs) zero x long is = ap (λ (y : CpuView Tables). map shown y.cyclics) (same_some is)
+shown_at (o ∷ os) (v ∷ vs) zero x long is = ap (λ (y : CpuView Tables). map shown_cyclic y.cyclics) (same_some is)
 shown_at (o ∷ os) (v ∷ vs) (suc n) x long is = shown_at os vs n x (omega (arith, long)) is
 
 abbrev why_of : FireRefused → Result Fired FireRefused → Refusal
@@ -176,7 +176,7 @@ why_of d (Err e) = e.why
 -- ---- no fire is refused
 
 module _ (step n expired lost : ℕ) (s : State) (first : RunningSystem TallyView Tables) (m : Machine)
-    (a : IsAdvancing step n expired lost s first m)
+    (a : IsAdvancing step n (fired_and_lost expired lost) s first m)
     (low : n < length m.system.cpus.cpus) where
   low_ones : (k : ℕ) → Has k (online_below n (at_clock m.clock s)) → k < length s.cpus
   low_ones k has = has_low k (length s.cpus) (online_below n (at_clock m.clock s))
@@ -198,14 +198,15 @@ module _ (step n expired lost : ℕ) (s : State) (first : RunningSystem TallyVie
 
   -- the CPU has not fired
   same_timers : (x : CpuView Tables) → IsCpu n x m.system.cpus
-      → timers x.cyclics ≡ map (λ (c : Cyclic). c.timer) (cpu_of n s).cyclics
+      → timers x.cyclics ≡ map (λ (c : CyclicState). c.timer) (cpu_of n s).cyclics
   same_timers x here =
       let c = at_clock m.clock s in let ns = online_below n c in
       let still = not_fired_yet n m.clock ns c (numbers_below (λ (y : Cpu). y.online) 0 n (take n c.cpus) (take_low n c.cpus)) in
       sym (timers_shown x.cyclics)
-      ∙ ap (map (λ (y : Cyclic). y.timer)) (sym (shown_at m.system.cpus.online m.system.cpus.cpus n x a.system.agrees.long here))
-      ∙ ap (λ cs. map (λ (y : Cyclic). y.timer) (slice_index_or cs n absent).cyclics) (sym a.fired.comes.shows.cpus)
-      ∙ ap (λ (y : Cpu). map (λ (z : Cyclic). z.timer) y.cyclics) still
+      ∙ ap (map (λ (y : CyclicState). y.timer)) (sym (shown_at m.system.cpus.online m.system.cpus.cpus n x a.system.agrees.long
+      here))
+      ∙ ap (λ cs. map (λ (y : CyclicState). y.timer) (slice_index_or cs n absent).cyclics) (sym a.fired.comes.shows.cpus)
+      ∙ ap (λ (y : Cpu). map (λ (z : CyclicState). z.timer) y.cyclics) still
 
   pub never_fire : (e : FireRefused) (t : RunningSystem TallyView Tables) → (e.why ≡ Offline → ⊥)
       → Does tally_calls raise_tables no_interrupts (running_system m.tally m.system)
@@ -225,7 +226,7 @@ module _ (step n expired lost : ℕ) (s : State) (first : RunningSystem TallyVie
           never_stopped m.clock 65535 (65536 * 16000000032) did.before did.after m.tally t.calls e f (omega arith)
           (a.most n did.before did.here) (omega arith)
           (subst (EachTimer (IsFew 65535 (65536 * 16000000032))) (sym ts)
-          (few_more 65535 (65535 * 16000000032) (65536 * 16000000032) (map (λ (c : Cyclic). c.timer) (cpu_of n s).cyclics)
+          (few_more 65535 (65535 * 16000000032) (65536 * 16000000032) (map (λ (c : CyclicState). c.timer) (cpu_of n s).cyclics)
           (omega arith) (few_timers step n s a.reached a.few)))
           (λ id. subst (λ xs. times_of id (expirations m.clock xs) ≤ late + 2) (sym ts)
           (few_times id n m.clock s (reached_good step s a.reached)))
@@ -233,9 +234,10 @@ module _ (step n expired lost : ℕ) (s : State) (first : RunningSystem TallyVie
 
 -- ---- a CPU that is passed over
 
-length_fires : (now : ℕ) (ns : List ℕ) (s : State) → length (each (λ k. on k (fire_here k now)) ns s).state.cpus ≡ length s.cpus
+length_fires : (now : ℕ) (ns : List ℕ) (s : State) → length (each (λ k. on_number k (fire_here k now)) ns s).state.cpus ≡
+    length s.cpus
 length_fires now [] s = refl
-length_fires now (k ∷ ns) s = length_fires now ns (on k (fire_here k now) s).state
+length_fires now (k ∷ ns) s = length_fires now ns (on_number k (fire_here k now) s).state
     ∙ length-set s.cpus k (fire_here k now (cpu_of k s)).cpu
 
 pub length_shown : (os : List Bool) (vs : List (CpuView Tables)) → length os ≡ length vs → length (shown_list os vs) ≡ length vs
@@ -245,22 +247,22 @@ length_shown (o ∷ os) [] long = refl
 length_shown (o ∷ os) (v ∷ vs) long = ap suc (length_shown os vs (omega (arith, long)))
 
 pub many_here : (step n expired lost : ℕ) (s : State) (first : RunningSystem TallyView Tables) (m : Machine)
-    → IsAdvancing step n expired lost s first m
+    → IsAdvancing step n (fired_and_lost expired lost) s first m
     → length s.cpus ≡ length m.system.cpus.cpus
 many_here step n expired lost s first m a =
     sym (length_fires m.clock (online_below n (at_clock m.clock s)) (at_clock m.clock s))
     ∙ ap length a.fired.comes.shows.cpus ∙ length_shown m.system.cpus.online m.system.cpus.cpus a.system.agrees.long
 
 pub low_here : (step n expired lost : ℕ) (s : State) (first : RunningSystem TallyView Tables) (m : Machine)
-    → IsAdvancing step n expired lost s first m
+    → IsAdvancing step n (fired_and_lost expired lost) s first m
     → n < length m.system.cpus.cpus → n < length s.cpus
 low_here step n expired lost s first m a low = let e = many_here step n expired lost s first m a in omega (arith, low, e)
 
 pub passed_on : (step n expired lost : ℕ) (s : State) (first : RunningSystem TallyView Tables) (m t : Machine)
-    → IsAdvancing step n expired lost s first m
+    → IsAdvancing step n (fired_and_lost expired lost) s first m
     → running_system t.tally t.system ≡ running_system m.tally m.system → t.clock ≡ m.clock → SameNames m t
     → HasFired tally_count (n + 1) (fired_and_lost expired lost) (at_clock m.clock s) first (running_system m.tally m.system)
-    → IsAdvancing step (n + 1) (expired + 0) (lost + 0) s first t
+    → IsAdvancing step (n + 1) (fired_and_lost (expired + 0) (lost + 0)) s first t
 passed_on step n expired lost s first m t a same clock names next =
     let system = ap (λ (r : RunningSystem TallyView Tables). r.system) same in
     let tally = ap (λ (r : RunningSystem TallyView Tables). r.calls) same in
@@ -284,8 +286,9 @@ passed_on step n expired lost s first m t a same clock names next =
           (sym same) next)));
       called = a.called;
       system = subst (λ v. IsSystem v) (sym system) a.system;
-      names = a.names ∙ sym (ap (map number_of) names.names);
-      remembers = remembers_on s s m t a.remembers names (omega arith) (λ id low gone. gone) (λ id low gone. refl);
+      names = a.names ∙ sym (ap numbers_of names.names);
+      remembers = remembers_on s s m t a.remembers names (omega arith) (λ id low gone. gone) (λ id low gone. gone)
+          (λ id low gone. refl);
       room = subst (λ (v : SystemView Tables). HaveRoomFor (length s.names) v.cpus) (sym system) a.room;
       tally = subst (λ x. IsWide x) (sym tally) a.tally;
       most = subst (λ (v : SystemView Tables). AllMost v.cpus) (sym system) a.most;

@@ -8,9 +8,9 @@ use Rattle.cyc_types.specs.declared.level.Soft.{Soft}
 use Rattle.cyc_model.specs.Acts.{calls_of, events_at}
 use Rattle.cyc_model.specs.Cpu.{Cpu, Here}
 use Rattle.cyc_model.specs.Serving.{level_at}
-use Rattle.cyc_model.specs.State.{State, Outcome, absent, cpu_of, nothing, followed_by, on}
+use Rattle.cyc_model.specs.State.{State, Outcome, absent, cpu_of, nothing, followed_by, on_number}
 use Rattle.cyc_model.specs.Free.{AllCanBeAdmitted}
-use Rattle.cyc_model.specs.Laws.{Tells}
+use Rattle.cyc_model.specs.Laws.{ActsTell}
 use Rattle.cyc_model.proofs.Events.{calls_append, events_append}
 use Rattle.cyc_model.proofs.Local.{Local, other_events}
 use Rattle.cyc_model.proofs.Telling.{Alike, told_alike, told_from, told_to, told_append, told_on}
@@ -18,7 +18,7 @@ use Rattle.cyc_replay.proofs.Entering.{free_on}
 use Rattle.cyc_cpu_model.proofs.Free.{can_append}
 
 pub record Goes (s : State) (o : Outcome) : Type 0 where
-  pub tells : Tells o.acts s o.state
+  pub tells : ActsTell o.acts s o.state
   pub outside : (m : ℕ) → length s.cpus ≤ m → (soft : Soft) → events_at m soft o.acts ≡ []
   pub free : (m : ℕ) (soft : Soft) → AllCanBeAdmitted (events_at m soft o.acts) (level_at soft (cpu_of m s))
   pub quiet : (q : ℕ) → calls_of q o.acts ≡ 0
@@ -84,7 +84,7 @@ goes_then s o f one two = record {
 pub goes_on : (n : ℕ) (f : Cpu → Here) (s : State) → ((c : Cpu) → Local n c (f c)) → n < length s.cpus
     → ((soft : Soft) → AllCanBeAdmitted (events_at n soft (f (cpu_of n s)).acts) (level_at soft (cpu_of n s)))
     → ((q : ℕ) → calls_of q (f (cpu_of n s)).acts ≡ 0)
-    → Goes s (on n f s)
+    → Goes s (on_number n f s)
 goes_on n f s local low free quiet = record {
   tells = told_on n f local s;
   outside = λ m past soft. other_events (f (cpu_of n s)).acts n m soft (local (cpu_of n s)).on (λ e. omega (arith, past, low, e));

@@ -4,7 +4,7 @@ use Rattle.std.proofs.Common.{sym, ◌∙◌, subst, cond}
 use Rattle.std.proofs.Common.{arith}
 use Rattle.std.specs.Prelude.{slice_index_or}
 use Rattle.std.proofs.lemmas.List.Sums.{sum_by-cons}
-use Rattle.cyc_model.specs.Cpu.{Cyclic, Cpu}
+use Rattle.cyc_model.specs.Cpu.{CyclicState, Cpu}
 use Rattle.cyc_model.specs.Questions.{plain}
 use Rattle.cyc_model.specs.State.{State, absent, cpu_of}
 use Rattle.cyc_model.specs.Laws.{AtMost, AllAtMost}
@@ -31,7 +31,7 @@ few_reached step s r low =
 
 -- ---- the timers of a CPU
 
-few_cyclics : (low last most : ℕ) (cs : List Cyclic) → Rising low cs → AtMost last cs
+few_cyclics : (low last most : ℕ) (cs : List CyclicState) → Rising low cs → AtMost last cs
     → ((id : ℕ) → sum_by (expired_by id) cs ≤ most)
     → EachTimer (IsFew last most) (map (λ c. c.timer) cs)
 few_cyclics low last most [] rise at all = tt
@@ -61,7 +61,7 @@ few_timers step n s r low =
     (more_most s.last_id 65535 (cpu_of n s).cyclics few.0 (at_most s.last_id n s.cpus all))
     (λ id. let a = sum_at id n s.cpus in let b = few.1 id in omega (arith, a, b))
   where
-    more_most : (a b : ℕ) (cs : List Cyclic) → a ≤ b → AtMost a cs → AtMost b cs
+    more_most : (a b : ℕ) (cs : List CyclicState) → a ≤ b → AtMost a cs → AtMost b cs
     more_most a b [] le at = tt
     more_most a b (x ∷ xs) le at = (let h = at.0 in omega (arith, h, le), more_most a b xs le at.1)
 

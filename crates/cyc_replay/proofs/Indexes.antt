@@ -15,11 +15,11 @@ use Rattle.cyc_script.specs.declared.step.Step.{Step}
 use Rattle.cyc_script.specs.declared.step.Step.TheVariants.{Add, Omni, Bind, Unbind, Reprogram, Remove, Advance, Softint, Juggle}
 use Rattle.cyc_script.specs.declared.step.Step.TheVariants.{Offline, Online, Suspend, Resume}
 use Rattle.cyc_model.specs.Acts.{Act, At, Call, at_own, events_at}
-use Rattle.cyc_model.specs.Cpu.{Cpu, handler_level_of, new_cpu}
+use Rattle.cyc_model.specs.Cpu.{Cpu, handler_level_of, begun_cpu}
 use Rattle.cyc_model.specs.Firing.{raised, expiry, expire_here, expire_all, due_here, fire_here}
 use Rattle.cyc_model.specs.Questions.{plain}
 use Rattle.cyc_model.specs.Serving.{level_at, level_after}
-use Rattle.cyc_model.specs.State.{State, Outcome, absent, on, cpu_of, each, online_cpus}
+use Rattle.cyc_model.specs.State.{State, Outcome, absent, on_number, cpu_of, each, cpus_online}
 use Rattle.cyc_model.specs.Refusals.{unless}
 use Rattle.cyc_model.specs.Laws.{level_on}
 use Rattle.cyc_model.specs.Script.{refusal_of, does, word, steps_from, start, run_on}
@@ -106,13 +106,14 @@ expiries_below high n (p ∷ ps) c =
     acts_append (IsBelow high) (expire_here n p.id c).acts (expire_all n ps (expire_here n p.id c).cpu).acts
     (expiry_below high n p.id (handler_level_of p.id c) c) (expiries_below high n ps (expire_here n p.id c).cpu)
 
-below_fires : (now : ℕ) (ns : List ℕ) (s : State) → Below (each (λ n. on n (fire_here n now)) ns s).acts s.admissions
-    (each (λ n. on n (fire_here n now)) ns s).state.admissions
+below_fires : (now : ℕ) (ns : List ℕ) (s : State) → Below (each (λ n. on_number n (fire_here n now)) ns s).acts s.admissions
+    (each (λ n. on_number n (fire_here n now)) ns s).state.admissions
 below_fires now [] s = (omega arith, tt)
 below_fires now (n ∷ ns) s =
-    let t = (on n (fire_here n now) s).state in
-    below_append (fire_here n now (cpu_of n s)).acts (each (λ m. on m (fire_here m now)) ns t).acts s.admissions s.admissions
-    (each (λ m. on m (fire_here m now)) ns t).state.admissions
+    let t = (on_number n (fire_here n now) s).state in
+    below_append (fire_here n now (cpu_of n s)).acts (each (λ m. on_number m (fire_here m now)) ns t).acts s.admissions
+    s.admissions
+    (each (λ m. on_number m (fire_here m now)) ns t).state.admissions
     (omega arith, expiries_below s.admissions n (due_here now (cpu_of n s)) (cpu_of n s)) (below_fires now ns t)
 
 below_shaped : (texts : List (List ℕ)) (step : ℕ) (x : Step) (s : State) → IsNoFire x
@@ -121,7 +122,7 @@ below_shaped texts step x s is = shaped_does own_number Below below_calm below_a
 
 below_does : (texts : List (List ℕ)) (step : ℕ) (x : Step) (s : State)
     → Below (does plain texts own_number step x s).acts s.admissions (does plain texts own_number step x s).state.admissions
-below_does texts step (Advance now) s = below_fires now (online_cpus s) (record s { clock = now })
+below_does texts step (Advance now) s = below_fires now (cpus_online s) (record s { clock = now })
 below_does texts step (Add a) s = below_shaped texts step (Add a) s tt
 below_does texts step (Omni a) s = below_shaped texts step (Omni a) s tt
 below_does texts step (Bind b) s = below_shaped texts step (Bind b) s tt
@@ -154,9 +155,9 @@ below_steps texts step (x ∷ xs) s =
 -- ---- other indexes
 
 -- a machine with no cyclic has none
-new_bare : (f : ℕ → ℕ) (n ceiling : ℕ) → map (bare_cpu f) (replicate n (new_cpu ceiling)) ≡ replicate n (new_cpu ceiling)
+new_bare : (f : ℕ → ℕ) (n ceiling : ℕ) → map (bare_cpu f) (replicate n (begun_cpu ceiling)) ≡ replicate n (begun_cpu ceiling)
 new_bare f zero ceiling = refl
-new_bare f (suc n) ceiling = ap (λ cs. new_cpu ceiling ∷ cs) (new_bare f n ceiling)
+new_bare f (suc n) ceiling = ap (λ cs. begun_cpu ceiling ∷ cs) (new_bare f n ceiling)
 
 start_bare : (f : ℕ → ℕ) (cpus ceiling names : ℕ) → bare f (start cpus ceiling names) ≡ start cpus ceiling names
 start_bare f cpus ceiling names = λ z. record (start cpus ceiling names) { cpus = new_bare f cpus ceiling z }

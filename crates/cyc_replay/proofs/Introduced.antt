@@ -10,7 +10,7 @@ use Rattle.cyc_script.specs.declared.step.Step.TheVariants.{Offline, Online, Sus
 use Rattle.cyc_script.specs.WellFormed.{names_after, names_after_all}
 use Rattle.cyc_model.specs.Laws.{RiseTo}
 use Rattle.cyc_model.specs.Questions.{plain}
-use Rattle.cyc_model.specs.State.{State, Placed, OnAll, online_cpus}
+use Rattle.cyc_model.specs.State.{State, Placed, OnAll, cpus_online}
 use Rattle.cyc_model.specs.Places.{given}
 use Rattle.cyc_model.specs.Omni.{everywhere}
 use Rattle.cyc_model.specs.Refusals.{unless}
@@ -49,7 +49,7 @@ module _ (texts : List (List ℕ)) (f : ℕ → ℕ) (step : ℕ) (s : State) wh
   introduces_does (Add a) = record { names = length-set s.names a.name (s.last_id + 1); last = omega arith }
   introduces_does (Omni a) =
       let t = given a.name (OnAll (everywhere a)) s in
-      let h = still_enters f (s.last_id + 1) (everywhere a) (online_cpus t) t in
+      let h = still_enters f (s.last_id + 1) (everywhere a) (cpus_online t) t in
       record {
         names = ap length h.names ∙ length-set s.names a.name (s.last_id + 1);
         last = let same = h.last in omega (arith, same);
@@ -62,7 +62,7 @@ module _ (texts : List (List ℕ)) (f : ℕ → ℕ) (step : ℕ) (s : State) wh
       (still_remove step (text_in texts name) name s)
   introduces_does (Advance now) =
       let t = record s { clock = now } in
-      let h = still_fires now (online_cpus t) t in
+      let h = still_fires now (cpus_online t) t in
       same_there (Advance now) s (does plain texts f step (Advance now) s).state refl h.names h.last
   introduces_does (Softint i) =
       still_there (Softint i) s (does plain texts f step (Softint i) s).state refl (still_softint texts step i s)

@@ -20,15 +20,24 @@ use Rattle.cyc_system.specs.Turn.TheVariants as there
 use Rattle.cyc_system.specs.Juggling.{Turns, MovesAway, counted as counted_there, single_ids as single_there}
 use Rattle.cyc_system.specs.Juggling.{last_cpu as last_there, juggle_refusals}
 use Rattle.cyc_system.specs.Calls.{Changes, Juggle}
-use Rattle.cyc_model.specs.Cpu.{Cyclic, Cpu}
+use Rattle.cyc_model.specs.Cpu.{CyclicState, Cpu}
 use Rattle.cyc_model.specs.Questions.{plain}
-use Rattle.cyc_model.specs.State.{State, absent, cpu_of, numbers_from}
+use Rattle.cyc_model.specs.State.{State, absent, cpu_of, cpus_from}
 use Rattle.cyc_types.specs.Reasons.{first_refusal, or_else, when, busy}
-use Rattle.cyc_model.specs.Refusals.{no_cpu, offline_cpu, last_cpu}
-use Rattle.cyc_model.specs.Juggle.{Juggled, counted, take_turn, one_turn, juggle_each, single_ids, juggled, juggle_refusal}
-use Rattle.cyc_cpu_model.specs.Shown.{shown}
+use Rattle.cyc_model.specs.Refusals.{is_no_cpu, cpu_is_offline, is_last_online}
+use Rattle.cyc_model.specs.Juggle.{
+  Juggled,
+  counted_turn,
+  take_turn,
+  one_turn,
+  juggle_each,
+  single_ids_of,
+  juggled,
+  juggle_refusal,
+}
+use Rattle.cyc_cpu_model.specs.Shown.{shown_cyclic}
 use Rattle.cyc_replay.specs.Shown.{shown_list, ShowsSystem, IsSystem}
-use Rattle.cyc_replay.specs.SystemWords.{Gives, IsDoneWith, IsRefusedFor}
+use Rattle.cyc_replay.specs.SystemWords.{GivesIndexes, IsDoneWith, IsRefusedFor}
 use Rattle.cyc_replay.specs.Room.{HaveRoomFor}
 use Rattle.cyc_replay.proofs.Asking.{NoMemory, omnipresent_shown, same_no_cpu, same_offline, no_memory_when}
 use Rattle.cyc_replay.proofs.Asking.{no_memory_else}
@@ -47,17 +56,18 @@ len_both : (xs ys : List ℕ) → length (xs ++ ys) ≡ length xs + length ys
 len_both [] ys = omega arith
 len_both (x ∷ xs) ys = let rest = len_both xs ys in omega (arith, rest)
 
-gives_first : (indexes : ℕ → ℕ) (k : ℕ) (xs ys : List ℕ) → Gives indexes k (xs ++ ys) → Gives indexes k xs
+gives_first : (indexes : ℕ → ℕ) (k : ℕ) (xs ys : List ℕ) → GivesIndexes indexes k (xs ++ ys) → GivesIndexes indexes k xs
 gives_first indexes k [] ys gives = tt
 gives_first indexes k (x ∷ xs) ys gives = (gives.0, gives_first indexes (k + 1) xs ys gives.1)
 
-gives_rest : (indexes : ℕ → ℕ) (k : ℕ) (xs ys : List ℕ) → Gives indexes k (xs ++ ys) → Gives indexes (k + length xs) ys
-gives_rest indexes k [] ys gives = subst (λ m. Gives indexes m ys) (none k) gives
+gives_rest : (indexes : ℕ → ℕ) (k : ℕ) (xs ys : List ℕ) → GivesIndexes indexes k (xs ++ ys)
+    → GivesIndexes indexes (k + length xs) ys
+gives_rest indexes k [] ys gives = subst (λ m. GivesIndexes indexes m ys) (none k) gives
   where
     none : (k : ℕ) → k ≡ k + 0
     none k = omega arith
 gives_rest indexes k (x ∷ xs) ys gives =
-    subst (λ m. Gives indexes m ys) (next k (length xs)) (gives_rest indexes (k + 1) xs ys gives.1)
+    subst (λ m. GivesIndexes indexes m ys) (next k (length xs)) (gives_rest indexes (k + 1) xs ys gives.1)
   where
     next : (a b : ℕ) → a + 1 + b ≡ a + suc b
     next a b = omega arith
@@ -70,7 +80,7 @@ pub record JugglesTo (report : JuggleReport) (given : List ℕ) (s : State) (j :
   pub goes : Goes s j.outcome
   pub admissions : j.outcome.state.admissions ≡ s.admissions + length given
 
-counted_as : (t : TurnThere) (d : ℕ) (a b : JuggleReport) → a ≡ b → counted (as_turn d t) a ≡ counted_there t b
+counted_as : (t : TurnThere) (d : ℕ) (a b : JuggleReport) → a ≡ b → counted_turn (as_turn d t) a ≡ counted_there t b
 counted_as there.StaysBound d a b same = ap (λ (r : JuggleReport). record r { bound = r.bound + 1 }) same
 counted_as there.StaysPending d a b same = ap (λ (r : JuggleReport). record r { pending = r.pending + 1 }) same
 counted_as there.StaysRefused d a b same = ap (λ (r : JuggleReport). record r { refused = r.refused + 1 }) same
@@ -79,7 +89,7 @@ counted_as there.Moves d a b same = ap (λ (r : JuggleReport). record r { moved 
 all_turns : (source : ℕ) (ids : List ℕ) (report : JuggleReport) (v w : SystemView Tables) → Half v → Agrees v
     → (wanted : ℕ) → length v.records ≤ wanted → HaveRoomFor wanted v.cpus
     → Turns raise_tables source ids report v w → (given : List ℕ) × ((s : State) (indexes : ℕ → ℕ) → ShowsSystem s v
-    → Gives indexes s.admissions given → JugglesTo report given s (juggle_each plain indexes source ids s) w)
+    → GivesIndexes indexes s.admissions given → JugglesTo report given s (juggle_each plain indexes source ids s) w)
 all_turns source [] report v w hv agrees wanted few all (is, same) = (
   [],
   λ s indexes h gives. record {
@@ -100,7 +110,8 @@ all_turns source (id ∷ ids) report v w hv agrees wanted few all (t, u, rest, t
           let first = one.1 s indexes h (gives_first indexes s.admissions one.0 later.0 gives) in
           let o = take_turn indexes source id (as_turn first.target t) s in
           let next = later.1 o.state indexes first.shows
-          (subst (λ k. Gives indexes k later.0) (sym first.admissions) (gives_rest indexes s.admissions one.0 later.0 gives)) in
+          (subst (λ k. GivesIndexes indexes k later.0) (sym first.admissions) (gives_rest indexes s.admissions one.0 later.0
+          gives)) in
           subst (λ x. JugglesTo report (one.0 ++ later.0) s
           (one_turn indexes source id x s (juggle_each plain indexes source ids)) w)
           (sym first.is) (record {
@@ -114,12 +125,13 @@ all_turns source (id ∷ ids) report v w hv agrees wanted few all (t, u, rest, t
 
 -- ---- what is asked first
 
-ids_shown : (cs : List Timed) → map (λ (x : Cyclic). x.timer.id) (map shown cs) ≡ map (λ (c : Timed). c.timer.id) cs
+ids_shown : (cs : List Timed) → map (λ (x : CyclicState). x.timer.id) (map shown_cyclic cs) ≡ map (λ (c : Timed). c.timer.id) cs
 ids_shown [] = refl
 ids_shown (c ∷ cs) = ap (λ ids. c.timer.id ∷ ids) (ids_shown cs)
 
 ids_at : (os : List Bool) (vs : List (CpuView Tables)) (n : ℕ) → length os ≡ length vs
-    → map (λ (x : Cyclic). x.timer.id) (get_or (shown_list os vs) n absent).cyclics ≡ option_map_or ids_of (slice_get vs n) []
+    → map (λ (x : CyclicState). x.timer.id) (get_or (shown_list os vs) n absent).cyclics ≡ option_map_or ids_of (slice_get vs
+    n) []
 ids_at [] [] zero long = refl
 ids_at [] [] (suc n) long = refl
 ids_at [] (v ∷ vs) n long = absurd (omega (arith, long))
@@ -128,9 +140,9 @@ ids_at (o ∷ os) (v ∷ vs) zero long = ids_shown v.cyclics
 ids_at (o ∷ os) (v ∷ vs) (suc n) long = ids_at os vs n (omega (arith, long))
 
 module _ (n : ℕ) (s : State) (v : SystemView Tables) (h : ShowsSystem s v) (hv : Half v) where
-  same_last : last_cpu n s ≡ last_there v
+  same_last : is_last_online n s ≡ last_there v
   same_last = ap (λ ns. when (nat_le (length ns) 1) LastCpu)
-      (ap (numbers_from 0 (λ (c : Cpu). c.online)) h.cpus ∙ same_numbers 0 v.cpus.online v.cpus.cpus hv.long)
+      (ap (cpus_from 0 (λ (c : Cpu). c.online)) h.cpus ∙ same_numbers 0 v.cpus.online v.cpus.cpus hv.long)
 
   -- why no cyclic leaves
   pub same_whys : juggle_refusal plain n s ≡ first_refusal (juggle_refusals n v)
@@ -138,23 +150,23 @@ module _ (n : ℕ) (s : State) (v : SystemView Tables) (h : ShowsSystem s v) (hv
       (or_else (same_last z) (or_else (busy (same_removal s v h hv.long n z)) None)))
 
   pub no_memory : NoMemory (juggle_refusal plain n s)
-  no_memory = no_memory_else (no_cpu n s) _ (no_memory_when _ NoCpu tt)
-      (no_memory_else (offline_cpu n s) _ (no_memory_when _ Offline tt)
-      (no_memory_else (last_cpu n s) _ (no_memory_when _ LastCpu tt)
+  no_memory = no_memory_else (is_no_cpu n s) _ (no_memory_when _ NoCpu tt)
+      (no_memory_else (cpu_is_offline n s) _ (no_memory_when _ Offline tt)
+      (no_memory_else (is_last_online n s) _ (no_memory_when _ LastCpu tt)
       (no_memory_else (busy (cpu_of n s).removal) None (no_memory_busy (cpu_of n s).removal) tt)))
 
   -- the cyclics of the CPU
-  pub same_ids : map (λ (x : Cyclic). x.timer.id) (cpu_of n s).cyclics ≡ ids_on n v.cpus
-  same_ids = ap (λ cs. map (λ (x : Cyclic). x.timer.id) (get_or cs n absent).cyclics) h.cpus
+  pub same_ids : map (λ (x : CyclicState). x.timer.id) (cpu_of n s).cyclics ≡ ids_on n v.cpus
+  same_ids = ap (λ cs. map (λ (x : CyclicState). x.timer.id) (get_or cs n absent).cyclics) h.cpus
       ∙ ids_at v.cpus.online v.cpus.cpus n hv.long
 
-  pub same_single : single_ids n s ≡ single_there n v
+  pub same_single : single_ids_of n s ≡ single_there n v
   same_single = λ z. filter (λ id. not (omnipresent_shown id s v h z)) (same_ids z)
 
   -- all that may leave have their turns
   pub juggles : (report : JuggleReport) (w : SystemView Tables) → Agrees v → HaveRoomFor (length v.records) v.cpus
       → MovesAway raise_tables n report v w
-      → (given : List ℕ) × ((indexes : ℕ → ℕ) → Gives indexes s.admissions given
+      → (given : List ℕ) × ((indexes : ℕ → ℕ) → GivesIndexes indexes s.admissions given
       → JugglesTo report given s (juggled plain indexes n s) w)
   juggles report w agrees all turns =
       let f = all_turns n (single_there n v) report v w hv agrees (length v.records) (omega arith) all turns in (

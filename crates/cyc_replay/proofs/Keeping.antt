@@ -21,13 +21,13 @@ use Rattle.cyc_cpu.specs.declared.removing.Removal.TheVariants as on_cpu
 use Rattle.cyc_cpu.specs.Cpu.{CpuView, Running, SameCpu, running}
 use Rattle.cyc_cpu.specs.Soft.{raise_tables, Interrupts}
 use Rattle.cyc_cpu.specs.Calls.{CpuCall, Fire, AskPending, AskRoom, Reserve, Reprogram as Reprogrammed, TakeNow, Widen}
-use Rattle.cyc_cpu.specs.Calls.{SoftInterrupt as CpuSoftInterrupt, Does as CpuDoes}
+use Rattle.cyc_cpu.specs.Calls.{SoftInterrupt as CpuSoftInterrupt, CpuDoes as CpuDoes}
 use Rattle.cyc_cpu.specs.Calls as cpu
 use Rattle.cyc_cpu.proofs.Calling.{changes_most, fire_keeps}
 use Rattle.cyc_places.specs.declared.record.Placement.{Placement as RecordPlacement}
-use Rattle.cyc_places.specs.declared.record.Placement.TheVariants as place
+use Rattle.cyc_places.specs.declared.record.Placement.TheVariants as placements
 use Rattle.cyc_places.specs.declared.record.Record.{Record}
-use Rattle.cyc_places.specs.Places.{IsRecord, HasRisingIds, with_place, with_ended, ended_on, summed, new_record}
+use Rattle.cyc_places.specs.Places.{IsRecord, HasRisingIds, with_placement, with_ended, ended_on, summed, new_record}
 use Rattle.cyc_system.specs.Cpus.{CpusView, CallOn, Works, DoesAt, RunsAt, with_cpu, on, online_cpus, running_cpus}
 use Rattle.cyc_system.specs.Shifting.{moving}
 use Rattle.cyc_system.specs.Reserving.{rooms, reserves, ReservesEach}
@@ -38,14 +38,14 @@ use Rattle.cyc_system.proofs.Spots.{same_some, none_some}
 use Rattle.cyc_system.specs.Adding.{OnlyWorks, entering}
 use Rattle.cyc_system.specs.Shifting.{move_of}
 use Rattle.cyc_system.specs.Binding.{GoesTo, Records}
-use Rattle.cyc_system.specs.Removing.{counts_of, BeginsOn, Begun, Answers}
+use Rattle.cyc_system.specs.Removing.{counts_of_receipt, BeginsOn, Begun, AnswersRemoval}
 use Rattle.cyc_system.specs.SystemRemoval.TheVariants as system
 use Rattle.cyc_system.specs.Polling.{PollsOn, Polled}
 use Rattle.cyc_system.specs.Counting.{asked}
 use Rattle.cyc_system.specs.Turn.{Turn}
 use Rattle.cyc_system.specs.Turn.TheVariants as turn
 use Rattle.cyc_system.specs.Juggling.{TakesTurn, Turns, single_ids}
-use Rattle.cyc_system.specs.GoingOffline.{quiet, Retires, offline_at, Leaves}
+use Rattle.cyc_system.specs.GoingOffline.{quiet, Retires, offline_at, EndsOffline}
 use Rattle.cyc_system.specs.Omni.{entering_each}
 use Rattle.cyc_system.specs.Online.{GoesOnline, staying, is_staying, returns, after_return, switched_on}
 use Rattle.cyc_system.specs.Calls.{SystemCall, Add, AddOmni, Bind, BeginRemove, PollRemove, AskTotals, Reprogram, ReprogramOn}
@@ -134,9 +134,9 @@ kept_put v k r x h is same new = record { half = half_put v k r x h is same new;
 kept_placed : (id : ℕ) (p : RecordPlacement) (v u w : SystemView Tables) → Kept v u → w.cpus ≡ u.cpus → Records id p u w
     → Kept v w
 kept_placed id p v u w h cpus (k, r, is, named, records, last) =
-    kept_parts v (record u { records = slice_set u.records k (with_place p r) }) w
-    (kept_then v u (record u { records = slice_set u.records k (with_place p r) }) h
-    (kept_put u k r (with_place p r) h.half is refl (h.half.full k r is))) cpus records last
+    kept_parts v (record u { records = slice_set u.records k (with_placement p r) }) w
+    (kept_then v u (record u { records = slice_set u.records k (with_placement p r) }) h
+    (kept_put u k r (with_placement p r) h.half is refl (h.half.full k r is))) cpus records last
 
 -- a stay that ended on a CPU
 pub kept_ended : (n : ℕ) (call : CpuCall) (counts : Sent) (k : ℕ) (r : Record) (v w : SystemView Tables) → Half v
@@ -199,7 +199,7 @@ kept_turn source id turn.StaysPending v w h (at, n, some, only) = kept_only (on 
 kept_turn source id turn.StaysRefused v w h (at, d, dest, e, only) =
     kept_only (on source (AskPending id (Some 0)) ∷ on d (Reserve 1 (Err e)) ∷ []) v w h only
 kept_turn source id turn.Moves v w h (at, d, dest, (taken, works), records) =
-    kept_placed id (place.On d false) v (record v { cpus = w.cpus }) w
+    kept_placed id (placements.On d false) v (record v { cpus = w.cpus }) w
     (kept_works (moving id source d taken) v w.cpus h works) refl records
 
 pub kept_turns : (source : ℕ) (ids : List ℕ) (report : JuggleReport) (v w : SystemView Tables) → Half v
@@ -232,7 +232,7 @@ kept_switched n b v h = record {
 }
 
 kept_leaves : (n : ℕ) (report : JuggleReport) (answer : Result (Unit {0}) Refusal) (v w : SystemView Tables) → Half v
-    → Leaves raise_tables n report answer v w → Kept v w
+    → EndsOffline raise_tables n report answer v w → Kept v w
 kept_leaves n report answer v w h (inl (left, is, same)) = kept_same v w h same
 kept_leaves n report answer v w h (inr (inl (none, is, (before, id, stands, found, some, only)))) =
     kept_only (quiet n before ++ on n (AskPending id (Some found)) ∷ []) v w h only
@@ -254,7 +254,7 @@ kept_begins id (b ∷ way) v w h (u, did, rest) =
   where
     by : (found : Removal) → BeginsOn raise_tables id b.cpu found v u → Kept v u
     by (on_cpu.Done receipt) (did, k, r, is, named, records, last) =
-        kept_ended b.cpu (cpu.BeginRemove id (Ok (on_cpu.Done receipt))) (counts_of receipt) k r v u h did is records last
+        kept_ended b.cpu (cpu.BeginRemove id (Ok (on_cpu.Done receipt))) (counts_of_receipt receipt) k r v u h did is records last
     by (on_cpu.Kept left) (did, records, last) =
         kept_parts v (record v { cpus = u.cpus }) u
         (kept_did (on b.cpu (cpu.BeginRemove id (Ok (on_cpu.Kept left)))) v u.cpus h did) refl records last
@@ -268,13 +268,14 @@ kept_polls id (p ∷ way) v w h (u, did, rest) =
   where
     by : (answer : Option Receipt) → PollsOn raise_tables id p.cpu answer v u → Kept v u
     by (Some receipt) (did, k, r, is, named, records, last) =
-        kept_ended p.cpu (cpu.PollRemove (Some receipt)) (counts_of receipt) k r v u h did is records last
+        kept_ended p.cpu (cpu.PollRemove (Some receipt)) (counts_of_receipt receipt) k r v u h did is records last
     by None (did, records, last) =
         kept_parts v (record v { cpus = u.cpus }) u (kept_did (on p.cpu (cpu.PollRemove None)) v u.cpus h did) refl records last
 
-kept_answers : (id : ℕ) (receipt : Receipt) (v u w : SystemView Tables) → Kept v u → Answers id receipt u w → Kept v w
+kept_answers : (id : ℕ) (receipt : Receipt) (v u w : SystemView Tables) → Kept v u → AnswersRemoval id receipt u w → Kept v w
 kept_answers id receipt v u w k a = record {
-  half = half_parts (record u { records = remove u.records a.place }) w (half_gone u a.place k.half) a.cpus a.records a.last;
+  half = half_parts (record u { records = remove u.records a.position }) w (half_gone u a.position k.half) a.cpus a.records
+      a.last;
   most = λ n. ap (most_on n) a.cpus ∙ k.most n;
   room = λ wanted all. subst (HaveRoomFor wanted) (sym a.cpus) (k.room wanted all);
 }
@@ -359,7 +360,7 @@ changes_keep : (call : SystemCall) (v w : SystemView Tables) → Half v → Chan
 changes_keep (Add level series now answer) v w h (inl (e, some, said, same)) = kept_same v w h same
 changes_keep (Add level series now (Ok id)) v w h (inr (none, (d, dest, named, works, records, last))) =
     let way = on d (Reserve 1 (Ok tt)) ∷ entering d id level series.interval (first series.start series.interval now) in
-    kept_more v (record v { cpus = w.cpus }) w id level (place.On d false)
+    kept_more v (record v { cpus = w.cpus }) w id level (placements.On d false)
     (kept_works way v w.cpus h works) refl refl named refl records last
 changes_keep (Add level series now (Err e)) v w h (inr (none, (d, dest, inl only))) =
     kept_only (on d (Reserve 1 (Err e)) ∷ []) v w h only
@@ -370,7 +371,7 @@ changes_keep (AddOmni level series skew now (Ok id)) v w h (inr (none, (named, (
     let one = kept_each (Ok tt) v u h reserved in
     let two = kept_works (entering_each (online_cpus v.cpus) id level series skew now)
     (record v { cpus = u }) w.cpus one.half works in
-    kept_more v (record v { cpus = w.cpus }) w id level (place.Everywhere series skew)
+    kept_more v (record v { cpus = w.cpus }) w id level (placements.Everywhere series skew)
     (kept_then v (record v { cpus = u }) (record v { cpus = w.cpus }) one two) refl refl named refl records last
 changes_keep (AddOmni level series skew now (Err e)) v w h (inr (none, (inl each, records, last))) =
     kept_parts v (record v { cpus = w.cpus }) w (kept_each (Err e) v w.cpus h each) refl records last
@@ -381,7 +382,8 @@ changes_keep (Bind id None answer) v w h (inr (none, (ok, n, home, cpus, records
     kept_placed id _ v v w (kept_same v v h refl) cpus records
 changes_keep (Bind id (Some n) answer) v w h (inl (e, some, said, same)) = kept_same v w h same
 changes_keep (Bind id (Some n) (Ok done)) v w h (inr (none, (home, at, goes, records))) =
-    kept_placed id (place.On n true) v (record v { cpus = w.cpus }) w (kept_goes id home n (Ok tt) v w.cpus h goes) refl records
+    kept_placed id (placements.On n true) v (record v { cpus = w.cpus }) w (kept_goes id home n (Ok tt) v w.cpus h goes) refl
+    records
 changes_keep (Bind id (Some n) (Err e)) v w h (inr (none, (home, at, goes, records, last))) =
     kept_parts v (record v { cpus = w.cpus }) w (kept_goes id home n (Err e) v w.cpus h goes) refl records last
 changes_keep (BeginRemove id answer) v w h (inl (e, some, said, same)) = kept_same v w h same

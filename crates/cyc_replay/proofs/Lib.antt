@@ -58,3 +58,4 @@ pub mod Served
 pub mod Polled
 pub mod Asked
 pub mod Reported
+pub mod Worded

@@ -1,4 +1,4 @@
--- The calls of a step that names a CPU, and of one that doesn't, and the moments of a script.
+-- What calls leave of the tally and of the mark, and the moments of a script.
 use Rattle.std.proofs.Common.{◌≡◌, ℕ, zero, suc, ◌<◌, Bool, true, false, List, [], ◌∷◌, length, get_or, Option, Some, None, refl}
 use Rattle.std.proofs.Common.{sym, subst, arith}
 use Rattle.std.specs.Prelude.{◌&&◌, Result}
@@ -11,19 +11,41 @@ use Rattle.cyc_replay.specs.Words.{SetsBelowNever}
 use Rattle.cyc_types.specs.Tally.{TallyView}
 use Rattle.cyc_types.specs.contracts.tally.TallyCalls.TheImpl.{ghosts as tally_calls}
 use Rattle.cyc_types.specs.declared.refusal.Refusal.{Refusal}
+use Rattle.cyc_types.proofs.Facts.{both_true}
 use Rattle.cyc_core.specs.Tables.{Tables}
 use Rattle.cyc_cpu.specs.Soft.{raise_tables, Interrupts}
 use Rattle.cyc_system.specs.System.{SystemView, running_system}
-use Rattle.cyc_system.specs.Calls.{Changes, Does, reprograms}
+use Rattle.cyc_system.specs.Calls.{SystemCall, Changes, Does, PollRemove, AskTotals, Reprogram as ReprogramCall, ReprogramOn}
+use Rattle.cyc_system.specs.Calls.{FireOne, SoftInterrupt, reprograms}
+use Rattle.cyc_system.specs.Calls.{Add as AddCall, AddOmni, Bind as BindCall, BeginRemove, Juggle as JuggleCall}
+use Rattle.cyc_system.specs.Calls.{Offline as OfflineCall, Online as OnlineCall, Suspend as SuspendCall, Resume as ResumeCall}
+use Rattle.cyc_words.specs.Names.{news}
 use Rattle.cyc_replay.specs.Kept.{LeavesMark}
 
-pub same_kept : (cpu : Option ℕ) (id moment : ℕ) (answer : Result (Unit {0}) Refusal) (tally : TallyView)
-    (v w : SystemView Tables)
-    → Changes raise_tables v (reprograms cpu id moment answer) w
-    → Does tally_calls raise_tables (Interrupts tally_calls)
-    (running_system tally v) (reprograms cpu id moment answer) (running_system tally w)
-same_kept None id moment answer tally v w did = (did, refl)
-same_kept (Some n) id moment answer tally v w did = (did, refl)
+-- a call that reaches no handler leaves the tally
+pub as_running : (call : SystemCall) (t : TallyView) (v w : SystemView Tables) → Changes raise_tables v call w
+    → Does tally_calls raise_tables (Interrupts tally_calls) (running_system t v) call (running_system t w)
+as_running (AddCall level series now answer) t v w did = (did, refl)
+as_running (AddOmni level series skew now answer) t v w did = (did, refl)
+as_running (BindCall id cpu answer) t v w did = (did, refl)
+as_running (BeginRemove id answer) t v w did = (did, refl)
+as_running (PollRemove id answer) t v w did = (did, refl)
+as_running (AskTotals id answer) t v w did = (did, refl)
+as_running (ReprogramCall id moment answer) t v w did = (did, refl)
+as_running (ReprogramOn id n moment answer) t v w did = (did, refl)
+as_running (JuggleCall n answer) t v w did = (did, refl)
+as_running (OfflineCall n answer) t v w did = (did, refl)
+as_running (OnlineCall n now answer) t v w did = (did, refl)
+as_running (FireOne n now answer) t v w did = absurd did
+as_running (SoftInterrupt n level budget answer) t v w did = absurd did
+as_running (SuspendCall answer) t v w did = (did, refl)
+as_running (ResumeCall answer) t v w did = (did, refl)
+
+-- no name hears of a reprogram
+pub no_news : (cpu : Option ℕ) (id moment : ℕ) (answer : Result (Unit {0}) Refusal)
+    → news (reprograms cpu id moment answer) ≡ None
+no_news None id moment answer = refl
+no_news (Some n) id moment answer = refl
 
 pub leaves_mark : (cpu : Option ℕ) (id moment : ℕ) (answer : Result (Unit {0}) Refusal)
     → LeavesMark (reprograms cpu id moment answer)
@@ -46,10 +68,6 @@ early now (Offline n) fits = tt
 early now (Online n) fits = tt
 early now Suspend fits = tt
 early now Resume fits = tt
-
-both_true : (a b : Bool) → (a && b) ≡ true → (a ≡ true) × (b ≡ true)
-both_true true b is = (refl, is)
-both_true false b is = absurd (let no : false ≡ true = is in cc)
 
 -- each step of a script sets the clock below never
 pub before_never : (now : ℕ) (steps : List Step) → moments_fit now steps ≡ true → (i : ℕ) (x : Step) → i < length steps

@@ -5,7 +5,7 @@ use Rattle.std.specs.Prelude.{nat_le}
 use Rattle.std.specs.Option.{option_map}
 use Rattle.std.proofs.lemmas.Bool.Decides.{nat_tests}
 use Rattle.cyc_model.specs.State.{State, Placed, cpu_of}
-use Rattle.cyc_model.specs.Places.{placement_of, is_leaving}
+use Rattle.cyc_model.specs.Places.{placement_of, is_being_removed}
 use Rattle.cyc_model.specs.Softint.{leaving_ids}
 use Rattle.cyc_model.proofs.Base.{IsAt}
 use Rattle.cyc_model.proofs.Spread.{Good}
@@ -69,12 +69,12 @@ one_up_to low last id (x ∷ xs) rise less has least =
 -- ---- the open removals of a machine
 
 pub leaving_rise : (s : State) → Good s → RiseFrom 1 (leaving_ids s)
-leaving_rise s g = filter_rise (λ id. is_leaving id s) 1 (map (λ (p : Placed). p.id) s.placed)
+leaving_rise s g = filter_rise (λ id. is_being_removed id s) 1 (map (λ (p : Placed). p.id) s.placed)
     (placed_rise 0 s.last_id s.placed g.base.rise)
 
 -- each is open on some CPU
 pub leaving_open : (s : State) (k : ℕ) → Has k (leaving_ids s) → (n : ℕ) × ((cpu_of n s).removal ≡ Some k)
-leaving_open s k has = leaving_where k s (filtered (λ id. is_leaving id s) k (map (λ (p : Placed). p.id) s.placed) has).1
+leaving_open s k has = leaving_where k s (filtered (λ id. is_being_removed id s) k (map (λ (p : Placed). p.id) s.placed) has).1
 
 -- and one that is open is among them
 found_there : (k : ℕ) (p : Placed) (ps : List Placed) → find (λ (q : Placed). q.id == k) ps ≡ Some p
@@ -90,10 +90,10 @@ found_there k p (q ∷ ps) is = by (q.id == k) refl is (found_there k p ps)
 
 pub open_leaving : (s : State) → Good s → (n k : ℕ) → (cpu_of n s).removal ≡ Some k → Has k (leaving_ids s)
 open_leaving s g n k is =
-    filtering (λ id. is_leaving id s) k (map (λ (p : Placed). p.id) s.placed)
-    (placed (find (λ (p : Placed). p.id == k) s.placed) refl) (leaving (is_leaving k s) refl)
+    filtering (λ id. is_being_removed id s) k (map (λ (p : Placed). p.id) s.placed)
+    (placed (find (λ (p : Placed). p.id == k) s.placed) refl) (leaving (is_being_removed k s) refl)
   where
-    leaving : (b : Bool) → is_leaving k s ≡ b → is_leaving k s ≡ true
+    leaving : (b : Bool) → is_being_removed k s ≡ b → is_being_removed k s ≡ true
     leaving true e = e
     leaving false e = absurd (not_leaving k s e n is)
 
@@ -101,5 +101,5 @@ open_leaving s g n k is =
     at = g.base.homes n k ((g.base.whole n).held k is)
 
     placed : (o : Option Placed) → find (λ (p : Placed). p.id == k) s.placed ≡ o → Has k (map (λ (p : Placed). p.id) s.placed)
-    placed None e = absurd (subst (λ (r : Option Placed). IsAt n (option_map (λ (p : Placed). p.place) r)) e at)
+    placed None e = absurd (subst (λ (r : Option Placed). IsAt n (option_map (λ (p : Placed). p.placement) r)) e at)
     placed (Some p) e = found_there k p s.placed e

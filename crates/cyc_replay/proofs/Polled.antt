@@ -1,5 +1,5 @@
 -- The polls of the open removals after a soft interrupt, one after the other.
-use Rattle.std.proofs.Common.{◌≡◌, ℕ, ◌-◌, ◌<◌, ◌≤◌, append-nil, append_assoc, List, [], ◌∷◌, ◌++◌, length, map}
+use Rattle.std.proofs.Common.{◌≡◌, ℕ, ◌-◌, ◌<◌, ◌≤◌, append-nil, append_assoc, List, [], ◌∷◌, ◌++◌, length}
 use Rattle.std.proofs.Common.{Option, Some, None, refl, ap, sym, ◌∙◌, subst, arith, ◌≢◌, ◌⊎◌, ⊎_elim, inl, inr, true}
 use Rattle.cyc_types.specs.Tally.{TallyView, tally_count}
 use Rattle.cyc_types.specs.declared.receipt.Receipt.{Receipt}
@@ -16,7 +16,7 @@ use Rattle.cyc_model.proofs.Spread.{Good}
 use Rattle.cyc_model.proofs.Calm.{well_interrupt}
 use Rattle.cyc_model.proofs.Answering.{well_polls, counts_poll}
 use Rattle.cyc_model.proofs.Still.{still_polls}
-use Rattle.cyc_model.specs.Places.{is_unknown}
+use Rattle.cyc_model.specs.Places.{is_no_cyclic}
 use Rattle.cyc_model.specs.Report.{counts_of}
 use Rattle.cyc_text.specs.declared.lines.Counts.{Counts}
 use Rattle.cyc_cpu.specs.Soft.{raise_tables}
@@ -25,19 +25,23 @@ use Rattle.cyc_system.specs.Agreement.{Agrees}
 use Rattle.cyc_system.proofs.Spots.{same_some, none_some}
 use mathlib.Core.Logic.{dite}
 use native.Mathlib.Decide.{ℕ_discrete}
-use Rattle.std.specs.Prelude.{slice_set, Ok, Err}
+use Rattle.std.specs.Prelude.{not, is_some, slice_set, Ok, Err}
 use Rattle.cyc_replay.specs.Shown.{ShowsSystem}
 use Rattle.cyc_replay.specs.Room.{HaveRoomFor}
-use Rattle.cyc_replay.specs.Removal.{HavePolled, IsInterrupted, answer_line, told_by}
+use Rattle.cyc_replay.specs.Removal.{HavePolled, IsInterrupted, answer_line, told_by_receipt}
 use Rattle.cyc_replay.specs.declared.machine.Machine.{Machine}
-use Rattle.cyc_replay.specs.Machine.{Holds, Remembers, IsWide, id_at, name_at, told_of, number_of}
+use Rattle.cyc_replay.specs.Machine.{ShowsMachine, Remembers, IsWide, id_at, name_at, numbers_of}
 use Rattle.cyc_replay.proofs.Doing.{Keeps}
-use Rattle.cyc_replay.proofs.Remembering.{SameNames, remembers_on, remembers_ended, remembers_nameless, no_name}
+use Rattle.cyc_replay.proofs.Remembering.{SameNames, remembers_on, remembers_ended, remembers_nameless, no_name, numbers_kept}
 use Rattle.cyc_replay.specs.Words.{Comes, TakesWord}
 use Rattle.cyc_replay.proofs.Doing.{word_done}
 use Rattle.cyc_replay.proofs.Named.{reached_good}
-use Rattle.cyc_replay.specs.Interrupting.{HasServed, IsPolling}
-use Rattle.cyc_replay.specs.Removing.{counted_by}
+use Rattle.cyc_replay.specs.Interrupting.{HasInterrupted, IsPolling}
+use Rattle.cyc_words.specs.declared.named.Named.{Named}
+use Rattle.cyc_words.specs.declared.named.Named.TheVariants.{Removed}
+use Rattle.cyc_words.specs.Names.{news, noted}
+use Rattle.cyc_model.proofs.Printing.{unknown_gone}
+use Rattle.cyc_replay.proofs.Polling.{polls_tell, polls_forget, receipt_polled}
 use Rattle.cyc_replay.proofs.Unknown.{unknown_polled, still_known}
 use Rattle.cyc_replay.proofs.Removals.{same_removal}
 use Rattle.cyc_replay.proofs.OpenRemovals.{up_to, none_up_to, all_up_to, one_up_to, leaving_rise, leaving_open, open_leaving}
@@ -55,7 +59,7 @@ module _ (texts : List (List ℕ)) (step : ℕ) (i : SoftintStep) (s : State) wh
       by (k ∷ ks) t = by ks (poll_id plain texts step k t).state
 
   -- before the first poll
-  pub polling_begins : (made : Ran) (first m : Machine) → HasServed step i made s first m
+  pub polling_begins : (made : Ran) (first m : Machine) → HasInterrupted step i made s first m
       → HavePolled texts step [] [] (interrupt step i s).state m.system → IsPolling texts step [] [] i s m
   polling_begins made first m h polled = record {
     reached = h.reached;
@@ -71,8 +75,8 @@ module _ (texts : List (List ℕ)) (step : ℕ) (i : SoftintStep) (s : State) wh
     good_now = (well_polls texts step ids (interrupt step i s).state
         (well_interrupt step i s (reached_good step s p.reached) p.accepted).1).1
 
-    others_known : (j : ℕ) → j ≢ id → is_unknown j (left (ids ++ id ∷ [])) ≡ true → is_unknown j (left ids) ≡ true
-    others_known j ne gone = sym (unknown_polled texts step id j (left ids) ne) ∙ ap (is_unknown j) (sym (left_next ids id))
+    others_known : (j : ℕ) → j ≢ id → is_no_cyclic j (left (ids ++ id ∷ [])) ≡ true → is_no_cyclic j (left ids) ≡ true
+    others_known j ne gone = sym (unknown_polled texts step id j (left ids) ne) ∙ ap (is_no_cyclic j) (sym (left_next ids id))
         ∙ gone
 
     same_told : (j : ℕ) → counts_of j (left (ids ++ id ∷ [])) ≡ counts_of j (left ids)
@@ -85,7 +89,7 @@ module _ (texts : List (List ℕ)) (step : ℕ) (i : SoftintStep) (s : State) wh
     pub polling_next : (answer : Option Receipt) (n : Machine)
         → HavePolled texts step (ids ++ id ∷ []) (lines ++ answer_line step (text_of_id id texts s.names) answer)
         (interrupt step i s).state n.system
-        → Keeps (left ids) n.system → n.clock ≡ m.clock → n.tally ≡ m.tally → n.names.items ≡ m.names.items
+        → Keeps (left ids) n.system → n.clock ≡ m.clock → n.tally ≡ m.tally → numbers_of n.names ≡ numbers_of m.names
         → Remembers (left (ids ++ id ∷ [])) n
         → IsPolling texts step (ids ++ id ∷ []) (lines ++ answer_line step (text_of_id id texts s.names) answer) i s n
     polling_next answer n next kept clock tally names remembers = record {
@@ -100,7 +104,7 @@ module _ (texts : List (List ℕ)) (step : ℕ) (i : SoftintStep) (s : State) wh
         suspended = ap (λ (t : State). t.suspended) (left_next ids id)
             ∙ (still_polls texts step (id ∷ []) (left ids)).suspended ∙ kept.suspended;
         called = λ k. ap (λ t. tally_count t k) tally ∙ p.holds.called k ∙ p.polled.called k ∙ sym (next.called k);
-        names = next.names ∙ sym p.polled.names ∙ p.holds.names ∙ sym (ap (map number_of) names);
+        names = next.names ∙ sym p.polled.names ∙ p.holds.names ∙ sym names;
         remembers = remembers;
         tally = subst (λ t. IsWide t) (sym tally) p.holds.tally;
         most = kept.most;
@@ -108,6 +112,12 @@ module _ (texts : List (List ℕ)) (step : ℕ) (i : SoftintStep) (s : State) wh
             ∙ ap length (still_polls texts step (id ∷ []) (left ids)).names)) kept.room;
       };
     }
+
+    still_unknown : (j : ℕ) → j ≤ (left ids).last_id → is_no_cyclic j (left ids) ≡ true
+        → is_no_cyclic j (left (ids ++ id ∷ [])) ≡ true
+    still_unknown j low gone = ap (is_no_cyclic j) (left_next ids id)
+        ∙ ap (λ o. not (is_some o))
+        ((well_polls texts step (id ∷ []) (left ids) good_now).0.gone j (low, unknown_gone j (left ids) gone)).1
 
     -- it has not answered
     pub remembers_open : (n : Machine) → ShowsSystem (left (ids ++ id ∷ [])) n.system → Agrees n.system → SameNames m n
@@ -117,31 +127,56 @@ module _ (texts : List (List ℕ)) (step : ℕ) (i : SoftintStep) (s : State) wh
         remembers_on (left ids) (left (ids ++ id ∷ [])) m n p.holds.remembers same same_last
         (λ j low gone. dite (ℕ_discrete j id)
         (λ e. absurd (still_known id (left (ids ++ id ∷ [])) n.system shows agrees some
-        (subst (λ k. is_unknown k (left (ids ++ id ∷ [])) ≡ true) e gone)))
+        (subst (λ k. is_no_cyclic k (left (ids ++ id ∷ [])) ≡ true) e gone)))
         (λ ne. others_known j ne gone))
-        (λ j low gone. same_told j)
+        (λ j low gone. still_unknown j low gone) (λ j low gone. same_told j)
 
     -- it has
-    pub remembers_answered : (receipt : Receipt) (n : Machine) → n.names.items ≡ m.names.items → n.named.items ≡ m.named.items
-        → counts_of id (left (ids ++ id ∷ [])) ≡ told_by receipt ((interrupt step i s).state.called id)
-        → (id_at m.names.items (name_at m.named.items id) ≡ Some id
-        → n.counted.items ≡ slice_set m.counted.items (name_at m.named.items id) (counted_by receipt))
-        → ((id_at m.names.items (name_at m.named.items id) ≡ Some id → ⊥) → n.counted.items ≡ m.counted.items)
-        → Remembers (left (ids ++ id ∷ [])) n
-    remembers_answered receipt n names named told here there = ⊎_elim
-        (λ at. remembers_ended (left ids) (left (ids ++ id ∷ [])) m n (name_at m.named.items id) id
-        (counted_by receipt) p.holds.remembers at names named (here at) same_last
-        (told ∙ (λ z. told_of (counted_by receipt) (sym (ap (λ (c : Counts). c.called) told) z)))
-        (λ j ne gone. others_known j ne gone) (λ j ne low gone. same_told j))
-        (λ other. remembers_nameless (left ids) (left (ids ++ id ∷ [])) m n id p.holds.remembers
-        (record { names = names; counted = there other; named = named }) same_last
-        (no_name (left ids) m id p.holds.remembers other)
-        (λ j ne gone. others_known j ne gone) (λ j ne low gone. same_told j))
-        (named_or_not (id_at m.names.items (name_at m.named.items id)))
+    remembers_answered : (receipt : Receipt) (name : ℕ) (n : Machine)
+        → (id_at m.names (name_at m.named.items id) ≡ Some id → name ≡ name_at m.named.items id)
+        → ((id_at m.names (name_at m.named.items id) ≡ Some id → ⊥) → name ≡ length m.names)
+        → n.names ≡ slice_set m.names name (Removed receipt) → n.named.items ≡ m.named.items → receipt.id ≡ id
+        → is_no_cyclic id (left (ids ++ id ∷ [])) ≡ true
+        → counts_of id (left (ids ++ id ∷ [])) ≡ told_by_receipt receipt ((interrupt step i s).state.called id)
+        → Remembers (left (ids ++ id ∷ [])) n × (numbers_of n.names ≡ numbers_of m.names)
+    remembers_answered receipt name n here there names named own unknown told = ⊎_elim
+        (λ at. let is = names ∙ ap (λ k. slice_set m.names k (Removed receipt)) (here at) in (
+          remembers_ended (left ids) (left (ids ++ id ∷ [])) m n (name_at m.named.items id) id receipt p.holds.remembers at own is
+              named same_last unknown (told ∙ (λ z. told_by_receipt receipt (sym (ap (λ (c : Counts). c.called) told) z)))
+              (λ j ne gone. others_known j ne gone) (λ j ne low gone. still_unknown j low gone) (λ j ne low gone. same_told j),
+          ap numbers_of is ∙ numbers_kept m.names (name_at m.named.items id) (Removed receipt) (ap Some own ∙ sym at),
+        ))
+        (λ other. let same = names ∙ ap (λ k. slice_set m.names k (Removed receipt)) (there other)
+        ∙ set_past m.names (Removed receipt) in (
+          remembers_nameless (left ids) (left (ids ++ id ∷ [])) m n id p.holds.remembers
+              (record { names = same; named = named }) same_last (no_name (left ids) m id p.holds.remembers other)
+              (λ j ne gone. others_known j ne gone) (λ j ne low gone. still_unknown j low gone) (λ j ne low gone. same_told j),
+          ap numbers_of same,
+        ))
+        (named_or_not (id_at m.names (name_at m.named.items id)))
       where
         named_or_not : (o : Option ℕ) → (o ≡ Some id) ⊎ (o ≡ Some id → ⊥)
         named_or_not None = inr (λ e. none_some e)
         named_or_not (Some j) = dite (ℕ_discrete j id) (λ e. inl (ap Some e)) (λ ne. inr (λ e. ne (same_some e)))
+
+        set_past : (xs : List Named) (now : Named) → slice_set xs (length xs) now ≡ xs
+        set_past [] now = refl
+        set_past (x ∷ xs) now = ap (λ ys. x ∷ ys) (set_past xs now)
+
+    -- the machine after the poll, for whatever name it was made
+    pub remembers_polled : (answer : Option Receipt) (name : ℕ) (n : Machine)
+        → (id_at m.names (name_at m.named.items id) ≡ Some id → name ≡ name_at m.named.items id)
+        → ((id_at m.names (name_at m.named.items id) ≡ Some id → ⊥) → name ≡ length m.names)
+        → n.names ≡ noted name (news (PollRemove id (Ok answer))) m.names → n.named.items ≡ m.named.items
+        → ShowsSystem (left (ids ++ id ∷ [])) n.system → Agrees n.system
+        → Changes raise_tables m.system (PollRemove id (Ok answer)) n.system
+        → Remembers (left (ids ++ id ∷ [])) n × (numbers_of n.names ≡ numbers_of m.names)
+    remembers_polled None name n here there names named shows agrees did =
+        (remembers_open n shows agrees (record { names = names; named = named }) did, ap numbers_of names)
+    remembers_polled (Some receipt) name n here there names named shows agrees did =
+        remembers_answered receipt name n here there names named (receipt_polled id receipt m.system n.system did)
+        (polls_forget texts step (interrupt step i s).state ids lines id receipt m.system n.system p.holds.system p.polled did)
+        (polls_tell texts step (interrupt step i s).state ids lines id receipt m.system n.system p.holds.system p.polled did)
 
   -- where it answers not, and where it does
   pub answered_none : (ids lines : List ℕ) (id : ℕ) (answer : Option Receipt) (line : List ℕ) (n : Machine) → answer ≡ None
@@ -156,7 +191,7 @@ module _ (texts : List (List ℕ)) (step : ℕ) (i : SoftintStep) (s : State) wh
 
   pub answered_some : (ids lines : List ℕ) (id : ℕ) (receipt : Receipt) (line after text : List ℕ) (calls : ℕ) (n : Machine)
       → IsPolling texts step (ids ++ id ∷ []) (lines ++ answer_line step (text_of_id id texts s.names) (Some receipt)) i s n
-      → ((t : State) → Holds t n → text ≡ text_of_id id texts t.names) → calls ≡ receipt.sent - receipt.lost
+      → ((t : State) → ShowsMachine t n → text ≡ text_of_id id texts t.names) → calls ≡ receipt.sent - receipt.lost
       → after ≡ line ++ removed step text calls
       → (more : List ℕ) × (after ≡ line ++ more) × IsPolling texts step (ids ++ id ∷ []) (lines ++ more) i s n
   answered_some ids lines id receipt line after text calls n p is told same =

@@ -1,7 +1,7 @@
 -- A poll of an open removal on all CPUs, and the polls of several.
 use Rattle.std.proofs.Common.{◌≡◌, ◌≢◌, ℕ, ◌-◌, ◌==◌, inl, inr, eqb-true, Bool, true, false, cond, List, [], ◌∷◌, ◌++◌, map}
 use Rattle.std.proofs.Common.{filter, Option, Some, None, refl, ap, sym, ◌∙◌, subst, arith}
-use Rattle.std.specs.Prelude.{Ok, Err}
+use Rattle.std.specs.Prelude.{Ok, Err, not, is_some}
 use Rattle.std.specs.Option.{option_map_or}
 use Rattle.std.proofs.lemmas.List.{append-nil}
 use Rattle.cyc_types.specs.declared.receipt.Receipt.{Receipt}
@@ -14,10 +14,11 @@ use Rattle.cyc_places.specs.declared.record.Record.{Record}
 use Rattle.cyc_system.specs.System.{SystemView, RunningSystem, is_leaving as leaving_there}
 use Rattle.cyc_system.specs.Polling.{Polled, PollsOn, PollsEach, PollsRemoval, leaving_cpus}
 use Rattle.cyc_model.specs.Acts.{calls_of}
-use Rattle.cyc_model.specs.Cpu.{Cpu, cyclic_of}
+use Rattle.cyc_model.specs.Cpu.{Cpu, cyclic_with_id}
 use Rattle.cyc_model.specs.Questions.{plain, outstanding_here}
-use Rattle.cyc_model.specs.State.{State, Outcome, Placed, cpu_of, nothing, before, numbers, cpus_with, each}
-use Rattle.cyc_model.specs.Places.{is_leaving, keep_counts}
+use Rattle.cyc_model.specs.State.{State, Outcome, Placed, cpu_of, nothing, before, numbers, cpus_having, each}
+use Rattle.cyc_model.specs.Places.{is_being_removed, is_no_cyclic, keep_counts}
+use Rattle.cyc_model.proofs.Placing.{place_forgotten}
 use Rattle.cyc_model.specs.Remove.{poll, clear_if, answered}
 use Rattle.cyc_model.specs.Report.{counts_of}
 use Rattle.cyc_model.specs.Softint.{interrupt, is_open, text_of_id, polled, poll_id, leaving_ids}
@@ -26,7 +27,7 @@ use Rattle.cyc_model.proofs.Numbers.{Has, RiseFrom, numbers_rise, numbers_pass}
 use Rattle.cyc_cpu_model.proofs.Free.{HasNoAdmit, none_admitted, no_more, clear_none, interrupt_none}
 use Rattle.cyc_replay.specs.Shown.{shown_record, ShowsSystem, IsSystem}
 use Rattle.cyc_replay.specs.Running.{IsServed}
-use Rattle.cyc_replay.specs.Removal.{told_by, answer_line, HavePolled, leaving_in, IsInterrupted}
+use Rattle.cyc_replay.specs.Removal.{told_by_receipt, answer_line, HavePolled, leaving_in, IsInterrupted}
 use Rattle.cyc_replay.proofs.Asking.{leaving_shown}
 use Rattle.cyc_replay.proofs.Half.{half}
 use Rattle.cyc_replay.proofs.Coming.{CameToAll, all_come}
@@ -34,18 +35,12 @@ use Rattle.cyc_replay.proofs.SystemRemoving.{polls_on}
 use Rattle.cyc_replay.proofs.Answering.{same_with, same_open, nowhere, forgotten_shows, all_expired, all_lost}
 use Rattle.cyc_replay.proofs.Answering.{counts_left}
 use Rattle.cyc_replay.proofs.SystemAdvancing.{each_append}
-
-open_is : (id : ℕ) (c : Cpu) → is_open id c ≡ true → c.removal ≡ Some id
-open_is id c h = by c.removal h
-  where
-    by : (r : Option ℕ) → option_map_or (λ busy. busy == id) r false ≡ true → r ≡ Some id
-    by None e = absurd (let isnt : false ≡ true = e in cc)
-    by (Some j) e = ap Some (eqb-true j id e)
+use Rattle.cyc_model.proofs.Answering.{open_is}
 
 -- ---- no poll puts anything in
 
 if_none : (b : Bool) (id n : ℕ) (s : State) → HasNoAdmit (clear_if b id n s).acts
-if_none true id n s = clear_none n id (cpu_of n (keep_counts n (cyclic_of id (cpu_of n s)) s))
+if_none true id n s = clear_none n id (cpu_of n (keep_counts n (cyclic_with_id id (cpu_of n s)) s))
 if_none false id n s = tt
 
 each_none : (id : ℕ) (ns : List ℕ) (s : State) → HasNoAdmit (each (poll plain id) ns s).acts
@@ -63,7 +58,7 @@ polls_none texts step [] s = tt
 polls_none texts step (id ∷ ids) s =
     let o = each (poll plain id) (numbers (is_open id) s) s in
     no_more (poll_id plain texts step id s).acts _
-    (polled_none step id (text_of_id id texts s.names) (cpus_with id o.state) o (each_none id (numbers (is_open id) s) s))
+    (polled_none step id (text_of_id id texts s.names) (cpus_having id o.state) o (each_none id (numbers (is_open id) s) s))
     (polls_none texts step ids (poll_id plain texts step id s).state)
 
 -- ---- one removal
@@ -120,8 +115,8 @@ module _ (texts : List (List ℕ)) (step id : ℕ) (m : State) (v w : SystemView
       }
   is_polled None (inr (none, (way, ns, did, some))) =
       let c = (comes_all way w ns did).came in
-      let still : cpus_with id parts.state ≢ [] = λ e. some (sym (same_with id parts.state w c.shows c.half.long) ∙ e) in
-      let is : poll_id plain texts step id m ≡ parts = stays (cpus_with id parts.state) still in
+      let still : cpus_having id parts.state ≢ [] = λ e. some (sym (same_with id parts.state w c.shows c.half.long) ∙ e) in
+      let is : poll_id plain texts step id m ≡ parts = stays (cpus_having id parts.state) still in
       record {
         shows = subst (λ (o : Outcome). ShowsSystem o.state w) (sym is) c.shows;
         line = ap (λ (o : Outcome). o.line) is ∙ c.line;
@@ -137,12 +132,26 @@ module _ (texts : List (List ℕ)) (step id : ℕ) (m : State) (v w : SystemView
 
   -- what is left to be told of it, where it answers
   pub polled_counts : (receipt : Receipt) → PollsRemoval raise_tables id (Ok (Some receipt)) v w
-      → counts_of id (poll_id plain texts step id m).state ≡ told_by receipt (m.called id)
+      → counts_of id (poll_id plain texts step id m).state ≡ told_by_receipt receipt (m.called id)
   polled_counts receipt (inl (e, some, said, same)) = absurd (let isnt : Ok (Some receipt) ≡ Err e = said in cc)
   polled_counts receipt (inr (none, (way, u, ns, did, answers))) =
       let c = (comes_all way u ns did).came in
       ap (λ ks. counts_of id (polled step text id ks parts).state) (nowhere id receipt parts.state u w c.shows c.half answers)
-      ∙ counts_left id receipt parts.state u w c.shows c.half answers ∙ ap (told_by receipt) (c.called id)
+      ∙ counts_left id receipt parts.state u w c.shows c.half answers ∙ ap (told_by_receipt receipt) (c.called id)
+
+  -- it is known no more, and the receipt is its own
+  pub polled_unknown : (receipt : Receipt) → PollsRemoval raise_tables id (Ok (Some receipt)) v w
+      → is_no_cyclic id (poll_id plain texts step id m).state ≡ true
+  polled_unknown receipt (inl (e, some, said, same)) = absurd (let isnt : Ok (Some receipt) ≡ Err e = said in cc)
+  polled_unknown receipt (inr (none, (way, u, ns, did, answers))) =
+      let c = (comes_all way u ns did).came in
+      ap (λ ks. is_no_cyclic id (polled step text id ks parts).state) (nowhere id receipt parts.state u w c.shows c.half answers)
+      ∙ ap (λ o. not (is_some o)) (place_forgotten id parts.state)
+
+pub receipt_polled : (id : ℕ) (receipt : Receipt) (v w : SystemView Tables) → PollsRemoval raise_tables id (Ok (Some receipt)) v w
+    → receipt.id ≡ id
+receipt_polled id receipt v w (inl (e, some, said, same)) = absurd (let isnt : Ok (Some receipt) ≡ Err e = said in cc)
+receipt_polled id receipt v w (inr (none, (way, u, ns, did, answers))) = answers.counts.id ∙ answers.named
 
 -- ---- several
 
@@ -196,10 +205,20 @@ module _ (texts : List (List ℕ)) (step : ℕ) (m : State) where
   pub polls_tell : (ids lines : List ℕ) (id : ℕ) (receipt : Receipt) (v w : SystemView Tables) → IsSystem v
       → HavePolled texts step ids lines m v
       → PollsRemoval raise_tables id (Ok (Some receipt)) v w
-      → counts_of id (polls (ids ++ id ∷ [])).state ≡ told_by receipt (m.called id)
+      → counts_of id (polls (ids ++ id ∷ [])).state ≡ told_by_receipt receipt (m.called id)
   polls_tell ids lines id receipt v w sys h did =
       ap (λ (x : Outcome). counts_of id x.state) (one_more ids id)
-      ∙ polled_counts texts step id (polls ids).state v w sys h.comes.shows receipt did ∙ ap (told_by receipt) (h.called id)
+      ∙ polled_counts texts step id (polls ids).state v w sys h.comes.shows receipt did
+      ∙ ap (told_by_receipt receipt) (h.called id)
+
+  -- the definition knows the cyclic no more
+  pub polls_forget : (ids lines : List ℕ) (id : ℕ) (receipt : Receipt) (v w : SystemView Tables) → IsSystem v
+      → HavePolled texts step ids lines m v
+      → PollsRemoval raise_tables id (Ok (Some receipt)) v w
+      → is_no_cyclic id (polls (ids ++ id ∷ [])).state ≡ true
+  polls_forget ids lines id receipt v w sys h did =
+      ap (λ (x : Outcome). is_no_cyclic id x.state) (one_more ids id)
+      ∙ polled_unknown texts step id (polls ids).state v w sys h.comes.shows receipt did
 
 -- ---- all of them
 
@@ -211,8 +230,9 @@ leaving_each test own (r ∷ rs) same = (λ z. cond (same r.id z) (r.id ∷ leav
 
 pub same_leaving : (m : State) (v : SystemView Tables) → IsSystem v → ShowsSystem m v → leaving_ids m ≡ leaving_in v
 same_leaving m v sys h =
-    ap (λ ps. filter (λ id. is_leaving id m) (map (λ (p : Placed). p.id) ps)) h.placed
-    ∙ leaving_each (λ id. is_leaving id m) (λ id. leaving_there id v) v.records (λ id. leaving_shown id m v h sys.agrees.long)
+    ap (λ ps. filter (λ id. is_being_removed id m) (map (λ (p : Placed). p.id) ps)) h.placed
+    ∙ leaving_each (λ id. is_being_removed id m) (λ id. leaving_there id v) v.records (λ id. leaving_shown id m v h
+    sys.agrees.long)
 
 module _ {C : Type 0} (count : C → ℕ → ℕ) where
   pub interrupted : (texts : List (List ℕ)) (step : ℕ) (i : SoftintStep) (made : Ran) (lines : List ℕ) (m : State)

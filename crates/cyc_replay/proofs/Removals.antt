@@ -1,7 +1,7 @@
 -- A removal is the word remove.
 use Rattle.std.proofs.Common.{◌≡◌, ◌≢◌, ℕ, zero, suc, ◌+◌, ◌-◌, ◌<◌, inl, inr, Bool, true, false, List, [], ◌∷◌, length, map}
 use Rattle.std.proofs.Common.{sum_by, get_or, Option, Some, None, refl, ap, sym, ◌∙◌, subst, arith}
-use Rattle.std.specs.Prelude.{is_some, Ok, Err}
+use Rattle.std.specs.Prelude.{not, is_some, Ok, Err}
 use Rattle.std.specs.List.{slice_get}
 use Rattle.std.specs.Option.{option_and_then}
 use Rattle.cyc_types.specs.declared.receipt.Receipt.{Receipt}
@@ -19,19 +19,20 @@ use Rattle.cyc_system.specs.Removing.{cpus_with as cpus_with_in, Begun, BeginsOn
 use Rattle.cyc_system.specs.Removing.{unknown_cyclic, busy_on_each as busy_in}
 use Rattle.cyc_model.specs.Acts.{calls_of}
 use Rattle.cyc_model.specs.Report.{counts_of}
-use Rattle.cyc_model.specs.Cpu.{Cyclic, has_cyclic, cyclic_of}
+use Rattle.cyc_model.specs.Cpu.{CyclicState, has_cyclic, cyclic_with_id}
 use Rattle.cyc_model.specs.Questions.{plain, outstanding_here}
-use Rattle.cyc_model.specs.State.{State, Outcome, absent, cpu_of, cpus_with, each, told}
-use Rattle.cyc_model.specs.Places.{id_of, is_unknown}
+use Rattle.cyc_model.specs.State.{State, Outcome, absent, cpu_of, cpus_having, each, told}
+use Rattle.cyc_model.specs.Places.{id_of, is_no_cyclic}
 use Rattle.cyc_types.specs.Reasons.{first_refusal, when, busy}
-use Rattle.cyc_model.specs.Remove.{busy_on_each, remove_id_refusal, begin, answered, begun, with_answer, kept_on}
+use Rattle.cyc_model.specs.Remove.{busy_on_any, remove_id_refusal, begin, answered, begun, with_answer, kept_on}
 use Rattle.cyc_model.specs.Script.{text_in}
+use Rattle.cyc_model.proofs.Placing.{place_forgotten}
 use Rattle.cyc_model.proofs.Numbers.{Has, RiseFrom, numbers_rise, numbers_pass}
 use Rattle.cyc_model.proofs.Rising.{found, any_found}
 use Rattle.cyc_cpu_model.proofs.Free.{none_admitted}
 use Rattle.cyc_replay.specs.Shown.{shown_list, ShowsSystem, IsSystem}
 use Rattle.cyc_replay.specs.SystemWords.{ComesTo, IsRefusedFor}
-use Rattle.cyc_replay.specs.Removal.{told_by, IsRemoved, IsKept}
+use Rattle.cyc_replay.specs.Removal.{told_by_receipt, IsRemovedAtOnce, IsKept}
 use Rattle.cyc_replay.proofs.Cpus.{cpu_at, long_shown}
 use Rattle.cyc_replay.proofs.Asking.{unknown_shown, NoMemory, no_memory_when, no_memory_else, is_refused, same_error}
 use Rattle.cyc_replay.proofs.Sums.{sum_numbers}
@@ -65,7 +66,7 @@ module _ (id : ℕ) (m : State) (v : SystemView Tables) (h : ShowsSystem m v)
     (long : length v.cpus.online ≡ length v.cpus.cpus) where
   same_whys : remove_id_refusal plain id m ≡ first_refusal (unknown_cyclic id v ∷ busy_in id v)
   same_whys = λ z. first_refusal (when (unknown_shown id m v h z) NoCyclic
-      ∷ (ap (λ ns. busy_on_each plain ns m) (same_with id m v h long)
+      ∷ (ap (λ ns. busy_on_any plain ns m) (same_with id m v h long)
       ∙ busy_all (λ n. (cpu_of n m).removal) (λ n. removal_on n v.cpus) (cpus_with_in id v.cpus)
       (same_removal m v h long)) z)
 
@@ -73,7 +74,7 @@ pub no_memory_busy : (o : Option ℕ) → NoMemory (busy o)
 no_memory_busy None = tt
 no_memory_busy (Some id) = tt
 
-no_memory_each : (ns : List ℕ) (s : State) → NoMemory (first_refusal (busy_on_each plain ns s))
+no_memory_each : (ns : List ℕ) (s : State) → NoMemory (first_refusal (busy_on_any plain ns s))
 no_memory_each [] s = tt
 no_memory_each (n ∷ ns) s = no_memory_else (busy (cpu_of n s).removal) _ (no_memory_busy (cpu_of n s).removal)
     (no_memory_each ns s)
@@ -89,9 +90,9 @@ left_in b = kept_in b.found
 module _ (id : ℕ) (way : List Begun) (m : State) (v u : SystemView Tables) (h : ShowsSystem m v) (hv : Half v)
     (ns : map cpu_in way ≡ cpus_with_in id v.cpus) (each_begins : BeginsEach raise_tables id way v u) where
   abbrev parts : Outcome
-  parts = each (begin plain id) (cpus_with id m) m
+  parts = each (begin plain id) (cpus_having id m) m
 
-  all_ns : map cpu_in way ≡ cpus_with id m
+  all_ns : map cpu_in way ≡ cpus_having id m
   all_ns = ns ∙ sym (same_with id m v h hv.long)
 
   begun_all : CameToAll cpu_in (λ b c. outstanding_here id c ≡ left_in b) way m parts u
@@ -112,15 +113,15 @@ module _ (id : ℕ) (way : List Begun) (m : State) (v u : SystemView Tables) (h 
       let l = ap (λ cs. length cs) came.shows.cpus ∙ long_shown u.cpus.online u.cpus.cpus came.half.long in
       let same : cpu_of i parts.state ≡ cpu_at u.cpus i = ap (λ cs. get_or cs i absent) came.shows.cpus in
       ap (outstanding_here id) same ∙ none_out id (cpu_at u.cpus i) (own_at u i came.half (omega (arith, low, l)))
-      (ap (cyclic_of id) (sym same) ∙ not_found (found id (cpu_of i parts.state).cyclics)
+      (ap (cyclic_with_id id) (sym same) ∙ not_found (found id (cpu_of i parts.state).cyclics)
       (sym (any_found id (cpu_of i parts.state).cyclics) ∙ none))
     where
-      not_found : (o : Option Cyclic) → is_some o ≡ false → o ≡ None
+      not_found : (o : Option CyclicState) → is_some o ≡ false → o ≡ None
       not_found None is = refl
       not_found (Some x) is = absurd (let isnt : true ≡ false = is in cc)
 
   -- the calls that are kept
-  pub kept_is : kept_on plain id (cpus_with id parts.state) parts.state ≡ sum_by left_in way
+  pub kept_is : kept_on plain id (cpus_having id parts.state) parts.state ≡ sum_by left_in way
   kept_is =
       sum_numbers (λ n. outstanding_here id (cpu_of n parts.state)) (outstanding_here id)
       (has_cyclic id) 0 parts.state.cpus parts.state.cpus refl
@@ -136,7 +137,7 @@ module _ (id : ℕ) (way : List Begun) (m : State) (v u : SystemView Tables) (h 
       zero_plus : (i : ℕ) → 0 + i ≡ i
       zero_plus i = omega arith
 
-      was_there : (i : ℕ) → has_cyclic id (cpu_of i m) ≡ false → Has i (cpus_with id m) → ⊥
+      was_there : (i : ℕ) → has_cyclic id (cpu_of i m) ≡ false → Has i (cpus_having id m) → ⊥
       was_there i none has = absurd (let isnt : true ≡ false = sym (numbers_pass (has_cyclic id) i m has).1 ∙ none in cc)
 
 begun_some : (step id : ℕ) (text ns : List ℕ) (o : Outcome) → ns ≢ []
@@ -149,7 +150,7 @@ module _ (name : ℕ) (m : State) (v w : SystemView Tables) (sys : IsSystem v) (
   own_id = id_of name m
 
   pub remove_done : (receipt : Receipt) → BeginsRemoval raise_tables (id_of name m) (Ok (system.Done receipt)) v w
-      → IsRemoved name receipt m w
+      → IsRemovedAtOnce name receipt m w
   remove_done receipt (inl (e, some, answer, same)) = absurd (let isnt : Ok (system.Done receipt) ≡ Err e = answer in cc)
   remove_done receipt (inr (none, (way, u, ns, begins, answers))) =
       let o = parts own_id way m v u h (half v sys) ns begins in
@@ -174,18 +175,31 @@ module _ (name : ℕ) (m : State) (v w : SystemView Tables) (sys : IsSystem v) (
         line = λ texts indexes step. ap (λ (p : Outcome). p.line) (is step (text_in texts name))
             ∙ (λ z. removed step (text_in texts name) (expired z - lost z));
         counts = λ texts indexes step. ap (λ (p : Outcome). counts_of own_id p.state) (is step (text_in texts name))
-            ∙ counts_left own_id receipt o.state u w c.shows c.half answers ∙ ap (told_by receipt) (c.called own_id);
+            ∙ counts_left own_id receipt o.state u w c.shows c.half answers ∙ ap (told_by_receipt receipt) (c.called own_id);
       }
+
+  -- the definition knows the cyclic no more, and the receipt is its own
+  pub remove_forgets : (receipt : Receipt) → BeginsRemoval raise_tables (id_of name m) (Ok (system.Done receipt)) v w
+      → (step : ℕ) (text : List ℕ) → is_no_cyclic own_id (with_answer plain step text own_id
+      (each (begin plain own_id) (cpus_having own_id m) m)).state ≡ true
+  remove_forgets receipt (inl (e, some, answer, same)) step text =
+      absurd (let isnt : Ok (system.Done receipt) ≡ Err e = answer in cc)
+  remove_forgets receipt (inr (none, (way, u, ns, begins, answers))) step text =
+      let o = parts own_id way m v u h (half v sys) ns begins in
+      let c = came own_id way m v u h (half v sys) ns begins in
+      ap (λ ks. is_no_cyclic own_id (begun plain step text own_id ks o).state)
+      (nowhere own_id receipt o.state u w c.shows c.half answers)
+      ∙ ap (λ p. not (is_some p)) (place_forgotten own_id o.state)
 
   pub remove_kept : (waits : ℕ) → BeginsRemoval raise_tables (id_of name m) (Ok (system.Kept waits)) v w → IsKept name waits m w
   remove_kept waits (inl (e, some, answer, same)) = absurd (let isnt : Ok (system.Kept waits) ≡ Err e = answer in cc)
   remove_kept waits (inr (none, (way, ns, begins, some, is_kept))) =
       let o = parts own_id way m v w h (half v sys) ns begins in
       let c = came own_id way m v w h (half v sys) ns begins in
-      let still : cpus_with own_id o.state ≢ [] = λ e. some (sym (same_with own_id o.state w c.shows c.half.long) ∙ e) in
+      let still : cpus_having own_id o.state ≢ [] = λ e. some (sym (same_with own_id o.state w c.shows c.half.long) ∙ e) in
       let is : (step : ℕ) (text : List ℕ) → with_answer plain step text own_id o
-      ≡ told (kept step (kept_on plain own_id (cpus_with own_id o.state) o.state)) o =
-      λ step text. begun_some step own_id text (cpus_with own_id o.state) o still in
+      ≡ told (kept step (kept_on plain own_id (cpus_having own_id o.state) o.state)) o =
+      λ step text. begun_some step own_id text (cpus_having own_id o.state) o still in
       record {
         done = record {
           accepted = same_whys own_id m v h sys.agrees.long ∙ none;
@@ -207,8 +221,14 @@ module _ (name : ℕ) (m : State) (v w : SystemView Tables) (sys : IsSystem v) (
     is_refused e (remove_id_refusal plain own_id m)
         (same_whys own_id m v h sys.agrees.long ∙ some
         ∙ ap Some (sym (same_error SystemRemoval e own (Err e) (Err own) refl refl answer)))
-        (no_memory_else (when (is_unknown own_id m) NoCyclic) _ (no_memory_when _ NoCyclic tt)
-        (no_memory_each (cpus_with own_id m) m)),
+        (no_memory_else (when (is_no_cyclic own_id m) NoCyclic) _ (no_memory_when _ NoCyclic tt)
+        (no_memory_each (cpus_having own_id m) m)),
     subst (ShowsSystem m) (sym same) h,
   )
   remove_refused e (inr (none, did)) = absurd did
+
+pub receipt_removed : (id : ℕ) (receipt : Receipt) (v w : SystemView Tables)
+    → BeginsRemoval raise_tables id (Ok (system.Done receipt)) v w → receipt.id ≡ id
+receipt_removed id receipt v w (inl (e, some, answer, same)) =
+    absurd (let isnt : Ok (system.Done receipt) ≡ Err e = answer in cc)
+receipt_removed id receipt v w (inr (none, (way, u, ns, begins, answers))) = answers.counts.id ∙ answers.named

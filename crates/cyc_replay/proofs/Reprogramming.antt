@@ -13,12 +13,12 @@ use Rattle.cyc_system.specs.System.{SystemView}
 use Rattle.cyc_system.specs.Calls.{Changes, reprograms}
 use Rattle.cyc_system.specs.Adding.{OnlyWorks}
 use Rattle.cyc_model.specs.Moving.{reprogram_here}
-use Rattle.cyc_model.specs.State.{State, absent, on}
+use Rattle.cyc_model.specs.State.{State, absent, on_number}
 use Rattle.cyc_model.specs.Places.{id_of}
 use Rattle.cyc_types.specs.Reasons.{first_refusal, or_else, when}
-use Rattle.cyc_model.specs.Refusals.{no_cpu, offline_cpu, magnitude}
-use Rattle.cyc_model.specs.Bind.{no_cyclic, omnipresent}
-use Rattle.cyc_model.specs.Reprogram.{no_component, cpu_refusals, cpu_meant}
+use Rattle.cyc_model.specs.Refusals.{is_no_cpu, cpu_is_offline, magnitude}
+use Rattle.cyc_model.specs.Bind.{cyclic_is_absent, cyclic_is_omni}
+use Rattle.cyc_model.specs.Reprogram.{has_no_component, cpu_refusals, cpu_meant}
 use Rattle.cyc_cpu_model.specs.Answers.{IsRefused}
 use Rattle.cyc_replay.specs.Shown.{shown_cpus, ShowsSystem, IsSystem}
 use Rattle.cyc_replay.specs.SystemWords.{IsMoment, IsDone, IsRefusedFor}
@@ -42,7 +42,7 @@ moved n id moment v w sys ((u, did, same), records, last) =
 
 moved_shown : (n m id moment own : ℕ) (s : State) (v w : SystemView Tables) → ShowsSystem s v → m ≡ n → own ≡ moment
     → Moved n id moment v w
-    → ShowsSystem (on m (reprogram_here id own) s).state w
+    → ShowsSystem (on_number m (reprogram_here id own) s).state w
 moved_shown n m id moment own s v w h here is d =
     let same = same_shown s v (record w { cpus = v.cpus }) h refl d.records d.last in
     record {
@@ -54,12 +54,12 @@ moved_shown n m id moment own s v w h here is d =
     }
 
 abbrev later_whys : Option ℕ → ℕ → State → Option Refusal
-later_whys cpu id s = or_else (no_cyclic id s) (first_refusal (cpu_refusals cpu id s))
+later_whys cpu id s = or_else (cyclic_is_absent id s) (first_refusal (cpu_refusals cpu id s))
 
 module _ (id moment : ℕ) (s : State) (v w : SystemView Tables) (sys : IsSystem v) (h : ShowsSystem s v) where
   accepted : (cpu : Option ℕ) → Changes raise_tables v (reprograms cpu id moment (Ok tt)) w
       → (later_whys cpu id s ≡ None) × ((own : ℕ) → own ≡ moment
-      → ShowsSystem (on (cpu_meant cpu id s) (reprogram_here id own) s).state w)
+      → ShowsSystem (on_number (cpu_meant cpu id s) (reprogram_here id own) s).state w)
   accepted None (inl (e, some, answer, same)) = absurd (let isnt : Ok tt ≡ Err e = answer in cc)
   accepted None (inr (none, (n, home, (ok, did)))) = (
     (λ z. or_else (same_no_cyclic s v h sys.agrees.long id z) (or_else (same_omnipresent s v h sys.agrees.long id z) None))
@@ -82,8 +82,8 @@ module _ (id moment : ℕ) (s : State) (v w : SystemView Tables) (sys : IsSystem
         ((λ z. or_else (same_no_cyclic s v h sys.agrees.long id z) (or_else (same_omnipresent s v h sys.agrees.long id z) None))
         ∙ some
         ∙ ap Some (sym (same_error (Unit {0}) e own (Err e) (Err own) refl refl answer)))
-        (no_memory_else (no_cyclic id s) _ (no_memory_when _ NoCyclic tt)
-        (no_memory_else (omnipresent id s) None (no_memory_when _ Omnipresent tt) tt)),
+        (no_memory_else (cyclic_is_absent id s) _ (no_memory_when _ NoCyclic tt)
+        (no_memory_else (cyclic_is_omni id s) None (no_memory_when _ Omnipresent tt) tt)),
     subst (ShowsSystem s) (sym same) h,
   )
   refused None e (inr (none, (n, home, (ok, did)))) = absurd (let isnt : Err e ≡ Ok tt = ok in cc)
@@ -93,10 +93,10 @@ module _ (id moment : ℕ) (s : State) (v w : SystemView Tables) (sys : IsSystem
         (or_else (same_offline s v h sys.agrees.long n z) (or_else (same_no_component s v h sys.agrees.long id n z) None))))
         ∙ some
         ∙ ap Some (sym (same_error (Unit {0}) e own (Err e) (Err own) refl refl answer)))
-        (no_memory_else (no_cyclic id s) _ (no_memory_when _ NoCyclic tt)
-        (no_memory_else (no_cpu n s) _ (no_memory_when _ NoCpu tt)
-        (no_memory_else (offline_cpu n s) _ (no_memory_when _ Offline tt)
-        (no_memory_else (no_component id n s) None (no_memory_when _ NoCyclic tt) tt)))),
+        (no_memory_else (cyclic_is_absent id s) _ (no_memory_when _ NoCyclic tt)
+        (no_memory_else (is_no_cpu n s) _ (no_memory_when _ NoCpu tt)
+        (no_memory_else (cpu_is_offline n s) _ (no_memory_when _ Offline tt)
+        (no_memory_else (has_no_component id n s) None (no_memory_when _ NoCyclic tt) tt)))),
     subst (ShowsSystem s) (sym same) h,
   )
   refused (Some n) e (inr (none, (ok, did))) = absurd (let isnt : Err e ≡ Ok tt = ok in cc)

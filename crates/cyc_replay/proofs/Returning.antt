@@ -20,7 +20,7 @@ use Rattle.cyc_text.specs.Lines.{accepted as accepted_line}
 use Rattle.cyc_cpu.specs.Soft.{raise_tables}
 use Rattle.cyc_cpu.specs.Calls.{Reserve, Widen, Place}
 use Rattle.cyc_places.specs.declared.record.Placement.{Placement as RecordPlacement}
-use Rattle.cyc_places.specs.declared.record.Placement.TheVariants as place
+use Rattle.cyc_places.specs.declared.record.Placement.TheVariants as placements
 use Rattle.cyc_places.specs.declared.record.Record.{Record}
 use Rattle.cyc_places.specs.Places.{IsRecord, HasRisingIds, is_everywhere as everywhere_in, ended_on, with_ended}
 use Rattle.cyc_system.specs.Cpus.{CpusView, Works, on as on_cpu}
@@ -33,15 +33,15 @@ use Rattle.cyc_system.specs.Calls.{Online as GoOnline, Changes}
 use Rattle.cyc_model.specs.Acts.{calls_of, events_at}
 use Rattle.cyc_model.specs.Cpu.{Cpu, nothing_here}
 use Rattle.cyc_model.specs.Moving.{must_grow, widen_here, place_here}
-use Rattle.cyc_model.specs.Questions.{plain, has_followed}
+use Rattle.cyc_model.specs.Questions.{plain, soft_has_followed}
 use Rattle.cyc_model.specs.Serving.{level_at}
 use Rattle.cyc_model.specs.Free.{AllCanBeAdmitted}
-use Rattle.cyc_model.specs.State.{State, Outcome, Ended, Everywhere, Placed, absent, cpu_of, followed_by, on, each, told}
-use Rattle.cyc_model.specs.Places.{is_leaving, without_ended}
+use Rattle.cyc_model.specs.State.{State, Outcome, Ended, Everywhere, Placed, absent, cpu_of, followed_by, on_number, each, told}
+use Rattle.cyc_model.specs.Places.{is_being_removed, without_ended}
 use Rattle.cyc_model.specs.Add.{one_admitted}
 use Rattle.cyc_types.specs.Reasons.{or_else, when, only_if, busy, bad_now}
 use Rattle.cyc_types.specs.Counting.{no_counts}
-use Rattle.cyc_model.specs.Online.{is_on_all, staying, online_cpu, no_room_for_all, online_refusal, again, return_at, return_of}
+use Rattle.cyc_model.specs.Online.{is_on_all, staying_omni, is_online_already, no_room_for_all, online_refusal, again, return_here, return_of}
 use Rattle.cyc_model.specs.Online.{return_all, go_online}
 use Rattle.cyc_model.proofs.Agreement.{agrees_with}
 use Rattle.cyc_model.proofs.Local.{Local, same_low_lock, local_nothing, local_widen, local_place}
@@ -50,9 +50,9 @@ use Rattle.cyc_cpu.specs.Cpu.{CpuView}
 use Rattle.cyc_cpu_model.specs.Shown.{shown_cpu}
 use Rattle.cyc_cpu_model.proofs.Free.{none_admitted, widen_none}
 use Rattle.cyc_replay.proofs.Half.{half, half_works}
-use Rattle.cyc_replay.specs.Shown.{shown_list, shown_cpus, shown_place, shown_record, shown_counts, ShowsSystem, AreTied}
+use Rattle.cyc_replay.specs.Shown.{shown_list, shown_cpus, shown_placement, shown_record, shown_counts, ShowsSystem, AreTied}
 use Rattle.cyc_replay.specs.Shown.{IsSystem}
-use Rattle.cyc_replay.specs.SystemWords.{Gives, ComesTo, IsDone, IsRefusedFor}
+use Rattle.cyc_replay.specs.SystemWords.{GivesIndexes, ComesTo, IsDone, IsRefusedFor}
 use Rattle.cyc_replay.proofs.Cpus.{cpu_at, done_at, long_shown}
 use Rattle.cyc_replay.proofs.Asking.{online_at, same_no_cpu, leaving_shown, no_memory_when, no_memory_else, some_refused}
 use Rattle.cyc_replay.proofs.Asking.{same_error}
@@ -64,29 +64,32 @@ use Rattle.cyc_system.proofs.Recording.{tail_rises}
 -- ---- the cyclics that return
 
 abbrev first_stay : (ℕ → Bool) → List Placed → List Placed
-first_stay leaves ps = filter (λ (p : Placed). is_on_all p.place) (filter (λ (p : Placed). not (leaves p.id)) ps)
+first_stay leaves ps = filter (λ (p : Placed). is_on_all p.placement) (filter (λ (p : Placed). not (leaves p.id)) ps)
 
 stay_by : (p : RecordPlacement) (level : Level) (id : ℕ) (leaves : Bool) (r : Record) (rs : List Record) (ps : List Placed)
     (kept_rs : List Record)
-    → shown_record r ≡ record { id = id; place = shown_place level p }
-    → filter (λ (q : Placed). is_on_all q.place) ps ≡ map shown_record kept_rs
-    → filter (λ (q : Placed). is_on_all q.place) (cond (not leaves) (record { id = id; place = shown_place level p } ∷ ps) ps)
+    → shown_record r ≡ record { id = id; placement = shown_placement level p }
+    → filter (λ (q : Placed). is_on_all q.placement) ps ≡ map shown_record kept_rs
+    → filter (λ (q : Placed). is_on_all q.placement) (cond (not leaves) (record {
+      id = id;
+      placement = shown_placement level p;
+    } ∷ ps) ps)
     ≡ map shown_record (cond (everywhere_in p && not leaves) (r ∷ kept_rs) kept_rs)
-stay_by (place.On n bound) level id true r rs ps kept_rs is rest = rest
-stay_by (place.On n bound) level id false r rs ps kept_rs is rest = rest
-stay_by (place.Everywhere series skew) level id true r rs ps kept_rs is rest = rest
-stay_by (place.Everywhere series skew) level id false r rs ps kept_rs is rest = λ z. sym is z ∷ rest z
+stay_by (placements.On n bound) level id true r rs ps kept_rs is rest = rest
+stay_by (placements.On n bound) level id false r rs ps kept_rs is rest = rest
+stay_by (placements.Everywhere series skew) level id true r rs ps kept_rs is rest = rest
+stay_by (placements.Everywhere series skew) level id false r rs ps kept_rs is rest = λ z. sym is z ∷ rest z
 
 stay_shown : (leaves own : ℕ → Bool) → ((id : ℕ) → leaves id ≡ own id) → (rs : List Record)
     → first_stay leaves (map shown_record rs)
-    ≡ map shown_record (filter (λ (r : Record). everywhere_in r.place && not (own r.id)) rs)
+    ≡ map shown_record (filter (λ (r : Record). everywhere_in r.placement && not (own r.id)) rs)
 stay_shown leaves own same [] = refl
 stay_shown leaves own same (r ∷ rs) =
-    stay_by r.place r.level r.id (leaves r.id) r rs (filter (λ (p : Placed). not (leaves p.id)) (map shown_record rs))
-    (filter (λ (q : Record). everywhere_in q.place && not (own q.id)) rs) refl (stay_shown leaves own same rs)
-    ∙ ap (λ b. map shown_record (cond (everywhere_in r.place && not b)
-    (r ∷ filter (λ (q : Record). everywhere_in q.place && not (own q.id)) rs)
-    (filter (λ (q : Record). everywhere_in q.place && not (own q.id)) rs))) (same r.id)
+    stay_by r.placement r.level r.id (leaves r.id) r rs (filter (λ (p : Placed). not (leaves p.id)) (map shown_record rs))
+    (filter (λ (q : Record). everywhere_in q.placement && not (own q.id)) rs) refl (stay_shown leaves own same rs)
+    ∙ ap (λ b. map shown_record (cond (everywhere_in r.placement && not b)
+    (r ∷ filter (λ (q : Record). everywhere_in q.placement && not (own q.id)) rs)
+    (filter (λ (q : Record). everywhere_in q.placement && not (own q.id)) rs))) (same r.id)
 
 -- ---- each component
 
@@ -108,7 +111,7 @@ first_or_later r rs P zero q at own rest = subst P (same_some at) own
 first_or_later r rs P (suc j) q at own rest = rest j q at
 
 abbrev AllEverywhere : List Record → Type 0
-AllEverywhere rs = (j : ℕ) (r : Record) → IsRecord rs j r → everywhere_in r.place ≡ true
+AllEverywhere rs = (j : ℕ) (r : Record) → IsRecord rs j r → everywhere_in r.placement ≡ true
 
 abbrev HaveEnded : ℕ → List Record → State → Type 0
 HaveEnded n rs s = (j : ℕ) (r : Record) → IsRecord rs j r → s.ended r.id n ≡ shown_counts (ended_on n r)
@@ -126,7 +129,8 @@ kept_other id n q m e apart = dite (ℕ_discrete q id)
 abbrev GivesBack : ℕ → ℕ → List Record → CpusView Tables → CpusView Tables → Type 0
 GivesBack n now rs x y = (given_there : List ℕ)
     × ((s : State) (indexes : ℕ → ℕ) → s.cpus ≡ shown_cpus x → s.clock ≡ now → HaveEnded n rs s
-    → Gives indexes s.admissions given_there → Returned n rs given_there s (each (return_of indexes n) (map shown_record rs) s) y)
+    → GivesIndexes indexes s.admissions given_there → Returned n rs given_there s (each (return_of indexes n) (map shown_record
+    rs) s) y)
 
 all_return : (n now : ℕ) (rs : List Record) (x y : CpusView Tables) → length x.online ≡ length x.cpus → AreTied x
     → HasRisingIds rs → AllEverywhere rs
@@ -145,14 +149,14 @@ all_return n now [] x y long tied rising every same = (
 )
 all_return n now (r ∷ rs) x y long tied rising every works =
     by (λ u long_u tied_u rest. all_return n now rs u y long_u tied_u (tail_rises r rs rising)
-    (λ j q at. every (suc j) q at) rest) r.place refl works
+    (λ j q at. every (suc j) q at) rest) r.placement refl works
   where
     by : ((u : CpusView Tables) → length u.online ≡ length u.cpus → AreTied u → Works raise_tables (returns n now rs) u y
-        → GivesBack n now rs u y) → (p : RecordPlacement) → r.place ≡ p
+        → GivesBack n now rs u y) → (p : RecordPlacement) → r.placement ≡ p
         → Works raise_tables (returns_at n now r.id r.level (ended_on n r) p ++ returns n now rs) x y
         → GivesBack n now (r ∷ rs) x y
-    by next (place.On m bound) is did = absurd (let isnt : false ≡ true = sym (ap everywhere_in is) ∙ every 0 r refl in cc)
-    by next (place.Everywhere series skew) is (u, put, rest) =
+    by next (placements.On m bound) is did = absurd (let isnt : false ≡ true = sym (ap everywhere_in is) ∙ every 0 r refl in cc)
+    by next (placements.Everywhere series skew) is (u, put, rest) =
         let e : Everywhere = record { level = r.level; start = series.start; interval = series.interval; skew = skew } in
         let p = done_at n (Place r.id r.level series.interval (component_first n series skew now) (ended_on n r)) x u long tied
         put in
@@ -162,7 +166,7 @@ all_return n now (r ∷ rs) x y long tied rising every works =
               let s1 = without_ended n r.id s in
               let c = again r.id n e (s.ended r.id n) s.clock in
               let f = place_here n (indexes s.admissions) c in
-              let o = one_admitted (on n f s1) in
+              let o = one_admitted (on_number n f s1) in
               let here : s.ended r.id n ≡ shown_counts (ended_on n r) = ended 0 r refl in
               let at : o.state.cpus ≡ shown_cpus u =
               (λ z. slice_set (cpus z) n (place_here n (gives.0 z) (again r.id n e (here z) (clock z))
@@ -176,15 +180,16 @@ all_return n now (r ∷ rs) x y long tied rising every works =
               let none : (q : ℕ) → calls_of q (f (cpu_of n s)).acts ≡ 0 =
               λ q. (λ z. calls_of q (place_here n (gives.0 z) (again r.id n e (here z) (clock z))
               (get_or (cpus z) n absent)).acts) ∙ p.quiet q in
-              let one : Goes s o = goes_to s (on n f s1) [] o.state (refl, refl)
-              (goes_from s s1 (on n f s1) (refl, refl) (goes_on n f s1 (local_place n (indexes s.admissions) c) low free none)) in
+              let one : Goes s o = goes_to s (on_number n f s1) [] o.state (refl, refl)
+              (goes_from s s1 (on_number n f s1) (refl, refl) (goes_on n f s1 (local_place n (indexes s.admissions) c) low free
+              none)) in
               let other : (j : ℕ) (q : Record) → IsRecord rs j q → q.id ≢ r.id =
               λ j q at_q same. let less = rising 0 (suc j) r q (omega arith) refl at_q in absurd (omega (arith, less, same)) in
               let d = more.1 o.state indexes at clock
               (λ j q at_q. kept_other r.id n q.id n (s.ended q.id n) (λ there. other j q at_q) ∙ ended (suc j) q at_q) gives.1 in
               subst (λ pl. Returned n (r ∷ rs) (p.index ∷ more.0) s
-              (followed_by (return_at indexes n r.id pl s) (each (return_of indexes n) (map shown_record rs))) y)
-              (sym (ap (shown_place r.level) is)) (record {
+              (followed_by (return_here indexes n r.id pl s) (each (return_of indexes n) (map shown_record rs))) y)
+              (sym (ap (shown_placement r.level) is)) (record {
                 goes = goes_then s o (each (return_of indexes n) (map shown_record rs)) one d.goes;
                 cpus = d.cpus;
                 admissions = (let a = d.admissions in omega (arith, a));
@@ -323,14 +328,14 @@ module _ (n : ℕ) (s : State) (v w : SystemView Tables) (sys : IsSystem v) (h :
   abbrev stay : List Record
   stay = staying_in v
 
-  same_staying : staying s ≡ map shown_record stay
-  same_staying = ap (first_stay (λ id. is_leaving id s)) h.placed
-      ∙ stay_shown (λ id. is_leaving id s) (λ id. leaving_in id v) (λ id. leaving_shown id s v h sys.agrees.long) v.records
+  same_staying : staying_omni s ≡ map shown_record stay
+  same_staying = ap (first_stay (λ id. is_being_removed id s)) h.placed
+      ∙ stay_shown (λ id. is_being_removed id s) (λ id. leaving_in id v) (λ id. leaving_shown id s v h sys.agrees.long) v.records
 
-  many : length (staying s) ≡ length stay
+  many : length (staying_omni s) ≡ length stay
   many = ap length same_staying ∙ length-map stay shown_record
 
-  same_on : online_cpu n s ≡ online_there n v
+  same_on : is_online_already n s ≡ online_there n v
   same_on = ap (λ b. when b Online) (ap (λ cs. (get_or cs n absent).online) h.cpus
       ∙ online_at v.cpus.online v.cpus.cpus n sys.agrees.long)
 
@@ -342,8 +347,8 @@ module _ (n : ℕ) (s : State) (v w : SystemView Tables) (sys : IsSystem v) (h :
       (or_else (bad_now s.clock) (or_else (no_room_for_all plain n (many z) (get_or (h.cpus z) n absent)) None)))
 
   abbrev returning : (ℕ → ℕ) → ℕ → List Placed → Outcome
-  returning indexes k ps = followed_by (on n (widen_here n k) s)
-      (λ t. followed_by (each (return_of indexes n) ps t) (on n (λ c. nothing_here (go_online c))))
+  returning indexes k ps = followed_by (on_number n (widen_here n k) s)
+      (λ t. followed_by (each (return_of indexes n) ps t) (on_number n (λ c. nothing_here (go_online c))))
 
   -- what the ended stays left, where the components took theirs
   ended_at : (i : ℕ) (q : Record) (m : ℕ) (given_there : List ℕ) (s1 : State) (o : Outcome) (cw : CpusView Tables)
@@ -380,39 +385,40 @@ module _ (n : ℕ) (s : State) (v w : SystemView Tables) (sys : IsSystem v) (h :
       let b = done_at n (Widen k) u1 u2 r.long r.tied wide in
       let f = all_return n s.clock stay u2 cw b.long b.tied (filter_rises (is_staying v.cpus) v.records sys.rising)
       (λ j a at_a. let (i, there, passes) = filter_back (is_staying v.cpus) v.records j a at_a in
-      both_true (everywhere_in a.place) _ passes) rest in
+      both_true (everywhere_in a.placement) _ passes) rest in
       let hw = half_works (on_cpu n (Reserve k (Ok tt)) ∷ on_cpu n (Widen k) ∷ returns n s.clock stay) v cw (half v sys)
       (u1, res, (u2, wide, rest)) in
       let low_v : n < length v.cpus.cpus = (let x = r.within in let y = long_shown v.cpus.online v.cpus.cpus sys.agrees.long in
       omega (arith, x, y)) in
       let before = unchanged v.cpus u1 n r.cpus in
       let to_u1 : s.cpus ≡ shown_cpus u1 = h.cpus ∙ sym before in
-      let s1 = (on n (widen_here n k) s).state in
+      let s1 = (on_number n (widen_here n k) s).state in
       let cpus1 : s1.cpus ≡ shown_cpus u2 = (λ z. slice_set (to_u1 z) n (widen_here n k (get_or (to_u1 z) n absent)).cpu)
       ∙ sym b.cpus in
       let low : n < length s.cpus = subst (λ cs. n < length cs) (sym h.cpus) r.within in
-      let one : Goes s (on n (widen_here n k) s) = goes_on n (widen_here n k) s (local_widen n k) low
+      let one : Goes s (on_number n (widen_here n k) s) = goes_on n (widen_here n k) s (local_widen n k) low
       (λ soft. none_admitted (widen_here n k (cpu_of n s)).acts n soft _ (widen_none n k (cpu_of n s)))
       (λ q. ap (λ cs. calls_of q (widen_here n k (get_or cs n absent)).acts) to_u1 ∙ b.quiet q) in
-      let all : (indexes : ℕ → ℕ) → return_all indexes n (staying s) s ≡ returning indexes k (map shown_record stay) =
+      let all : (indexes : ℕ → ℕ) → return_all indexes n (staying_omni s) s ≡ returning indexes k (map shown_record stay) =
       λ indexes. (λ z. returning indexes (many z) (same_staying z)) in
-      let done : (indexes : ℕ → ℕ) → Gives indexes s.admissions f.0
+      let done : (indexes : ℕ → ℕ) → GivesIndexes indexes s.admissions f.0
       → Returned n stay f.0 s1 (each (return_of indexes n) (map shown_record stay) s1) cw =
       λ indexes at. f.1 s1 indexes cpus1 refl
       (λ j a at_a. let (i, there, passes) = filter_back (is_staying v.cpus) v.records j a at_a in h.ended i a there n) at in
-      let goes : (indexes : ℕ → ℕ) → Gives indexes s.admissions f.0 → Goes s (returning indexes k (map shown_record stay)) =
+      let goes : (indexes : ℕ → ℕ) → GivesIndexes indexes s.admissions f.0
+      → Goes s (returning indexes k (map shown_record stay)) =
       λ indexes at.
       let d = done indexes at in
       let o = each (return_of indexes n) (map shown_record stay) s1 in
-      goes_then s (on n (widen_here n k) s) (λ t. followed_by (each (return_of indexes n) (map shown_record stay) t)
-      (on n (λ c. nothing_here (go_online c)))) one
-      (goes_then s1 o (on n (λ c. nothing_here (go_online c))) d.goes
+      goes_then s (on_number n (widen_here n k) s) (λ t. followed_by (each (return_of indexes n) (map shown_record stay) t)
+      (on_number n (λ c. nothing_here (go_online c)))) one
+      (goes_then s1 o (on_number n (λ c. nothing_here (go_online c))) d.goes
       (goes_on n (λ c. nothing_here (go_online c)) o.state (local_online n)
       (let x = one.tells.as_many in let y = d.goes.tells.as_many in omega (arith, low, x, y)) (λ soft. tt) (λ q. refl))) in
       record {
         accepted = whys ∙ three_none (why.no_cpu n v) (online_there n v) (bad_now s.clock) last_why none
             ∙ room_none (nat_lt most_cyclics (length (cpu_at v.cpus n).cyclics + k)) (must_grow k (cpu_at v.cpus n))
-            (not (has_followed (cpu_at v.cpus n)))
+            (not (soft_has_followed (cpu_at v.cpus n)))
             (cpu_at v.cpus n).removal (r.answered tt);
         given = f.0;
         comes = λ texts indexes step at.
@@ -463,9 +469,9 @@ module _ (n : ℕ) (s : State) (v w : SystemView Tables) (sys : IsSystem v) (h :
           → IsRefused e (online_refusal plain n s)
       by (inl is) refused only = subst (λ x. IsRefused x (online_refusal plain n s)) (sym is)
           (only ∙ room_behind (nat_lt most_cyclics (length (cpu_at v.cpus n).cyclics + length stay))
-          (must_grow (length stay) (cpu_at v.cpus n)) (not (has_followed (cpu_at v.cpus n)))
+          (must_grow (length stay) (cpu_at v.cpus n)) (not (soft_has_followed (cpu_at v.cpus n)))
           (cpu_at v.cpus n).removal (subst (λ x. IsRefused x (why_no_room (length stay) (cpu_at v.cpus n))) is refused))
       by (inr is) refused only = subst (λ x. IsRefused x (online_refusal plain n s)) (sym is)
           (only ∙ room_none (nat_lt most_cyclics (length (cpu_at v.cpus n).cyclics + length stay))
-          (must_grow (length stay) (cpu_at v.cpus n)) (not (has_followed (cpu_at v.cpus n)))
+          (must_grow (length stay) (cpu_at v.cpus n)) (not (soft_has_followed (cpu_at v.cpus n)))
           (cpu_at v.cpus n).removal (subst (λ x. IsRefused x (why_no_room (length stay) (cpu_at v.cpus n))) is refused))

@@ -20,7 +20,7 @@ use Rattle.cyc_cpu.specs.Cpu.{CpuView, SameCpu, Reserves, Widens, MayWiden, bank
 use Rattle.cyc_cpu.specs.Moving.{WhyNotTaken}
 use Rattle.cyc_cpu.specs.Soft.{raise_tables}
 use Rattle.cyc_cpu.specs.Calls.{CpuCall, Fire, SoftInterrupt, Add, Place, Reprogram, AskPending, AskTotals, AskRoom, Reserve}
-use Rattle.cyc_cpu.specs.Calls.{Widen, BeginRemove, PollRemove, TakeNow, AskSettled, Suspend, Resume, Changes}
+use Rattle.cyc_cpu.specs.Calls.{Widen, BeginRemove, PollRemove, TakeNow, AskSettled, Suspend, Resume, CpuChanges}
 use Rattle.cyc_system.specs.Cpus.{CpusView, IsCpu, CallOn, with_cpu, on, DoesAt}
 use Rattle.cyc_system.proofs.CpusSpots.{get_set_same, cpu_beside}
 use Rattle.cyc_system.proofs.Spots.{same_some}
@@ -62,7 +62,7 @@ module _ {R : Type 0} (firing : Raise R) (wanted : ℕ) where
       room_more wanted v w (omega (arith, room)) (omega (arith, low, room, size)) h
 
   room_not_added : (id now : ℕ) (level : Level) (when : When) (v w : CpuView R) (e : Refusal)
-      → Changes firing v (Add id level when now (Err e)) w
+      → CpuChanges firing v (Add id level when now (Err e)) w
       → HasRoomFor wanted v → HasRoomFor wanted w
   room_not_added id now level when v w why.BadNow d h = room_equal wanted v w d.2 h
   room_not_added id now level when v w e d h = room_same wanted v w d.2.kept h
@@ -74,7 +74,7 @@ module _ {R : Type 0} (firing : Raise R) (wanted : ℕ) where
   room_not_taken id v w why.Pending (still, some, n, more, a) h = room_same wanted v w a.kept h
   room_not_taken id v w e d h = absurd d
 
-  pub changes_room : (v w : CpuView R) (call : CpuCall) → Changes firing v call w → HasRoomFor wanted v → HasRoomFor wanted w
+  pub changes_room : (v w : CpuView R) (call : CpuCall) → CpuChanges firing v call w → HasRoomFor wanted v → HasRoomFor wanted w
   changes_room v w (Add id level when now (Ok done)) (absent, early, a) h =
       room_same wanted a.widened w a.enters.kept (room_widened 1 a.reserved a.widened a.allowed a.widens
       (room_reserved 1 v a.reserved a.reserves h))
@@ -149,16 +149,16 @@ bank_rises n m low = pow_mono {i = bank_for n} {j = bank_for m} (least_rises gre
 
 -- a CPU that has the memory for so many is refused none up to them
 never_wanting : (wanted more : ℕ) (e : Refusal) (v w : CpuView Tables) → HasRoomFor wanted v
-    → length v.cyclics + more ≤ wanted → Changes raise_tables v (Reserve more (Err e)) w
+    → length v.cyclics + more ≤ wanted → CpuChanges raise_tables v (Reserve more (Err e)) w
     → e ≢ why.Memory
-never_wanting wanted more e v w h few d is = wants (subst (λ x. Changes raise_tables v (Reserve more (Err x)) w) is d)
+never_wanting wanted more e v w h few d is = wants (subst (λ x. CpuChanges raise_tables v (Reserve more (Err x)) w) is d)
   where
     pick : (b : Bool) → 2 ^ bank_for (length v.cyclics + more) ≤ v.room
         → cond b v.size (2 ^ bank_for (length v.cyclics + more)) ≤ v.room
     pick true low = h.size
     pick false low = low
 
-    wants : Changes raise_tables v (Reserve more (Err why.Memory)) w → ⊥
+    wants : CpuChanges raise_tables v (Reserve more (Err why.Memory)) w → ⊥
     wants (looked, (room, less)) =
         let fits : length v.cyclics + more ≤ most_cyclics =
         subst (λ cs. length cs + more ≤ most_cyclics) looked.cyclics room.fits in

@@ -14,7 +14,7 @@ use Rattle.cyc_model.specs.Cpu.{Cpu}
 use Rattle.cyc_model.specs.Questions.{plain}
 use Rattle.cyc_model.specs.State.{State, absent, cpu_of}
 use Rattle.cyc_model.specs.Laws.{level_on}
-use Rattle.cyc_model.specs.Along.{IsSound}
+use Rattle.cyc_model.specs.Along.{IsSoundLevel}
 use Rattle.cyc_model.specs.Enabled.{CanBeDone}
 use Rattle.cyc_model.specs.Free.{AreFree, AllCanBeAdmitted}
 use Rattle.cyc_model.specs.Report.{reports}
@@ -26,27 +26,28 @@ use Rattle.cyc_model.proofs.Unindexed.{text_bare}
 use Rattle.cyc_cpu_model.specs.Shown.{shown_cpu}
 use Rattle.cyc_replay.specs.Shown.{shown_cpus}
 use Rattle.cyc_replay.specs.declared.machine.Machine.{Machine}
-use Rattle.cyc_replay.specs.Machine.{Holds}
-use Rattle.cyc_replay.specs.Runs.{Runs, listed}
+use Rattle.cyc_replay.specs.Machine.{ShowsMachine}
+use Rattle.cyc_replay.specs.Runs.{RunsTo, listed}
 use Rattle.cyc_replay.proofs.Indexes.{same_line}
 use Rattle.cyc_replay.proofs.Cpus.{get_shown, long_shown}
-use Rattle.cyc_replay.specs.Replay.{HasRun, LevelsAreSound}
+use Rattle.cyc_replay.specs.Replay.{HasReplayed, LevelsAreSound}
 
 -- ---- a run of a whole script
 
 -- a machine that has taken no step
 pub begun : (cpus ceiling : ℕ) (texts : List (List ℕ)) (names : ℕ) (m : Machine) → names ≡ length texts
-    → Holds (start cpus ceiling names) m → Runs cpus ceiling texts [] m
+    → ShowsMachine (start cpus ceiling names) m → RunsTo cpus ceiling texts [] m
 begun cpus ceiling texts names m same held = record {
   given = [];
-  holds = subst (λ k. Holds (start cpus ceiling k) m) same held;
+  holds = subst (λ k. ShowsMachine (start cpus ceiling k) m) same held;
   admissions = refl;
   free = λ n low soft. tt;
 }
 
 -- another machine that the definition's machine shows
-pub runs_shown : (cpus ceiling : ℕ) (texts : List (List ℕ)) (steps : List Step) (m n : Machine) → Runs cpus ceiling texts steps m
-    → ((s : State) → Holds s m → Holds s n) → Runs cpus ceiling texts steps n
+pub runs_shown : (cpus ceiling : ℕ) (texts : List (List ℕ)) (steps : List Step) (m n : Machine)
+    → RunsTo cpus ceiling texts steps m
+    → ((s : State) → ShowsMachine s m → ShowsMachine s n) → RunsTo cpus ceiling texts steps n
 runs_shown cpus ceiling texts steps m n r shows = record {
   given = r.given;
   holds = shows (run_on (listed r.given) cpus ceiling texts steps).state r.holds;
@@ -54,7 +55,7 @@ runs_shown cpus ceiling texts steps m n r shows = record {
   free = r.free;
 }
 
-module _ (script : Script) (m : Machine) (r : Runs script.cpus script.ceiling (names_of script) script.steps.items m) where
+module _ (script : Script) (m : Machine) (r : RunsTo script.cpus script.ceiling (names_of script) script.steps.items m) where
   -- a level of a CPU, and one of no CPU
   free_at : (n : ℕ) (soft : Soft) (b : Bool) → nat_lt n script.cpus ≡ b → AllCanBeAdmitted
       (events_at n soft (run_on (listed r.given) script.cpus script.ceiling (names_of script) script.steps.items).acts)
@@ -96,12 +97,12 @@ module _ (script : Script) (m : Machine) (r : Runs script.cpus script.ceiling (n
       (start script.cpus script.ceiling (length (names_of script)))).tells.as_many in
       let new = length_new script.cpus script.ceiling in
       let within : n < script.cpus = omega (arith, inside, long, has, many, new) in
-      let sound : (soft : Soft) → IsSound (level_on n soft s) = λ soft. (held n within soft).end in (
-        subst (λ (c : Cpu). IsSound c.lock) there (sound Lock),
-        subst (λ (c : Cpu). IsSound c.low) there (sound Low),
+      let sound : (soft : Soft) → IsSoundLevel (level_on n soft s) = λ soft. (held n within soft).end in (
+        subst (λ (c : Cpu). IsSoundLevel c.lock) there (sound Lock),
+        subst (λ (c : Cpu). IsSoundLevel c.low) there (sound Low),
       )
 
-  pub has_run : HasRun script m
+  pub has_run : HasReplayed script m
   unfolding run_of
   has_run = record { indexes = listed r.given; free = all_free; holds = r.holds; events = held; levels = levels }
 

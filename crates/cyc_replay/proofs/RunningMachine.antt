@@ -12,11 +12,11 @@ use Rattle.cyc_model.specs.Script.{word, steps_from, start, run_on}
 use Rattle.cyc_model.proofs.Events.{events_append}
 use Rattle.cyc_model.proofs.Telling.{tells_steps}
 use Rattle.cyc_model.proofs.Reaching.{length_new}
-use Rattle.cyc_replay.specs.SystemWords.{Gives}
+use Rattle.cyc_replay.specs.SystemWords.{GivesIndexes}
 use Rattle.cyc_replay.specs.declared.machine.Machine.{Machine}
-use Rattle.cyc_replay.specs.Machine.{Holds, IsNamed, IsReached}
+use Rattle.cyc_replay.specs.Machine.{ShowsMachine, IsNamed, IsReached}
 use Rattle.cyc_replay.specs.Words.{TakesWord}
-use Rattle.cyc_replay.specs.Runs.{HaveNames, Runs, listed}
+use Rattle.cyc_replay.specs.Runs.{HaveNames, RunsTo, listed}
 use Rattle.cyc_replay.proofs.Indexes.{same_run, same_line}
 use Rattle.cyc_replay.proofs.Introduced.{run_named}
 use Rattle.cyc_cpu_model.proofs.Free.{can_append}
@@ -32,12 +32,12 @@ at_length : (given : List ℕ) (x : ℕ) (more : List ℕ) → listed (given ++ 
 at_length [] x more = refl
 at_length (y ∷ given) x more = at_length given x more
 
-gives_more : (given more : List ℕ) (k : ℕ) → k ≡ length given → Gives (listed (given ++ more)) k more
+gives_more : (given more : List ℕ) (k : ℕ) → k ≡ length given → GivesIndexes (listed (given ++ more)) k more
 gives_more given [] k is = tt
 gives_more given (x ∷ more) k is =
     let long = length-append given (x ∷ []) in (
       ap (listed (given ++ x ∷ more)) is ∙ at_length given x more,
-      subst (λ xs. Gives (listed xs) (k + 1) more) (append_assoc given (x ∷ []) more)
+      subst (λ xs. GivesIndexes (listed xs) (k + 1) more) (append_assoc given (x ∷ []) more)
           (gives_more (given ++ x ∷ []) more (k + 1) (omega (arith, long, is))),
     )
 
@@ -88,7 +88,7 @@ module _ (cpus ceiling : ℕ) (texts : List (List ℕ)) (done : List Step) where
 
 -- ---- the machine that steps so far led to
 
-module _ (cpus ceiling : ℕ) (texts : List (List ℕ)) (done : List Step) (m : Machine) (r : Runs cpus ceiling texts done m) where
+module _ (cpus ceiling : ℕ) (texts : List (List ℕ)) (done : List Step) (m : Machine) (r : RunsTo cpus ceiling texts done m) where
   pub reached_so : 0 < cpus → cpus ≤ 16 → (step : ℕ) → length done < step
       → IsReached step (run_on (listed r.given) cpus ceiling texts done).state
   reached_so some few step short = record {
@@ -113,7 +113,7 @@ module _ (cpus ceiling : ℕ) (texts : List (List ℕ)) (done : List Step) (m : 
     same_so_far = same_run cpus ceiling texts done (listed r.given) (listed (r.given ++ t.given))
         (λ k low. at_first r.given t.given k (let a = r.admissions in omega (arith, low, a)))
 
-    pub runs_on : Runs cpus ceiling texts (done ++ x ∷ []) n
+    pub runs_on : RunsTo cpus ceiling texts (done ++ x ∷ []) n
     runs_on =
         let f = listed (r.given ++ t.given) in
         let o = run_on (listed r.given) cpus ceiling texts done in
@@ -127,7 +127,7 @@ module _ (cpus ceiling : ℕ) (texts : List (List ℕ)) (done : List Step) (m : 
         let was = r.admissions in let more = c.admissions in
         record {
           given = r.given ++ t.given;
-          holds = subst (λ (p : Outcome). Holds p.state n) (sym is) c.holds;
+          holds = subst (λ (p : Outcome). ShowsMachine p.state n) (sym is) c.holds;
           admissions = ap (λ (p : Outcome). p.state.admissions) is ∙ omega (arith, long, was, more);
           free = λ k low soft.
               let inside = length_new cpus ceiling in
@@ -161,7 +161,7 @@ line_left (x ∷ xs) ys zs same = line_left xs ys zs (ap tail same)
     tail (w ∷ ws) = ws
 
 -- it is the one that the definition's step has, whatever the indexes
-pub line_of : (cpus ceiling : ℕ) (texts : List (List ℕ)) (done : List Step) (m : Machine) (r : Runs cpus ceiling texts done m)
+pub line_of : (cpus ceiling : ℕ) (texts : List (List ℕ)) (done : List Step) (m : Machine) (r : RunsTo cpus ceiling texts done m)
     (x : Step) (line : List ℕ) (n : Machine)
     → TakesWord texts (1 + length done) x line (run_on (listed r.given) cpus ceiling texts done).state n
     → (f : ℕ → ℕ) → line ≡ (word plain texts f (1 + length done) x (run_on f cpus ceiling texts done).state).line
@@ -171,10 +171,10 @@ line_of cpus ceiling texts done m r x line n t f =
 
 -- the same where the step has this number
 pub takes_at : (cpus ceiling : ℕ) (texts : List (List ℕ)) (done : List Step) (step : ℕ) (x : Step) (line : List ℕ) (m n : Machine)
-    → 0 < cpus → cpus ≤ 16 → step ≡ 1 + length done → HaveNames texts done → (r : Runs cpus ceiling texts done m)
-    → ((s : State) → IsReached step s → IsNamed s → Holds s m → TakesWord texts step x line s n)
+    → 0 < cpus → cpus ≤ 16 → step ≡ 1 + length done → HaveNames texts done → (r : RunsTo cpus ceiling texts done m)
+    → ((s : State) → IsReached step s → IsNamed s → ShowsMachine s m → TakesWord texts step x line s n)
     → ((f : ℕ → ℕ) → line ≡ (word plain texts f step x (run_on f cpus ceiling texts done).state).line)
-    × Runs cpus ceiling texts (done ++ x ∷ []) n
+    × RunsTo cpus ceiling texts (done ++ x ∷ []) n
 takes_at cpus ceiling texts done step x line m n some few is names r takes =
     let s = (run_on (listed r.given) cpus ceiling texts done).state in
     let t = takes s (reached_so cpus ceiling texts done m r some few step (omega (arith, is)))

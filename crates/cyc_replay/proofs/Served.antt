@@ -31,10 +31,10 @@ use Rattle.cyc_system.specs.Cpus.{IsCpu}
 use Rattle.cyc_system.specs.System.{SystemView, RunningSystem, running_system}
 use Rattle.cyc_system.proofs.Spots.{same_some, none_some}
 use Rattle.cyc_system.specs.Calls.{Does, SoftInterrupt}
-use Rattle.cyc_system.specs.declared.interrupting.SoftFault.{SoftFault}
-use Rattle.cyc_system.specs.declared.interrupting.SoftFault.TheVariants as fault
+use Rattle.cyc_system.specs.declared.system.SoftFault.{SoftFault}
+use Rattle.cyc_system.specs.declared.system.SoftFault.TheVariants as fault
 use Rattle.cyc_types.specs.Levels.{as_level}
-use Rattle.cyc_model.specs.Cpu.{Cyclic, Cpu, is_of, cyclic_of, handler_level_of}
+use Rattle.cyc_model.specs.Cpu.{CyclicState, Cpu, is_of, cyclic_with_id, handler_level_of}
 use Rattle.cyc_model.specs.Acts.{calls_of}
 use Rattle.cyc_model.specs.Serving.{level_at, interrupt_here}
 use Rattle.cyc_model.specs.State.{State, absent, cpu_of}
@@ -47,7 +47,7 @@ use Rattle.cyc_replay.specs.Running.{IsServed}
 use Rattle.cyc_cpu_model.specs.Shown.{shown_cpu}
 use Rattle.cyc_replay.specs.Shown.{shown_list, ShowsSystem}
 use Rattle.cyc_replay.specs.declared.machine.Machine.{Machine}
-use Rattle.cyc_replay.specs.Machine.{Holds, IsReached, IsWide}
+use Rattle.cyc_replay.specs.Machine.{ShowsMachine, IsReached, IsWide}
 use Rattle.cyc_model.proofs.Gone.{gone_interrupt}
 use Rattle.cyc_replay.proofs.Doing.{Keeps}
 use Rattle.cyc_replay.proofs.Remembering.{remembers_on}
@@ -122,14 +122,14 @@ counted (Some c) some = refl
 
 -- ---- what is in hand has an id that was given
 
-at_soft_level : (soft : Soft) (o : Option Cyclic) → option_map_or (λ (x : Cyclic). x.timer.level) o High ≡ as_level soft
+at_soft_level : (soft : Soft) (o : Option CyclicState) → option_map_or (λ (x : CyclicState). x.timer.level) o High ≡ as_level soft
     → IsSome o
 at_soft_level Low None is = absurd (cc)
 at_soft_level Lock None is = absurd (cc)
 at_soft_level Low (Some x) is = refl
 at_soft_level Lock (Some x) is = refl
 
-given_here : (last most id : ℕ) (cs : List Cyclic) → EachTimer (IsFew last most) (map (λ c. c.timer) cs)
+given_here : (last most id : ℕ) (cs : List CyclicState) → EachTimer (IsFew last most) (map (λ c. c.timer) cs)
     → IsSome (find (is_of id) cs)
     → (0 < id) × (id ≤ last)
 given_here last most id [] all some = absurd (cc)
@@ -161,7 +161,7 @@ level_shown Lock s v n x h long is = ap (λ cs. (slice_index_or cs n absent).loc
 -- ---- no call is refused
 
 module _ (step n budget : ℕ) (level : Soft) (s : State) (m : Machine) (low : step ≤ 65536) (fits : budget < 2 ^ 32)
-    (r : IsReached step s) (h : Holds s m) where
+    (r : IsReached step s) (h : ShowsMachine s m) where
   few_called : (id : ℕ) → tally_count m.tally id ≤ 65536 * 16000000032
   few_called id =
       let books = (reached_good step s r).base.books id in let few = (few_reached step s r low).1 id in let was = h.called id in
@@ -178,7 +178,7 @@ module _ (step n budget : ℕ) (level : Soft) (s : State) (m : Machine) (low : s
       let at : handler_level_of id (cpu_of n s) ≡ as_level level =
       (g.base.whole n).back level id (subst (λ (l : SoftLevel). IsSome (l.cyclics id)) (sym same) some) in
       given_here 65535 (65535 * 16000000032) id (cpu_of n s).cyclics (few_timers step n s r low)
-      (at_soft_level level (cyclic_of id (cpu_of n s)) at)
+      (at_soft_level level (cyclic_with_id id (cpu_of n s)) at)
 
   pub never_refused : (e : SoftRefused) (t : RunningSystem TallyView Tables)
       → Does tally_calls raise_tables (Interrupts tally_calls)
@@ -210,7 +210,7 @@ ok_of (Ok ran) = true
 ok_of (Err fault.NoCpu) = true
 ok_of (Err (fault.Refused e)) = false
 
-module _ (i : SoftintStep) (s : State) (m : Machine) (t : RunningSystem TallyView Tables) (h : Holds s m) where
+module _ (i : SoftintStep) (s : State) (m : Machine) (t : RunningSystem TallyView Tables) (h : ShowsMachine s m) where
   pub no_cpu_there : Does tally_calls raise_tables (Interrupts tally_calls)
       (running_system m.tally m.system) (SoftInterrupt i.cpu i.level i.budget (Err fault.NoCpu)) t
       → (softint_refusal i s ≡ Some NoCpu) × (t ≡ running_system m.tally m.system)
@@ -235,9 +235,9 @@ module _ (i : SoftintStep) (s : State) (m : Machine) (t : RunningSystem TallyVie
 -- ---- the machine after it
 
 pub served_holds : (step : ℕ) (i : SoftintStep) (made : Ran) (s : State) (m : Machine) (t : RunningSystem TallyView Tables)
-    → Good s → Holds s m
+    → Good s → ShowsMachine s m
     → IsServed tally_count i made s (running_system m.tally m.system) t → Keeps s t.system → IsWide t.calls
-    → Holds (interrupt step i s).state (record m { system = t.system; tally = t.calls })
+    → ShowsMachine (interrupt step i s).state (record m { system = t.system; tally = t.calls })
 served_holds step i made s m t g h served kept wide = record {
   system = kept.system;
   shows = (served.comes step).shows;
@@ -249,8 +249,8 @@ served_holds step i made s m t g h served kept wide = record {
       omega (arith, a, b, c);
   names = h.names;
   remembers = remembers_on s (interrupt step i s).state m (record m { system = t.system; tally = t.calls }) h.remembers
-      (record { names = refl; counted = refl; named = refl }) (let same : s.last_id ≤ s.last_id = omega arith in same)
-      (λ id low gone. gone)
+      (record { names = refl; named = refl }) (let same : s.last_id ≤ s.last_id = omega arith in same)
+      (λ id low gone. gone) (λ id low gone. gone)
       (λ id low gone. gone_interrupt step i id s g (low, unknown_gone id s gone) served.accepted);
   tally = wide;
   most = kept.most;

@@ -13,7 +13,7 @@ use Rattle.cyc_script.specs.declared.step.Omni.{Omni as OmniStep}
 use Rattle.cyc_script.specs.declared.step.Step.TheVariants as steps
 use Rattle.cyc_cpu.specs.Soft.{raise_tables}
 use Rattle.cyc_cpu.specs.Calls.{AskRoom, Reserve, Widen, Place}
-use Rattle.cyc_places.specs.declared.record.Placement.TheVariants as place
+use Rattle.cyc_places.specs.declared.record.Placement.TheVariants as placements
 use Rattle.cyc_places.specs.Places.{IsRecord, new_record}
 use Rattle.cyc_system.specs.Cpus.{CpusView, Works, on as on_cpu, online_cpus as online_in}
 use Rattle.cyc_system.specs.Reserving.{rooms, reserves}
@@ -25,20 +25,32 @@ use Rattle.cyc_model.specs.Acts.{calls_of, events_at}
 use Rattle.cyc_model.specs.Cpu.{Cpu}
 use Rattle.cyc_types.specs.Limits.{cyclics as most_cyclics}
 use Rattle.cyc_model.specs.Moving.{must_grow, enter_here}
-use Rattle.cyc_model.specs.Questions.{plain, has_followed}
+use Rattle.cyc_model.specs.Questions.{plain, soft_has_followed}
 use Rattle.cyc_model.specs.Serving.{level_at}
 use Rattle.cyc_model.specs.Free.{AllCanBeAdmitted}
-use Rattle.cyc_model.specs.State.{State, Outcome, Everywhere, OnAll, absent, cpu_of, numbers_from, online_cpus, on, each, told}
+use Rattle.cyc_model.specs.State.{
+  State,
+  Outcome,
+  Everywhere,
+  OnAll,
+  absent,
+  cpu_of,
+  cpus_from,
+  cpus_online,
+  on_number,
+  each,
+  told,
+}
 use Rattle.cyc_model.specs.Places.{given}
 use Rattle.cyc_types.specs.Reasons.{first_refusal, or_else, when, only_if, busy, bad_now}
 use Rattle.cyc_types.specs.Counting.{no_counts}
-use Rattle.cyc_model.specs.Refusals.{ids_spent}
+use Rattle.cyc_model.specs.Refusals.{no_id_left}
 use Rattle.cyc_model.specs.Add.{enter}
 use Rattle.cyc_model.specs.Omni.{component, everywhere, enter_each, omni_refusal, no_room_on_each}
 use Rattle.cyc_model.proofs.Local.{local_enter}
 use Rattle.cyc_cpu_model.specs.Answers.{IsRefused, why_no_room}
 use Rattle.cyc_replay.specs.Shown.{shown_cpus, shown_record, ShowsSystem, AreTied, IsSystem}
-use Rattle.cyc_replay.specs.SystemWords.{Gives, IsSeries, ComesTo, IsDone, IsRefusedFor}
+use Rattle.cyc_replay.specs.SystemWords.{GivesIndexes, IsSeries, ComesTo, IsDone, IsRefusedFor}
 use Rattle.cyc_replay.proofs.Cpus.{cpu_at, done_at}
 use Rattle.cyc_replay.proofs.Destinations.{same_numbers}
 use Rattle.cyc_replay.proofs.Asking.{same_ids_spent, NoMemory, no_memory_when, no_memory_else, some_refused, append_none}
@@ -73,7 +85,7 @@ all_enter : (id : ℕ) (level : Level) (series : When) (skew now : ℕ) (ns : Li
     → length x.online ≡ length x.cpus → AreTied x
     → Works raise_tables (entering_each ns id level series skew now) x y
     → (given_there : List ℕ) × ((s : State) (indexes : ℕ → ℕ) → s.cpus ≡ shown_cpus x → s.clock ≡ now
-    → Gives indexes s.admissions given_there
+    → GivesIndexes indexes s.admissions given_there
     → Entered given_there s (enters indexes id (of_series level series skew) ns s) y)
 all_enter id level series skew now [] x y long tied same = (
   [],
@@ -109,7 +121,7 @@ all_enter id level series skew now (n ∷ ns) x y long tied (u1, wide, (u2, put,
           λ q. (λ z. calls_of q (enter_here n (gives.0 z) (component id n e (clock z)) (get_or (cpus z) n absent)).acts)
           ∙ own.quiet q in
           let f = enter_here n (indexes s.admissions) (component id n e s.clock) in
-          let one : Goes s o = goes_to s (on n f s) [] o.state (refl, refl)
+          let one : Goes s o = goes_to s (on_number n f s) [] o.state (refl, refl)
           (goes_on n f s (local_enter n (indexes s.admissions) (component id n e s.clock)) low free none) in
           let r = more.1 o.state indexes at clock gives.1 in
           record {
@@ -196,7 +208,7 @@ no_memory_of false true true None = tt
 no_memory_of false true false None = tt
 
 room_no_memory : (c : Cpu) → NoMemory (why_no_room 1 c)
-room_no_memory c = no_memory_of (nat_lt most_cyclics (length c.cyclics + 1)) (must_grow 1 c) (not (has_followed c)) c.removal
+room_no_memory c = no_memory_of (nat_lt most_cyclics (length c.cyclics + 1)) (must_grow 1 c) (not (soft_has_followed c)) c.removal
 
 rooms_no_memory : (ns : List ℕ) (x : CpusView Tables) → NoMemory (first_refusal (map (λ k. why_no_room 1 (cpu_at x k)) ns))
 rooms_no_memory [] x = tt
@@ -206,8 +218,8 @@ rooms_no_memory (n ∷ ns) x = no_memory_else (why_no_room 1 (cpu_at x n)) _ (ro
 
 module _ (a : OmniStep) (series : When) (s : State) (v w : SystemView Tables) (sys : IsSystem v) (h : ShowsSystem s v)
     (is : IsSeries a.start a.interval series) where
-  same_online : online_cpus s ≡ online_in v.cpus
-  same_online = ap (numbers_from 0 (λ (c : Cpu). c.online)) h.cpus ∙ same_numbers 0 v.cpus.online v.cpus.cpus sys.agrees.long
+  same_online : cpus_online s ≡ online_in v.cpus
+  same_online = ap (cpus_from 0 (λ (c : Cpu). c.online)) h.cpus ∙ same_numbers 0 v.cpus.online v.cpus.cpus sys.agrees.long
 
   abbrev rooms_in : Option Refusal
   rooms_in = first_refusal (map (λ n. why_no_room 1 (cpu_at v.cpus n)) (online_in v.cpus))
@@ -216,18 +228,18 @@ module _ (a : OmniStep) (series : When) (s : State) (v w : SystemView Tables) (s
   same_rooms = λ z. first_refusal (map (λ n. why_no_room 1 (get_or (h.cpus z) n absent)) (same_online z))
 
   abbrev early : Option Refusal
-  early = or_else (bad_now s.clock) (or_else (ids_spent s) None)
+  early = or_else (bad_now s.clock) (or_else (no_id_left s) None)
 
   asked : early ≡ or_else (bad_now s.clock) (or_else (why.ids_spent v) None)
   asked = ap (λ o. or_else (bad_now s.clock) (or_else o None)) (same_ids_spent s v h sys.agrees.long)
 
   late : omni_refusal plain a s ≡ or_else (bad_now s.clock)
-      (or_else (ids_spent s) (first_refusal (no_room_on_each plain (s.last_id + 1) s)))
+      (or_else (no_id_left s) (first_refusal (no_room_on_each plain (s.last_id + 1) s)))
   late = append_none (when (int_lt a.start (pos 0)) BadWhen) (when (int_lt a.interval (pos 1)) BadInterval)
-      (or_else (bad_now s.clock) (or_else (ids_spent s) (first_refusal (no_room_on_each plain (s.last_id + 1) s)))) is.0
+      (or_else (bad_now s.clock) (or_else (no_id_left s) (first_refusal (no_room_on_each plain (s.last_id + 1) s)))) is.0
 
   only_rooms : or_else (bad_now s.clock) (or_else (why.ids_spent v) None) ≡ None → omni_refusal plain a s ≡ rooms_in
-  only_rooms none = late ∙ append_none (bad_now s.clock) (ids_spent s) (first_refusal (no_room_on_each plain (s.last_id + 1) s))
+  only_rooms none = late ∙ append_none (bad_now s.clock) (no_id_left s) (first_refusal (no_room_on_each plain (s.last_id + 1) s))
       (asked ∙ none) ∙ same_rooms
 
   -- the cyclic, as the definition has it
@@ -252,7 +264,7 @@ module _ (a : OmniStep) (series : When) (s : State) (v w : SystemView Tables) (s
       let there : (ℕ → ℕ) → Outcome = λ indexes. enters indexes id own ns begun in
       let same : (indexes : ℕ → ℕ) → enter_each indexes (s.last_id + 1) (everywhere a) begun ≡ there indexes =
       λ indexes. (λ z. enters indexes (sym gives z) (own_is z) (same_online z) begun) in
-      let done : (indexes : ℕ → ℕ) → Gives indexes s.admissions f.0 → Entered f.0 begun (there indexes) w.cpus =
+      let done : (indexes : ℕ → ℕ) → GivesIndexes indexes s.admissions f.0 → Entered f.0 begun (there indexes) w.cpus =
       λ indexes at. f.1 begun indexes (h.cpus ∙ sym (q.0 ∙ r.0)) refl at in (
         gives,
         record {
@@ -264,11 +276,11 @@ module _ (a : OmniStep) (series : When) (s : State) (v w : SystemView Tables) (s
                 shows = record {
                   cpus = d.cpus;
                   placed = d.books.placed ∙ sym (ap (map shown_record) records
-                      ∙ map-append shown_record v.records (new_record id a.level (place.Everywhere series a.skew) ∷ [])
-                      ∙ (λ z. sym h.placed z ++ record { id = gives z; place = OnAll (sym own_is z) } ∷ []));
+                      ∙ map-append shown_record v.records (new_record id a.level (placements.Everywhere series a.skew) ∷ [])
+                      ∙ (λ z. sym h.placed z ++ record { id = gives z; placement = OnAll (sym own_is z) } ∷ []));
                   ended = λ k q2 at_k n. d.books.ended q2.id n
-                      ∙ ended_more s v id a.level (place.Everywhere series a.skew) k n q2 h gives
-                      (one_more v.records (new_record id a.level (place.Everywhere series a.skew)) k q2
+                      ∙ ended_more s v id a.level (placements.Everywhere series a.skew) k n q2 h gives
+                      (one_more v.records (new_record id a.level (placements.Everywhere series a.skew)) k q2
                       (subst (λ rs. IsRecord rs k q2) records at_k));
                   fresh = λ i n less. d.books.ended i n ∙ h.fresh i n (let l = d.books.last in omega (arith, less, l));
                   last = d.books.last ∙ sym (last ∙ gives);
@@ -286,9 +298,10 @@ module _ (a : OmniStep) (series : When) (s : State) (v w : SystemView Tables) (s
   omni_refused e (inl (why_is, some, answer, same)) =
       let said : early ≡ Some e = asked ∙ some ∙ ap Some (sym (same_error ℕ e why_is (Err e) (Err why_is) refl refl answer)) in (
         some_refused e early (omni_refusal plain a s) said
-            (no_memory_else (bad_now s.clock) (or_else (ids_spent s) None) (no_memory_when _ BadNow tt)
-            (no_memory_else (ids_spent s) None (no_memory_when _ IdsSpent tt) tt))
-            (late ∙ append_some e (bad_now s.clock) (ids_spent s) (first_refusal (no_room_on_each plain (s.last_id + 1) s)) said),
+            (no_memory_else (bad_now s.clock) (or_else (no_id_left s) None) (no_memory_when _ BadNow tt)
+            (no_memory_else (no_id_left s) None (no_memory_when _ IdsSpent tt) tt))
+            (late ∙ append_some e (bad_now s.clock) (no_id_left s) (first_refusal (no_room_on_each plain (s.last_id + 1) s))
+            said),
         subst (ShowsSystem s) (sym same) h,
       )
   omni_refused e (inr (none, (inl (inl (before, n, (rest, stands), works)), records, last))) =

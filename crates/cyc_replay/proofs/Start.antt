@@ -1,6 +1,6 @@
 -- The machine before the first step.
 use Rattle.std.proofs.Common.{◌≡◌, ℕ, zero, suc, ◌+◌, ◌-◌, ◌^◌, ◌<◌, ◌≤◌, inl, inr, List, [], ◌∷◌, ◌++◌, length, map, Bool, true}
-use Rattle.std.proofs.Common.{false, cond, nat_lt, get_or, pow_pos, All, Some, None, refl, ap, sym, ◌∙◌, subst, arith}
+use Rattle.std.proofs.Common.{false, cond, nat_lt, get_or, pow_pos, All, Some, refl, ap, sym, ◌∙◌, subst, arith}
 use Rattle.std.specs.Prelude.{replicate, max, min}
 use Rattle.std.proofs.lemmas.List.{get_or-replicate, length-replicate}
 use Rattle.std.proofs.lemmas.List.Elements.{All-append}
@@ -16,12 +16,13 @@ use Rattle.cyc_cpu.proofs.Fresh.{empty_is_fresh}
 use Rattle.cyc_cpu.specs.Soft.{firing_at}
 use Rattle.cyc_model.specs.Script.{start}
 use Rattle.cyc_replay.specs.Shown.{ShowsSystem, IsSystem}
-use Rattle.cyc_replay.specs.Kept.{AreNew, new_system}
+use Rattle.cyc_replay.specs.Kept.{LevelsAreNew, new_system}
 use Rattle.cyc_agreement.specs.Suspending.{is_suspended}
 use Rattle.std.specs.Option.{option_map, option_map_or}
 use Rattle.cyc_replay.specs.declared.machine.Machine.{Machine}
-use Rattle.cyc_replay.specs.Machine.{Holds, IsWide, AllMost, number_of, id_at}
-use Rattle.cyc_replay.specs.Beginning.{IsEmpty, HasReserved}
+use Rattle.cyc_words.specs.declared.named.Named.TheVariants.{Nothing}
+use Rattle.cyc_replay.specs.Machine.{ShowsMachine, IsWide, AllMost, numbers_of, id_of_named, id_at}
+use Rattle.cyc_replay.specs.Beginning.{IsEmptyCpu, HasReserved}
 use Rattle.std.specs.Prelude.{slice_set, Ok, Err}
 use Rattle.std.specs.List.{slice_get}
 use Rattle.std.proofs.Math.ListN.{length-set}
@@ -31,12 +32,12 @@ use native.Mathlib.Decide.{ℕ_discrete}
 use Rattle.cyc_types.specs.declared.refusal.Refusal.{Refusal}
 use Rattle.cyc_types.specs.declared.refusal.Refusal.TheVariants.{Memory}
 use Rattle.cyc_types.specs.Pairs.{EachTwo}
-use Rattle.cyc_cpu.specs.Cpu.{CpuView, size_for, bank_for, HasRisingIds}
-use Rattle.cyc_cpu.specs.Calls.{Reserve, Changes}
+use Rattle.cyc_cpu.specs.Cpu.{CpuView, size_for, bank_for, HasRisingCyclics}
+use Rattle.cyc_cpu.specs.Calls.{Reserve, CpuChanges}
 use Rattle.cyc_cpu.specs.Soft.{raise_tables}
 use Rattle.cyc_system.specs.Cpus.{new_cpus}
 use Rattle.cyc_system.proofs.Rooms.{only_memory}
-use Rattle.cyc_cpu_model.specs.Shown.{shown, shown_cpu}
+use Rattle.cyc_cpu_model.specs.Shown.{shown_cyclic, shown_cpu}
 use Rattle.cyc_cpu_model.specs.Tied.{IsTied, HasOwn}
 use Rattle.cyc_cpu_model.proofs.Levels.{only_looked}
 use Rattle.std.specs.Prelude.{Result, OnOk, IfErr}
@@ -45,12 +46,12 @@ use Rattle.cyc_system.specs.System.{SystemView}
 use Rattle.cyc_system.specs.Agreement.{Agrees}
 use Rattle.cyc_system.proofs.Spots.{same_some, none_some}
 use Rattle.cyc_model.specs.State.{State}
-use Rattle.cyc_system.specs.Splitting.{GoesOn, IsSameEnd, index_of, AllComeBack}
+use Rattle.cyc_system.specs.Splitting.{GoesOn, IsSameEnd, index_admitted, AllComeBack}
 use Rattle.cyc_replay.specs.Room.{HaveRoomFor}
 use Rattle.cyc_replay.proofs.Rooms.{near, far, first_enough, bank_rises}
 use Rattle.cyc_replay.specs.Shown.{shown_list, shown_record, AllFull}
 
-pub fresh_levels : (ceiling : ℕ) (ends : List (Tables × Tables)) → AreNew ceiling ends
+pub fresh_levels : (ceiling : ℕ) (ends : List (Tables × Tables)) → LevelsAreNew ceiling ends
     → All (λ e. IsFresh (firing_at e.0) × IsFresh (firing_at e.1)) ends
 fresh_levels ceiling ends new k d low =
     let own = new k d low in (
@@ -58,9 +59,9 @@ fresh_levels ceiling ends new k d low =
       empty_is_fresh ceiling (level_of (get_or ends k d).1) own.1,
     )
 
-pub one_more_new : (ceiling : ℕ) (ends : List (Tables × Tables)) (e : Tables × Tables) → AreNew ceiling ends
+pub one_more_new : (ceiling : ℕ) (ends : List (Tables × Tables)) (e : Tables × Tables) → LevelsAreNew ceiling ends
     → level_of e.0 ≡ empty_level ceiling
-    → level_of e.1 ≡ empty_level ceiling → AreNew ceiling (ends ++ e ∷ [])
+    → level_of e.1 ≡ empty_level ceiling → LevelsAreNew ceiling (ends ++ e ∷ [])
 one_more_new ceiling ends e new lock low =
     All-append (λ (x : Tables × Tables). (level_of x.0 ≡ empty_level ceiling) × (level_of x.1 ≡ empty_level ceiling)) ends
     (e ∷ []) new one
@@ -91,27 +92,27 @@ wide t is = subst IsWide (sym is) (record { first = refl; len = length-replicate
 
 -- ---- the whole
 
-no_ids : (n : ℕ) → replicate n 0 ≡ map number_of (replicate n None)
+no_ids : (n : ℕ) → replicate n 0 ≡ numbers_of (replicate n Nothing)
 no_ids zero = refl
 no_ids (suc n) = ap (λ ns. 0 ∷ ns) (no_ids n)
 
 pub held_new : (cpus ceiling names : ℕ) (m : Machine) → m.clock ≡ 0 → m.tally ≡ tally_made 1 65536 (2 ^ 64 - 1)
-    → m.names.items ≡ replicate names None → length m.counted.items ≡ names → length m.named.items ≡ 65536 → AllMost m.system.cpus
+    → m.names ≡ replicate names Nothing → length m.named.items ≡ 65536 → AllMost m.system.cpus
     → HaveRoomFor names m.system.cpus → is_suspended m.system ≡ false
     → IsSystem m.system × ShowsSystem (start cpus ceiling names) m.system
-    → Holds (start cpus ceiling names) m
-held_new cpus ceiling names m clock tally ids counted named most room awake shown = record {
-  system = shown.0;
-  shows = shown.1;
+    → ShowsMachine (start cpus ceiling names) m
+held_new cpus ceiling names m clock tally ids named most room awake shown_cyclic = record {
+  system = shown_cyclic.0;
+  shows = shown_cyclic.1;
   clock = sym clock;
   suspended = sym awake;
   called = λ id. ap (λ t. tally_count t id) tally ∙ none_counted (nat_lt id 1) (id - 1) 65536;
-  names = no_ids names ∙ sym (ap (map number_of) ids);
+  names = no_ids names ∙ sym (ap numbers_of ids);
   remembers = record {
     given = λ name id is. absurd (nobody name id is);
     named = λ name id is. absurd (nobody name id is);
+    removed = λ name receipt is. absurd (nobody name receipt.id (ap id_of_named is));
     counted = λ name id is. absurd (nobody name id is);
-    names = counted ∙ sym (ap length ids ∙ length-replicate names None);
     ids = named;
   };
   tally = wide m.tally tally;
@@ -119,18 +120,19 @@ held_new cpus ceiling names m clock tally ids counted named most room awake show
   room = subst (λ k. HaveRoomFor k m.system.cpus) (sym (length-replicate names 0)) room;
 }
   where
-    none_in : (k n id : ℕ) → id_at (replicate n None) k ≡ Some id → ⊥
+    none_in : (k n id : ℕ) → id_at (replicate n Nothing) k ≡ Some id → ⊥
     none_in k zero id is = none_some is
     none_in zero (suc n) id is = none_some is
     none_in (suc k) (suc n) id is = none_in k n id is
 
-    nobody : (name id : ℕ) → id_at m.names.items name ≡ Some id → ⊥
+    nobody : (name id : ℕ) → id_at m.names name ≡ Some id → ⊥
     nobody name id is = none_in name names id (sym (ap (λ xs. id_at xs name) ids) ∙ is)
 
 -- ---- memory for cyclics
 
 -- a new CPU has no cyclic
-pub new_empty : (most ceiling : ℕ) (ends : List (Tables × Tables)) → AreNew ceiling ends → All IsEmpty (new_cpus most ends).cpus
+pub new_empty : (most ceiling : ℕ) (ends : List (Tables × Tables)) → LevelsAreNew ceiling ends
+    → All IsEmptyCpu (new_cpus most ends).cpus
 new_empty most ceiling [] new k d low = absurd (omega (arith, low))
 new_empty most ceiling (e ∷ ends) new zero d low =
     let own = new 0 e (omega arith) in
@@ -153,7 +155,7 @@ size_one k = elim (cases_lt 1 k) [
   | inr low ↦ near k 1 1 (2 ^ bank_for k) low ∙ sym (ap (λ bank. 2 ^ bank) (first_enough greatest_bank 0 k low))
 ]
 
-reserved_so : (wanted : ℕ) (v w : CpuView Tables) → IsEmpty v → Changes raise_tables v (Reserve wanted (Ok tt)) w
+reserved_so : (wanted : ℕ) (v w : CpuView Tables) → IsEmptyCpu v → CpuChanges raise_tables v (Reserve wanted (Ok tt)) w
     → HasReserved wanted v w
 reserved_so wanted v w e d = record {
   room = d.0.room ∙ ap (λ k. max v.room k) ((λ z. size_for (e.size z) (all z)) ∙ size_one wanted);
@@ -169,8 +171,8 @@ reserved_so wanted v w e d = record {
     all : length v.cyclics + wanted ≡ wanted
     all = let none = ap length e.cyclics in omega (arith, none)
 
-only_want : (wanted : ℕ) (v w : CpuView Tables) (e : Refusal) → wanted ≤ most_cyclics → IsEmpty v
-    → Changes raise_tables v (Reserve wanted (Err e)) w
+only_want : (wanted : ℕ) (v w : CpuView Tables) (e : Refusal) → wanted ≤ most_cyclics → IsEmptyCpu v
+    → CpuChanges raise_tables v (Reserve wanted (Err e)) w
     → e ≡ Memory
 only_want wanted v w e few empty d = only_memory raise_tables wanted v w e
     (record {
@@ -178,14 +180,14 @@ only_want wanted v w e few empty d = only_memory raise_tables wanted v w e
       still = λ more. (empty.removal, empty.followed);
     }) d.0 d.1
 
-pub reserved_or_not : (wanted : ℕ) (v w : CpuView Tables) (r : Result (Unit {0}) Refusal) → IsEmpty v
-    → Changes raise_tables v (Reserve wanted r) w
+pub reserved_or_not : (wanted : ℕ) (v w : CpuView Tables) (r : Result (Unit {0}) Refusal) → IsEmptyCpu v
+    → CpuChanges raise_tables v (Reserve wanted r) w
     → OnOk r (HasReserved wanted v w)
 reserved_or_not wanted v w (Ok done) e d = reserved_so wanted v w e d
 reserved_or_not wanted v w (Err why) e d = tt
 
-pub only_if_refused : (wanted : ℕ) (v w : CpuView Tables) (r : Result (Unit {0}) Refusal) → wanted ≤ most_cyclics → IsEmpty v
-    → Changes raise_tables v (Reserve wanted r) w
+pub only_if_refused : (wanted : ℕ) (v w : CpuView Tables) (r : Result (Unit {0}) Refusal) → wanted ≤ most_cyclics → IsEmptyCpu v
+    → CpuChanges raise_tables v (Reserve wanted r) w
     → IfErr r (λ refusal. refusal ≡ Memory)
 only_if_refused wanted v w (Ok done) few e d = tt
 only_if_refused wanted v w (Err why) few e d = only_want wanted v w why few e d
@@ -224,8 +226,8 @@ reserving_one wanted n vs ws x y r within is h = record {
 
 pub empty_left : (wanted n : ℕ) (vs ws : List (CpuView Tables)) (x : CpuView Tables) → Reserving wanted n vs ws → n < length vs
     → x ≡ get_or ws n x
-    → All IsEmpty vs → IsEmpty x
-empty_left wanted n vs ws x r low is empty = subst IsEmpty (sym (is ∙ r.left n x (omega arith))) (empty n x low)
+    → All IsEmptyCpu vs → IsEmptyCpu x
+empty_left wanted n vs ws x r low is empty = subst IsEmptyCpu (sym (is ∙ r.left n x (omega arith))) (empty n x low)
 
 pub reserving_all : (wanted n : ℕ) (vs ws : List (CpuView Tables)) → Reserving wanted n vs ws → length vs ≤ n
     → EachTwo (HasReserved wanted) vs ws
@@ -241,7 +243,7 @@ reserving_all wanted n vs ws r all = each vs ws r.long (λ k d low. r.done k d (
         (one 0 x (omega arith), each xs ys (omega (arith, long)) (λ k d low. one (suc k) d (omega (arith, low))))
 
 -- they may come back to their system
-pub come_back : (wanted : ℕ) (vs ws : List (CpuView Tables)) → All IsEmpty vs → EachTwo (HasReserved wanted) vs ws
+pub come_back : (wanted : ℕ) (vs ws : List (CpuView Tables)) → All IsEmptyCpu vs → EachTwo (HasReserved wanted) vs ws
     → AllComeBack firing_at vs ws
 come_back wanted [] [] empty two = tt
 come_back wanted [] (w ∷ ws) empty two = two
@@ -265,7 +267,7 @@ come_back wanted (v ∷ vs) (w ∷ ws) empty two =
     same_end a b is = record {
       ceiling = ap (λ (l : SoftLevel). (firing_view l).ceiling) is;
       indexes = λ id. ap
-          (λ (l : SoftLevel). index_of id (firing_view l)) is;
+          (λ (l : SoftLevel). index_admitted id (firing_view l)) is;
     }
 
 -- ---- the definition has them as before
@@ -274,7 +276,7 @@ same_shown : (wanted : ℕ) (online : Bool) (v w : CpuView Tables) → HasReserv
     → shown_cpu online w ≡ shown_cpu online v
 same_shown wanted online v w h = λ z. record {
   online = online;
-  cyclics = map shown (h.cyclics z);
+  cyclics = map shown_cyclic (h.cyclics z);
   size = h.size z;
   removal = h.removal z;
   lock = h.lock z;
@@ -292,7 +294,7 @@ shown_two wanted (o ∷ os) (v ∷ vs) (w ∷ ws) two =
 
 reserved_tied : (wanted : ℕ) (v w : CpuView Tables) → HasReserved wanted v w → IsTied v → IsTied w
 reserved_tied wanted v w h t = record {
-  rising = subst (λ cs. HasRisingIds cs) (sym h.cyclics) t.rising;
+  rising = subst (λ cs. HasRisingCyclics cs) (sym h.cyclics) t.rising;
   own = λ online. subst (λ c. HasOwn c) (sym (same_shown wanted online v w h)) (t.own online);
 }
 
@@ -355,7 +357,7 @@ module _ (wanted : ℕ) (v w : SystemView Tables) (two : EachTwo (HasReserved wa
       ∙ awake
 
   -- memory for so many names, as far as a CPU can have them
-  pub now_room : (names : ℕ) → wanted ≡ min names most_cyclics → All IsEmpty v.cpus.cpus → HaveRoomFor names w.cpus
+  pub now_room : (names : ℕ) → wanted ≡ min names most_cyclics → All IsEmptyCpu v.cpus.cpus → HaveRoomFor names w.cpus
   now_room names is_wanted empty n cpu is =
       let x = two_at wanted v.cpus.cpus w.cpus.cpus n cpu two is in
       let room = x.2.room in let size = x.2.size in
@@ -366,7 +368,8 @@ module _ (wanted : ℕ) (v w : SystemView Tables) (two : EachTwo (HasReserved wa
         size = omega (arith, room, size, one, some);
       }
     where
-      empty_at : (xs : List (CpuView Tables)) (k : ℕ) (x : CpuView Tables) → All IsEmpty xs → slice_get xs k ≡ Some x → IsEmpty x
+      empty_at : (xs : List (CpuView Tables)) (k : ℕ) (x : CpuView Tables) → All IsEmptyCpu xs → slice_get xs k ≡ Some x
+          → IsEmptyCpu x
       empty_at [] k x all is = absurd (none_some is)
-      empty_at (y ∷ ys) zero x all is = subst IsEmpty (same_some is) (all 0 y (omega arith))
+      empty_at (y ∷ ys) zero x all is = subst IsEmptyCpu (same_some is) (all 0 y (omega arith))
       empty_at (y ∷ ys) (suc k) x all is = empty_at ys k x (λ i d low. all (suc i) d (omega (arith, low))) is

@@ -16,11 +16,11 @@ use Rattle.cyc_cpu.specs.declared.removing.Removal.TheVariants as on_cpu
 use Rattle.cyc_cpu.specs.Cpu.{Running, SameCpu, running}
 use Rattle.cyc_cpu.specs.Soft.{raise_tables, Interrupts}
 use Rattle.cyc_cpu.specs.Calls.{CpuCall, Fire, AskPending, AskRoom, Reserve, Reprogram as Reprogrammed, TakeNow, Widen}
-use Rattle.cyc_cpu.specs.Calls.{SoftInterrupt as CpuSoftInterrupt, Does as CpuDoes}
+use Rattle.cyc_cpu.specs.Calls.{SoftInterrupt as CpuSoftInterrupt, CpuDoes as CpuDoes}
 use Rattle.cyc_cpu.specs.Calls as cpu
 use Rattle.cyc_cpu.proofs.Calling.{LeavesMark as LeavesCpuMark, changes_suspended, fire_keeps}
 use Rattle.cyc_places.specs.declared.record.Placement.{Placement as RecordPlacement}
-use Rattle.cyc_places.specs.declared.record.Placement.TheVariants as place
+use Rattle.cyc_places.specs.declared.record.Placement.TheVariants as placements
 use Rattle.cyc_places.specs.declared.record.Record.{Record}
 use Rattle.cyc_places.specs.Places.{ended_on}
 use Rattle.cyc_system.specs.Cpus.{CpusView, CallOn, Works, DoesAt, RunsAt, on, online_cpus, running_cpus}
@@ -37,7 +37,7 @@ use Rattle.cyc_system.specs.Counting.{Counted, asked}
 use Rattle.cyc_system.specs.Turn.{Turn}
 use Rattle.cyc_system.specs.Turn.TheVariants as turn
 use Rattle.cyc_system.specs.Juggling.{TakesTurn, Turns, single_ids}
-use Rattle.cyc_system.specs.GoingOffline.{quiet, Retires, Leaves}
+use Rattle.cyc_system.specs.GoingOffline.{quiet, Retires, EndsOffline}
 use Rattle.cyc_system.specs.Omni.{entering_each}
 use Rattle.cyc_system.specs.Online.{GoesOnline, staying, return_at, returns}
 use Rattle.cyc_system.specs.Calls.{SystemCall, Add, AddOmni, Bind, BeginRemove, PollRemove, AskTotals, Reprogram, ReprogramOn}
@@ -79,12 +79,12 @@ leave_asked id (a ∷ way) = (tt, leave_asked id way)
 
 leave_returns : (n now : ℕ) (rs : List Record) → AllLeave (returns n now rs)
 leave_returns n now [] = tt
-leave_returns n now (r ∷ rs) = leave_append (return_at n now r.id r.level (ended_on n r) r.place) (returns n now rs)
-    (one r.place) (leave_returns n now rs)
+leave_returns n now (r ∷ rs) = leave_append (return_at n now r.id r.level (ended_on n r) r.placement) (returns n now rs)
+    (one r.placement) (leave_returns n now rs)
   where
     one : (p : RecordPlacement) → AllLeave (return_at n now r.id r.level (ended_on n r) p)
-    one (place.On m bound) = tt
-    one (place.Everywhere start skew) = (tt, tt)
+    one (placements.On m bound) = tt
+    one (placements.Everywhere start skew) = (tt, tt)
 
 -- ---- the marks after them
 
@@ -155,7 +155,7 @@ marks_retires n (id ∷ ids) v w (u, d, rest) = λ k.
     marks_retires n ids u w rest k ∙ marks_did (on n (TakeNow id (Ok d.0))) v.cpus u.cpus tt d.1 k
 
 marks_leaves : (n : ℕ) (report : JuggleReport) (answer : Result (Unit {0}) Refusal) (v w : SystemView Tables)
-    → Leaves raise_tables n report answer v w → SameMarks v.cpus w.cpus
+    → EndsOffline raise_tables n report answer v w → SameMarks v.cpus w.cpus
 marks_leaves n report answer v w (inl (left, is, same)) = marks_same v w same
 marks_leaves n report answer v w (inr (inl (none, is, (before, id, stands, found, some, only)))) =
     marks_only (quiet n before ++ on n (AskPending id (Some found)) ∷ []) v w

@@ -15,25 +15,25 @@ use Rattle.cyc_script.specs.declared.step.Step.TheVariants as steps
 use Rattle.cyc_cpu.specs.Soft.{raise_tables}
 use Rattle.cyc_cpu.specs.Calls.{Reserve, Widen, Place}
 use Rattle.cyc_places.specs.declared.record.Placement.{Placement as RecordPlacement}
-use Rattle.cyc_places.specs.declared.record.Placement.TheVariants as place
+use Rattle.cyc_places.specs.declared.record.Placement.TheVariants as placements
 use Rattle.cyc_places.specs.declared.record.Record.{Record}
 use Rattle.cyc_places.specs.Places.{IsRecord, new_record, ended_on}
 use Rattle.cyc_system.specs.System.{SystemView}
 use Rattle.cyc_system.specs.Refusals as why
 use Rattle.cyc_system.specs.Calls.{Add, Changes}
 use Rattle.cyc_model.specs.Acts.{calls_of}
-use Rattle.cyc_model.specs.Cpu.{Cyclic}
+use Rattle.cyc_model.specs.Cpu.{CyclicState}
 use Rattle.cyc_model.specs.Moving.{enter_here}
 use Rattle.cyc_model.specs.Serving.{level_at}
 use Rattle.cyc_model.specs.Free.{AllCanBeAdmitted}
 use Rattle.cyc_model.specs.Acts.{events_at}
 use Rattle.cyc_model.specs.Questions.{plain}
 use Rattle.cyc_model.specs.State.{State, On, absent, cpu_of}
-use Rattle.cyc_model.specs.Places.{destination}
+use Rattle.cyc_model.specs.Places.{destination_of}
 use Rattle.cyc_types.specs.Reasons.{or_else, when, bad_now}
 use Rattle.cyc_types.specs.Counting.{no_counts}
-use Rattle.cyc_model.specs.Refusals.{ids_spent}
-use Rattle.cyc_model.specs.Add.{cyclic_with, added, add_refusal}
+use Rattle.cyc_model.specs.Refusals.{no_id_left}
+use Rattle.cyc_model.specs.Add.{cyclic_that_expired, added, add_refusal}
 use Rattle.cyc_model.proofs.Local.{local_enter}
 use Rattle.cyc_cpu_model.specs.Answers.{IsRefused, why_no_room}
 use Rattle.cyc_replay.specs.Shown.{shown_cpus, shown_record, shown_counts, ShowsSystem, IsSystem}
@@ -77,26 +77,27 @@ ended_more s v id level p k n r h gives (inr new) =
 
 -- what the definition asks first, and then whether there is room
 abbrev early : AddStep → State → Option Refusal
-early a s = or_else (bad_now s.clock) (or_else (ids_spent s) None)
+early a s = or_else (bad_now s.clock) (or_else (no_id_left s) None)
 
 abbrev room_there : State → Option Refusal
-room_there s = why_no_room 1 (cpu_of (destination None s) s)
+room_there s = why_no_room 1 (cpu_of (destination_of None s) s)
 
 late : (a : AddStep) (series : When) (s : State) → IsSeries a.start a.interval series
-    → add_refusal plain a s ≡ or_else (bad_now s.clock) (or_else (ids_spent s) (or_else (room_there s) None))
+    → add_refusal plain a s ≡ or_else (bad_now s.clock) (or_else (no_id_left s) (or_else (room_there s) None))
 late a series s is = append_none (when (int_lt a.start (pos 0)) BadWhen) (when (int_lt a.interval (pos 1)) BadInterval)
-    (or_else (bad_now s.clock) (or_else (ids_spent s) (or_else (room_there s) None))) is.0
+    (or_else (bad_now s.clock) (or_else (no_id_left s) (or_else (room_there s) None))) is.0
 
 only_room : (a : AddStep) (series : When) (s : State) → IsSeries a.start a.interval series → early a s ≡ None
     → add_refusal plain a s ≡ or_else (room_there s) None
-only_room a series s is none = late a series s is ∙ append_none (bad_now s.clock) (ids_spent s) (or_else (room_there s) None) none
+only_room a series s is none = late a series s is ∙ append_none (bad_now s.clock) (no_id_left s) (or_else (room_there s) None)
+    none
 
 module _ (a : AddStep) (series : When) (s : State) (v w : SystemView Tables) (sys : IsSystem v) (h : ShowsSystem s v)
     (is : IsSeries a.start a.interval series) where
   asked : early a s ≡ or_else (bad_now s.clock) (or_else (why.ids_spent v) None)
   asked = ap (λ o. or_else (bad_now s.clock) (or_else o None)) (same_ids_spent s v h sys.agrees.long)
 
-  room_at : (d : ℕ) → destination None s ≡ d → room_there s ≡ why_no_room 1 (cpu_at v.cpus d)
+  room_at : (d : ℕ) → destination_of None s ≡ d → room_there s ≡ why_no_room 1 (cpu_at v.cpus d)
   room_at d dm = λ z. why_no_room 1 (get_or (h.cpus z) (dm z) absent)
 
   pub add_accepted : (id : ℕ) → Changes raise_tables v (Add a.level series s.clock (Ok id)) w → (id ≡ s.last_id + 1)
@@ -108,17 +109,17 @@ module _ (a : AddStep) (series : When) (s : State) (v w : SystemView Tables) (sy
       let b = done_at d (Widen 1) u1 u2 r.long r.tied wide in
       let p = done_at d (Place id a.level series.interval moment no_counts) u2 u3 b.long b.tied put in
       let e = entered d id a.level series.interval moment no_counts u1 u2 u3 b p in
-      let x : Cyclic = cyclic_with id a.level series.interval moment 0 0 in
+      let x : CyclicState = cyclic_that_expired id a.level series.interval moment 0 0 in
       let before : shown_cpus u1 ≡ shown_cpus v.cpus = unchanged v.cpus u1 d r.cpus in
-      let dm : destination None s ≡ d = destination_shown None s v.cpus h.cpus sys.agrees.long
+      let dm : destination_of None s ≡ d = destination_shown None s v.cpus h.cpus sys.agrees.long
       ∙ ap (λ o. option_map_or (λ n. n) o 0) dest in
       let gives : id ≡ s.last_id + 1 = named ∙ ap (λ n. n + 1) (sym h.last) in
-      let is_x : added a s ≡ x = λ z. cyclic_with (sym gives z) a.level (is.2 z) (first (is.1 z) (is.2 z) s.clock) 0 0 in
+      let is_x : added a s ≡ x = λ z. cyclic_that_expired (sym gives z) a.level (is.2 z) (first (is.1 z) (is.2 z) s.clock) 0 0 in
       -- the CPUs after it, as the definition has them
       let cs : shown_cpus w.cpus ≡ slice_set (shown_cpus v.cpus) d
       (enter_here d p.index x (get_or (shown_cpus v.cpus) d absent)).cpu =
       ap shown_cpus (sym same) ∙ e.cpus ∙ ap (λ xs. slice_set xs d (enter_here d p.index x (get_or xs d absent)).cpu) before in
-      let at_d : get_or s.cpus (destination None s) absent
+      let at_d : get_or s.cpus (destination_of None s) absent
       ≡ cpu_at u1 d = λ z. get_or ((h.cpus ∙ sym before) z) (dm z) absent in (
         gives,
         record {
@@ -129,26 +130,26 @@ module _ (a : AddStep) (series : When) (s : State) (v w : SystemView Tables) (sy
               cpus = sym (cs ∙ (λ z. slice_set (sym h.cpus z) (sym dm z)
                   (enter_here (sym dm z) (sym at.0 z) (sym is_x z) (get_or (sym h.cpus z) (sym dm z) absent)).cpu));
               placed = sym (ap (map shown_record) records
-                  ∙ map-append shown_record v.records (new_record id a.level (place.On d false) ∷ [])
-                  ∙ (λ z. sym h.placed z ++ record { id = gives z; place = On (sym dm z) false } ∷ []));
-              ended = λ k q there n. ended_more s v id a.level (place.On d false) k n q h gives
-                  (one_more v.records (new_record id a.level (place.On d false)) k q
+                  ∙ map-append shown_record v.records (new_record id a.level (placements.On d false) ∷ [])
+                  ∙ (λ z. sym h.placed z ++ record { id = gives z; placement = On (sym dm z) false } ∷ []));
+              ended = λ k q there n. ended_more s v id a.level (placements.On d false) k n q h gives
+                  (one_more v.records (new_record id a.level (placements.On d false)) k q
                   (subst (λ rs. IsRecord rs k q) records there));
               fresh = λ i n less. h.fresh i n (omega (arith, less));
               last = sym (last ∙ gives);
             };
             admissions = refl;
-            free = free_on (destination None s) (enter_here (destination None s) (indexes s.admissions) (added a s)
-                (get_or s.cpus (destination None s) absent)).acts s
-                (local_enter (destination None s) (indexes s.admissions) (added a s)
-                (get_or s.cpus (destination None s) absent)).on
+            free = free_on (destination_of None s) (enter_here (destination_of None s) (indexes s.admissions) (added a s)
+                (get_or s.cpus (destination_of None s) absent)).acts s
+                (local_enter (destination_of None s) (indexes s.admissions) (added a s)
+                (get_or s.cpus (destination_of None s) absent)).on
                 (λ soft. subst (λ c. c) (λ z. AllCanBeAdmitted (events_at (sym dm z) soft
                 (enter_here (sym dm z) (sym at.0 z) (sym is_x z) (sym at_d z)).acts) (level_at soft (sym at_d z))) (e.free soft));
           };
           quiet = λ texts indexes step at q.
               let none_called = e.quiet q in
-              let same_acts : calls_of q (enter_here (destination None s) (indexes s.admissions) (added a s)
-              (get_or s.cpus (destination None s) absent)).acts
+              let same_acts : calls_of q (enter_here (destination_of None s) (indexes s.admissions) (added a s)
+              (get_or s.cpus (destination_of None s) absent)).acts
               ≡ calls_of q (enter_here d p.index x (cpu_at u1 d)).acts =
               λ z. calls_of q (enter_here (dm z) (at.0 z) (is_x z) (at_d z)).acts in
               omega (arith, none_called, same_acts);
@@ -158,11 +159,12 @@ module _ (a : AddStep) (series : When) (s : State) (v w : SystemView Tables) (sy
   -- refused before the CPU was asked
   early_refused : (e : Refusal) → early a s ≡ Some e → IsRefused e (add_refusal plain a s)
   early_refused e some = some_refused e (early a s) (add_refusal plain a s) some
-      (no_memory_else (bad_now s.clock) (or_else (ids_spent s) None) (no_memory_when _ BadNow tt)
-      (no_memory_else (ids_spent s) None (no_memory_when _ IdsSpent tt) tt))
-      (late a series s is ∙ append_some e (bad_now s.clock) (ids_spent s) (or_else (room_there s) None) some)
+      (no_memory_else (bad_now s.clock) (or_else (no_id_left s) None) (no_memory_when _ BadNow tt)
+      (no_memory_else (no_id_left s) None (no_memory_when _ IdsSpent tt) tt))
+      (late a series s is ∙ append_some e (bad_now s.clock) (no_id_left s) (or_else (room_there s) None) some)
 
-  room_refused : (e : Refusal) (d : ℕ) → early a s ≡ None → destination None s ≡ d → IsRefused e (why_no_room 1 (cpu_at v.cpus d))
+  room_refused : (e : Refusal) (d : ℕ) → early a s ≡ None → destination_of None s ≡ d
+      → IsRefused e (why_no_room 1 (cpu_at v.cpus d))
       → IsRefused e (add_refusal plain a s)
   room_refused e d none dm refused = subst (IsRefused e)
       (sym (only_room a series s is none ∙ or_none (room_there s) ∙ room_at d dm)) refused
@@ -174,14 +176,14 @@ module _ (a : AddStep) (series : When) (s : State) (v w : SystemView Tables) (sy
     subst (ShowsSystem s) (sym same) h,
   )
   add_refused e (inr (none, (d, dest, inl ((u, reserve, same), records, last)))) =
-      let dm : destination None s ≡ d = destination_shown None s v.cpus h.cpus sys.agrees.long
+      let dm : destination_of None s ≡ d = destination_shown None s v.cpus h.cpus sys.agrees.long
       ∙ ap (λ o. option_map_or (λ n. n) o 0) dest in
       let r = done_at d (Reserve 1 (Err e)) v.cpus u sys.agrees.long sys.tied reserve in (
         room_refused e d (asked ∙ none) dm (r.answered tt),
         same_shown s v w h (ap shown_cpus (sym same) ∙ unchanged v.cpus u d r.cpus) records last,
       )
   add_refused e (inr (none, (d, dest, inr (memory, ((u, reserve, same), records, last))))) =
-      let dm : destination None s ≡ d = destination_shown None s v.cpus h.cpus sys.agrees.long
+      let dm : destination_of None s ≡ d = destination_shown None s v.cpus h.cpus sys.agrees.long
       ∙ ap (λ o. option_map_or (λ n. n) o 0) dest in
       let r = done_at d (Reserve 1 (Ok tt)) v.cpus u sys.agrees.long sys.tied reserve in (
         subst (λ x. IsRefused x (add_refusal plain a s)) (sym memory) (room_refused Memory d (asked ∙ none) dm (r.answered tt)),

@@ -15,13 +15,13 @@ use Rattle.cyc_system.specs.System.{SystemView, RunningSystem, is_online}
 use Rattle.cyc_system.specs.Refusals as why
 use Rattle.cyc_system.specs.Calls.{Does, FireOne}
 use Rattle.cyc_text.specs.Lines.{fired as fired_line}
-use Rattle.cyc_model.specs.Acts.{Act, At, Call, calls_of, losses_in}
+use Rattle.cyc_model.specs.Acts.{Act, At, Call, calls_of, all_losses}
 use Rattle.cyc_model.specs.Cpu.{Cpu}
 use Rattle.cyc_model.specs.Firing.{due_here, fire_here}
-use Rattle.cyc_model.specs.State.{State, Outcome, absent, cpu_of, kept_if, numbers_from, online_cpus, before, followed_by, on}
+use Rattle.cyc_model.specs.State.{State, Outcome, absent, cpu_of, kept_if, cpus_from, cpus_online, before, followed_by, on_number}
 use Rattle.cyc_model.specs.State.{each}
 use Rattle.cyc_types.specs.Reasons.{when}
-use Rattle.cyc_model.specs.Refusals.{no_cpu, offline_cpu}
+use Rattle.cyc_model.specs.Refusals.{is_no_cpu, cpu_is_offline}
 use Rattle.cyc_model.specs.Advance.{due_on}
 use Rattle.cyc_model.proofs.Events.{calls_append}
 use Rattle.cyc_model.proofs.Numbers.{Has}
@@ -40,15 +40,15 @@ kept_append true k xs ys = refl
 kept_append false k xs ys = refl
 
 numbers_append : (k : ℕ) (test : Cpu → Bool) (xs : List Cpu) (c : Cpu)
-    → numbers_from k test (xs ++ c ∷ []) ≡ numbers_from k test xs ++ kept_if (test c) (k + length xs) []
+    → cpus_from k test (xs ++ c ∷ []) ≡ cpus_from k test xs ++ kept_if (test c) (k + length xs) []
 numbers_append k test [] c = ap (λ j. kept_if (test c) j []) (same k)
   where
     same : (j : ℕ) → j ≡ j + 0
     same j = omega arith
 numbers_append k test (x ∷ xs) c =
     ap (kept_if (test x) k) (numbers_append (k + 1) test xs c)
-    ∙ kept_append (test x) k (numbers_from (k + 1) test xs) (kept_if (test c) (k + 1 + length xs) [])
-    ∙ ap (λ j. kept_if (test x) k (numbers_from (k + 1) test xs) ++ kept_if (test c) j []) (next k (length xs))
+    ∙ kept_append (test x) k (cpus_from (k + 1) test xs) (kept_if (test c) (k + 1 + length xs) [])
+    ∙ ap (λ j. kept_if (test x) k (cpus_from (k + 1) test xs) ++ kept_if (test c) j []) (next k (length xs))
   where
     next : (a b : ℕ) → a + 1 + b ≡ a + suc b
     next a b = omega arith
@@ -57,9 +57,9 @@ kept_has : (b : Bool) (j k : ℕ) (ns : List ℕ) → Has j (kept_if b k ns) →
 kept_has true j k ns has low own rest = ⊎_elim (λ e. omega (arith, e, own)) rest has
 kept_has false j k ns has low own rest = rest has
 
-numbers_low : (j k : ℕ) (test : Cpu → Bool) (cs : List Cpu) → Has j (numbers_from k test cs) → j < k + length cs
+numbers_low : (j k : ℕ) (test : Cpu → Bool) (cs : List Cpu) → Has j (cpus_from k test cs) → j < k + length cs
 numbers_low j k test [] has = absurd has
-numbers_low j k test (c ∷ cs) has = kept_has (test c) j k (numbers_from (k + 1) test cs) has (k + suc (length cs)) (omega arith)
+numbers_low j k test (c ∷ cs) has = kept_has (test c) j k (cpus_from (k + 1) test cs) has (k + suc (length cs)) (omega arith)
     (λ h. let r = numbers_low j (k + 1) test cs h in omega (arith, r))
 
 not_below : (n : ℕ) (m : State) → n < length m.cpus → Has n (online_below n m) → ⊥
@@ -71,8 +71,8 @@ not_below n m low has =
 below_next : (n : ℕ) (m : State) → n < length m.cpus
     → online_below (n + 1) m ≡ online_below n m ++ kept_if (cpu_of n m).online n []
 below_next n m low =
-    ap (λ j. numbers_from 0 (λ (c : Cpu). c.online) (take j m.cpus)) (one_more n)
-    ∙ ap (numbers_from 0 (λ (c : Cpu). c.online)) (take-suc m.cpus n absent low)
+    ap (λ j. cpus_from 0 (λ (c : Cpu). c.online) (take j m.cpus)) (one_more n)
+    ∙ ap (cpus_from 0 (λ (c : Cpu). c.online)) (take-suc m.cpus n absent low)
     ∙ numbers_append 0 (λ c. c.online) (take n m.cpus) (cpu_of n m)
     ∙ ap (λ j. online_below n m ++ kept_if (cpu_of n m).online j []) (zero_plus (length (take n m.cpus))
     ∙ length-take-le n m.cpus (omega (arith, low)))
@@ -100,8 +100,8 @@ each_append f (x ∷ xs) ys s =
           q.state;
     })
 
-losses_append : (xs ys : List Act) → losses_in (xs ++ ys) ≡ losses_in xs + losses_in ys
-losses_append [] ys = zero_plus (losses_in ys)
+losses_append : (xs ys : List Act) → all_losses (xs ++ ys) ≡ all_losses xs + all_losses ys
+losses_append [] ys = zero_plus (all_losses ys)
   where
     zero_plus : (n : ℕ) → n ≡ 0 + n
     zero_plus n = omega arith
@@ -111,31 +111,31 @@ losses_append (Call id ∷ xs) ys = losses_append xs ys
 -- ---- fires at one moment
 
 abbrev fires_at : ℕ → List ℕ → State → Outcome
-fires_at now ns s = each (λ n. on n (fire_here n now)) ns s
+fires_at now ns s = each (λ n. on_number n (fire_here n now)) ns s
 
 fires_clock : (now : ℕ) (ns : List ℕ) (s : State) → (fires_at now ns s).state.clock ≡ s.clock
 fires_clock now [] s = refl
-fires_clock now (n ∷ ns) s = fires_clock now ns (on n (fire_here n now) s).state
+fires_clock now (n ∷ ns) s = fires_clock now ns (on_number n (fire_here n now) s).state
 
 fires_admissions : (now : ℕ) (ns : List ℕ) (s : State) → (fires_at now ns s).state.admissions ≡ s.admissions
 fires_admissions now [] s = refl
-fires_admissions now (n ∷ ns) s = fires_admissions now ns (on n (fire_here n now) s).state
+fires_admissions now (n ∷ ns) s = fires_admissions now ns (on_number n (fire_here n now) s).state
 
 fires_long : (now : ℕ) (ns : List ℕ) (s : State) → length (fires_at now ns s).state.cpus ≡ length s.cpus
 fires_long now [] s = refl
-fires_long now (n ∷ ns) s = fires_long now ns (on n (fire_here n now) s).state
+fires_long now (n ∷ ns) s = fires_long now ns (on_number n (fire_here n now) s).state
     ∙ length-set s.cpus n (fire_here n now (cpu_of n s)).cpu
 
 fires_none : (now : ℕ) (ns : List ℕ) (s : State) → HasNoAdmit (fires_at now ns s).acts
 fires_none now [] s = tt
 fires_none now (n ∷ ns) s = no_more (fire_here n now (cpu_of n s)).acts _ (fire_none n now (cpu_of n s))
-    (fires_none now ns (on n (fire_here n now) s).state)
+    (fires_none now ns (on_number n (fire_here n now) s).state)
 
 -- a CPU that didn't fire is as it was
 fires_beside : (now k : ℕ) (ns : List ℕ) (s : State) → (Has k ns → ⊥) → cpu_of k (fires_at now ns s).state ≡ cpu_of k s
 fires_beside now k [] s out = refl
 fires_beside now k (n ∷ ns) s out =
-    fires_beside now k ns (on n (fire_here n now) s).state (λ h. out (inr h))
+    fires_beside now k ns (on_number n (fire_here n now) s).state (λ h. out (inr h))
     ∙ get_or-set_other s.cpus n k (fire_here n now (cpu_of n s)).cpu absent (λ e. out (inl e))
 
 -- ---- one more CPU
@@ -144,7 +144,7 @@ abbrev after_one : List ℕ → ℕ → State → Outcome
 after_one ns n m = followed_by (fire_each ns m) (fires_at m.clock (n ∷ []))
 
 one_after : (ns : List ℕ) (n : ℕ) (m : State) → fire_each (ns ++ n ∷ []) m ≡ after_one ns n m
-one_after ns n m = each_append (λ k. on k (fire_here k m.clock)) ns (n ∷ []) m
+one_after ns n m = each_append (λ k. on_number k (fire_here k m.clock)) ns (n ∷ []) m
 
 each_free : (ns : List ℕ) (m : State) (s : SystemView Tables) → ShowsSystem (fire_each ns m).state s
     → ComesTo [] m (fire_each ns m) s
@@ -178,20 +178,20 @@ module _ {C : Type 0} (handler : Calls C) where
       let clock : o.state.clock ≡ m.clock = fires_clock m.clock ns m in
       let f = fire_accepted handler o.state t u sys h.comes.shows n fired
       (subst (λ c. Does handler raise_tables no_interrupts t (FireOne n c (Ok fired)) u) (sym clock) did) in
-      let is = none_first (no_cpu n o.state) (offline_cpu n o.state ∷ []) f.accepted in
+      let is = none_first (is_no_cpu n o.state) (cpu_is_offline n o.state ∷ []) f.accepted in
       let there = is_cpu n o.state is.0 in
       let long = fires_long m.clock ns m in
       let low : n < length m.cpus = omega (arith, there, long) in
       let same : cpu_of n o.state ≡ cpu_of n m = fires_beside m.clock n ns m (not_below n m low) in
       let is_on : (cpu_of n m).online ≡ true = sym (ap (λ (c : Cpu). c.online) same)
-      ∙ online_there n o.state (none_first (offline_cpu n o.state) [] is.1).0 in
+      ∙ online_there n o.state (none_first (cpu_is_offline n o.state) [] is.1).0 in
       let next : online_below (n + 1) m ≡ ns ++ n ∷ [] = below_next n m low ∙ ap (λ b. ns ++ kept_if b n []) is_on in
       let whole : fire_each (online_below (n + 1) m) m ≡ after_one ns n m = ap (λ ks. fire_each ks m) next ∙ one_after ns n m in
       let own = (fire_here n m.clock (cpu_of n o.state)).acts in
       record {
         comes = each_free (online_below (n + 1) m) m u.system
             (subst (λ (x : Outcome). ShowsSystem x.state u.system) (sym whole)
-            (subst (λ c. ShowsSystem (on n (fire_here n c) o.state).state u.system) clock f.comes.shows));
+            (subst (λ c. ShowsSystem (on_number n (fire_here n c) o.state).state u.system) clock f.comes.shows));
         expired =
             let a = h.expired in
             let b : fired.expired ≡ length (due_here m.clock (cpu_of n m)) = f.expired
@@ -201,8 +201,8 @@ module _ {C : Type 0} (handler : Calls C) where
             omega (arith, a, b, c, d);
         lost =
             let a = h.lost in
-            let b : fired.lost ≡ losses_in own = f.lost ∙ (λ z. losses_in (fire_here n (clock z) (cpu_of n o.state)).acts) in
-            let c = ap (λ (x : Outcome). losses_in x.acts) whole in
+            let b : fired.lost ≡ all_losses own = f.lost ∙ (λ z. all_losses (fire_here n (clock z) (cpu_of n o.state)).acts) in
+            let c = ap (λ (x : Outcome). all_losses x.acts) whole in
             let d = losses_append o.acts (own ++ []) in
             let e = losses_append own [] in
             omega (arith, a, b, c, d, e);
@@ -224,7 +224,7 @@ module _ {C : Type 0} (handler : Calls C) where
       let ns = online_below n m in
       let o = fire_each ns m in
       let same : cpu_of n o.state ≡ cpu_of n m = fires_beside m.clock n ns m (not_below n m low) in
-      let asked : offline_cpu n o.state ≡ why.offline_cpu n t.system =
+      let asked : cpu_is_offline n o.state ≡ why.offline_cpu n t.system =
       same_offline o.state t.system h.comes.shows sys.agrees.long n in
       let is_off : (cpu_of n m).online ≡ false = sym (ap (λ (c : Cpu). c.online) same)
       ∙ offline_then (cpu_of n o.state).online (is_online n t.system.cpus) off asked in
@@ -238,11 +238,11 @@ module _ {C : Type 0} (handler : Calls C) where
 
   pub has_ended : (now n expired lost : ℕ) (m : State) (s t : RunningSystem C Tables) → n ≡ length m.cpus
       → HasFired handler.count n (fired_and_lost expired lost) (at_clock now m) s t
-      → IsAdvanced handler.count now expired lost m s t
+      → IsAdvanced handler.count now (fired_and_lost expired lost) m s t
   has_ended now n expired lost m s t end h =
-      let all : online_below n m ≡ online_cpus m = ap (λ j. numbers_from 0 (λ (c : Cpu). c.online) (take j m.cpus)) end
-      ∙ ap (numbers_from 0 (λ (c : Cpu). c.online)) (take-length m.cpus) in
-      let done : HaveFired handler.count (online_cpus m) (fired_and_lost expired lost) (at_clock now m) s t =
+      let all : online_below n m ≡ cpus_online m = ap (λ j. cpus_from 0 (λ (c : Cpu). c.online) (take j m.cpus)) end
+      ∙ ap (cpus_from 0 (λ (c : Cpu). c.online)) (take-length m.cpus) in
+      let done : HaveFired handler.count (cpus_online m) (fired_and_lost expired lost) (at_clock now m) s t =
       subst (λ ks. HaveFired handler.count ks (fired_and_lost expired lost) (at_clock now m) s t) all h in
       record {
         comes = λ step. record { shows = done.comes.shows; admissions = done.comes.admissions; free = done.comes.free };

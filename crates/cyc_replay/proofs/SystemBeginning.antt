@@ -10,14 +10,14 @@ use Rattle.cyc_cpu.specs.Cpu.{CpuView}
 use Rattle.cyc_system.specs.Cpus.{new_cpu as new_view}
 use Rattle.cyc_system.specs.Agreement.{Agrees}
 use Rattle.cyc_system.proofs.Spots.{same_some, none_some}
-use Rattle.cyc_model.specs.Cpu.{new_cpu, handler_level_of}
+use Rattle.cyc_model.specs.Cpu.{begun_cpu, handler_level_of}
 use Rattle.cyc_model.specs.Serving.{level_at}
 use Rattle.cyc_types.specs.Levels.{as_level}
 use Rattle.cyc_model.specs.Script.{start}
 use Rattle.cyc_cpu_model.specs.Shown.{shown_cpu}
 use Rattle.cyc_cpu_model.specs.Tied.{IsTied}
 use Rattle.cyc_replay.specs.Shown.{shown_list, IsSystem, ShowsSystem}
-use Rattle.cyc_replay.specs.Kept.{AreNew, new_system}
+use Rattle.cyc_replay.specs.Kept.{LevelsAreNew, new_system}
 
 no_own : (online : Bool) (most ceiling : ℕ) (lock low : Tables) → level_of lock ≡ empty_level ceiling
     → level_of low ≡ empty_level ceiling
@@ -35,7 +35,7 @@ new_tied most ceiling lock low a b = record {
   own = λ online. record { known = no_own online most ceiling lock low a b; removed = λ id is. absurd (none_some is) };
 }
 
-new_ties : (most ceiling : ℕ) (ends : List (Tables × Tables)) → AreNew ceiling ends → (n : ℕ) (cpu : CpuView Tables)
+new_ties : (most ceiling : ℕ) (ends : List (Tables × Tables)) → LevelsAreNew ceiling ends → (n : ℕ) (cpu : CpuView Tables)
     → slice_get (map (λ (e : Tables × Tables). new_view most e.0 e.1) ends) n ≡ Some cpu → IsTied cpu
 new_ties most ceiling [] all n cpu is = absurd (none_some is)
 new_ties most ceiling (e ∷ ends) all zero cpu is =
@@ -44,16 +44,16 @@ new_ties most ceiling (e ∷ ends) all zero cpu is =
 new_ties most ceiling (e ∷ ends) all (suc n) cpu is =
     new_ties most ceiling ends (λ k d low. all (suc k) d (omega (arith, low))) n cpu is
 
-new_shown : (most ceiling : ℕ) (ends : List (Tables × Tables)) → AreNew ceiling ends
+new_shown : (most ceiling : ℕ) (ends : List (Tables × Tables)) → LevelsAreNew ceiling ends
     → shown_list (replicate (length ends) true) (map (λ (e : Tables × Tables). new_view most e.0 e.1) ends)
-    ≡ replicate (length ends) (new_cpu ceiling)
+    ≡ replicate (length ends) (begun_cpu ceiling)
 new_shown most ceiling [] all = refl
 new_shown most ceiling (e ∷ ends) all =
     let own = all 0 e (omega arith) in
     let rest = new_shown most ceiling ends (λ k d low. all (suc k) d (omega (arith, low))) in
     (λ z. record { online = true; cyclics = []; size = 1; removal = None; lock = own.0 z; low = own.1 z } ∷ rest z)
 
-pub begins : (most ceiling names : ℕ) (ends : List (Tables × Tables)) → AreNew ceiling ends → Agrees (new_system most ends)
+pub begins : (most ceiling names : ℕ) (ends : List (Tables × Tables)) → LevelsAreNew ceiling ends → Agrees (new_system most ends)
     → IsSystem (new_system most ends) × ShowsSystem (start (length ends) ceiling names) (new_system most ends)
 begins most ceiling names ends all agrees = (
   record {

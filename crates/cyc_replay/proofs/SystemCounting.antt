@@ -12,10 +12,10 @@ use Rattle.cyc_system.specs.System.{SystemView}
 use Rattle.cyc_system.proofs.Spots.{same_some, none_some, get_some}
 use Rattle.cyc_system.specs.SystemTotals.{SystemTotals}
 use Rattle.cyc_system.specs.Counting.{Counted, asked, AsksTotals}
-use Rattle.cyc_model.specs.Cpu.{Cyclic, Cpu, is_of, has_cyclic, cyclic_of}
+use Rattle.cyc_model.specs.Cpu.{CyclicState, Cpu, is_of, has_cyclic, cyclic_with_id}
 use Rattle.cyc_model.specs.Questions.{outstanding_here}
-use Rattle.cyc_model.specs.State.{State, absent, cpu_of, cpus_with}
-use Rattle.cyc_model.specs.Places.{is_unknown}
+use Rattle.cyc_model.specs.State.{State, absent, cpu_of, cpus_having}
+use Rattle.cyc_model.specs.Places.{is_no_cyclic}
 use Rattle.cyc_model.specs.Report.{expired_here, lost_here, counts_of}
 use Rattle.cyc_model.proofs.Rising.{found, any_found}
 use Rattle.cyc_replay.specs.Shown.{shown_cpus, ShowsSystem, AreTied, IsSystem}
@@ -51,9 +51,9 @@ tell_all id (a ∷ way) v u long tied (x, did, rest) m is =
     let low : a.cpu < length v.cpus = (let w = d.within in let l = long_shown v.online v.cpus long in omega (arith, w, l)) in
     let (z, at) = get_some v.cpus a.cpu low in
     let is_z = cpu_is v a.cpu z long at in
-    let found_z = ap (cyclic_of id) (sym is_z) ∙ there in
+    let found_z = ap (cyclic_with_id id) (sym is_z) ∙ there in
     let here : cpu_of a.cpu m ≡ cpu_at v a.cpu = ap (λ cs. get_or cs a.cpu absent) is in
-    let one : (g : Cyclic → ℕ) → sum_by (λ t. cond (is_of id t) (g t) 0) (cpu_of a.cpu m).cyclics ≡ g y =
+    let one : (g : CyclicState → ℕ) → sum_by (λ t. cond (is_of id t) (g t) 0) (cpu_of a.cpu m).cyclics ≡ g y =
     λ g. ap (λ (c : Cpu). sum_by (λ t. cond (is_of id t) (g t) 0) c.cyclics) (here ∙ is_z)
     ∙ tally_one g id z.cyclics y (tied a.cpu z at).rising found_z in
     let more = tell_all id way x u d.long d.tied rest m (is ∙ sym same) in (
@@ -86,10 +86,10 @@ find_at id (x ∷ rs) r is = by (x.id == id) refl is (λ e. find_at id rs r e)
 
 module _ (id : ℕ) (m : State) (v w : SystemView Tables) (sys : IsSystem v) (h : ShowsSystem m v) where
   -- a CPU that has no such cyclic has nothing of it
-  none_here : (i : ℕ) → has_cyclic id (cpu_of i m) ≡ false → cyclic_of id (cpu_of i m) ≡ None
+  none_here : (i : ℕ) → has_cyclic id (cpu_of i m) ≡ false → cyclic_with_id id (cpu_of i m) ≡ None
   none_here i none = not_found (found id (cpu_of i m).cyclics) (sym (any_found id (cpu_of i m).cyclics) ∙ none)
     where
-      not_found : (o : Option Cyclic) → is_some o ≡ false → o ≡ None
+      not_found : (o : Option CyclicState) → is_some o ≡ false → o ≡ None
       not_found None is = refl
       not_found (Some x) is = absurd (let isnt : true ≡ false = is in cc)
 
@@ -98,10 +98,10 @@ module _ (id : ℕ) (m : State) (v w : SystemView Tables) (sys : IsSystem v) (h 
       let l = ap (λ cs. length cs) h.cpus ∙ long_shown v.cpus.online v.cpus.cpus sys.agrees.long in
       let same : cpu_of i m ≡ cpu_at v.cpus i = ap (λ cs. get_or cs i absent) h.cpus in
       ap (outstanding_here id) same ∙ none_out id (cpu_at v.cpus i) (own_at v i (half v sys) (omega (arith, low, l)))
-      (ap (cyclic_of id) (sym same) ∙ none_here i none)
+      (ap (cyclic_with_id id) (sym same) ∙ none_here i none)
 
   sum_all : (f : Cpu → ℕ) → ((i : ℕ) → i < length m.cpus → has_cyclic id (cpu_of i m) ≡ false → f (cpu_of i m) ≡ 0)
-      → sum_by (λ n. f (cpu_of n m)) (cpus_with id m) ≡ sum_by f m.cpus
+      → sum_by (λ n. f (cpu_of n m)) (cpus_having id m) ≡ sum_by f m.cpus
   sum_all f other = sum_numbers (λ n. f (cpu_of n m)) f (has_cyclic id) 0 m.cpus m.cpus refl
       (λ i low. ap (λ j. f (cpu_of j m)) (zero_plus i)) other
     where
@@ -113,7 +113,7 @@ module _ (id : ℕ) (m : State) (v w : SystemView Tables) (sys : IsSystem v) (h 
   totals_told totals (way, r, is, ns, (works, records, last), adds) =
       let told = tell_all id way v.cpus w.cpus sys.agrees.long sys.tied works m h.cpus in
       let (k, at, named) = find_at id v.records r is in
-      let all : map cpu_in way ≡ cpus_with id m = ns ∙ sym (same_with id m v h sys.agrees.long) in
+      let all : map cpu_in way ≡ cpus_having id m = ns ∙ sym (same_with id m v h sys.agrees.long) in
       let sums : (left : Counted → ℕ) (f : Cpu → ℕ) → ((a : Counted) (c : Cpu) → Tells id a c → f c ≡ left a)
       → ((i : ℕ) → i < length m.cpus → has_cyclic id (cpu_of i m) ≡ false → f (cpu_of i m) ≡ 0)
       → sum_by f m.cpus ≡ sum_by left way =
@@ -135,5 +135,5 @@ module _ (id : ℕ) (m : State) (v w : SystemView Tables) (sys : IsSystem v) (h 
         }),
       )
 
-  pub totals_none : AsksTotals raise_tables id None v w → (is_unknown id m ≡ true) × (w ≡ v)
+  pub totals_none : AsksTotals raise_tables id None v w → (is_no_cyclic id m ≡ true) × (w ≡ v)
   totals_none (none, same) = (unknown_shown id m v h ∙ ap (λ o. not (is_some o)) none, same)

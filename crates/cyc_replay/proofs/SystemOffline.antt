@@ -20,23 +20,23 @@ use Rattle.cyc_system.specs.Juggling.{single_ids as single_there, juggle_refusal
 use Rattle.cyc_system.specs.GoingOffline.{quiet, Retires, offline_at}
 use Rattle.cyc_system.specs.Calls.{Changes, Offline as GoOffline}
 use Rattle.cyc_model.specs.Acts.{calls_of}
-use Rattle.cyc_model.specs.Cpu.{Cpu, cyclic_of, nothing_here}
+use Rattle.cyc_model.specs.Cpu.{Cpu, cyclic_with_id, nothing_here}
 use Rattle.cyc_model.specs.Moving.{take_here}
 use Rattle.cyc_model.specs.Questions.{plain, outstanding_here}
-use Rattle.cyc_model.specs.State.{State, Outcome, absent, cpu_of, on, each, before, followed_by, told}
-use Rattle.cyc_model.specs.Places.{keep_counts, with_ended}
+use Rattle.cyc_model.specs.State.{State, Outcome, absent, cpu_of, on_number, each, before, followed_by, told}
+use Rattle.cyc_model.specs.Places.{keep_counts, keeping_counts}
 use Rattle.cyc_types.specs.Reasons.{first_refusal, or_else, when, busy}
-use Rattle.cyc_model.specs.Refusals.{no_cpu, offline_cpu, last_cpu}
-use Rattle.cyc_model.specs.Add.{cyclic_with}
-use Rattle.cyc_model.specs.Juggle.{Juggled, juggled, juggle_refusal, single_ids}
-use Rattle.cyc_model.specs.Offline.{ids_on, retire, go_offline, retire_all, any_pending, last_part, leaving, offline}
+use Rattle.cyc_model.specs.Refusals.{is_no_cpu, cpu_is_offline, is_last_online}
+use Rattle.cyc_model.specs.Add.{cyclic_that_expired}
+use Rattle.cyc_model.specs.Juggle.{Juggled, juggled, juggle_refusal, single_ids_of}
+use Rattle.cyc_model.specs.Offline.{ids_of_cpu, retire, go_offline, retire_all, any_pending, last_part, leaving, offline}
 use Rattle.cyc_model.proofs.Agreement.{agrees_with}
 use Rattle.cyc_model.proofs.Local.{Local, same_low_lock, local_nothing, local_take}
 use Rattle.cyc_model.proofs.Refusing.{is_cpu}
 use Rattle.cyc_cpu_model.proofs.Free.{none_admitted, take_none}
 use Rattle.cyc_cpu_model.specs.Shown.{shown_cpu}
 use Rattle.cyc_replay.specs.Shown.{shown_list, shown_cpus, ShowsSystem, AreTied, IsSystem}
-use Rattle.cyc_replay.specs.SystemWords.{Gives, IsDoneWith, IsRefusedFor, IsAtOnce, ComesTo}
+use Rattle.cyc_replay.specs.SystemWords.{GivesIndexes, IsDoneWith, IsRefusedFor, IsAtOnce, ComesTo}
 use Rattle.cyc_replay.specs.Room.{HaveRoomFor}
 use Rattle.cyc_replay.proofs.Cpus.{cpu_at, done_at, long_shown}
 use Rattle.cyc_replay.proofs.Asking.{both_none, is_refused, same_error}
@@ -102,24 +102,24 @@ all_retire n [] v w hv same s h = record {
 }
 all_retire n (id ∷ ids) v w hv (u, (taken, did, k, r, is, named, records, last), rest) s h =
     let d = done_at n (TakeNow id (Ok taken)) v.cpus u.cpus hv.long hv.tied did in
-    let x = cyclic_with id taken.level taken.interval taken.moment taken.sent.sent taken.sent.lost in
-    let found : cyclic_of id (cpu_of n s) ≡ Some x =
-    ap (λ cs. cyclic_of id (get_or cs n absent)) h.cpus ∙ taken_is id taken (cpu_at v.cpus n) (d.answered tt).1 in
-    let o = on n (take_here n id) (with_ended n x s) in
+    let x = cyclic_that_expired id taken.level taken.interval taken.moment taken.sent.sent taken.sent.lost in
+    let found : cyclic_with_id id (cpu_of n s) ≡ Some x =
+    ap (λ cs. cyclic_with_id id (get_or cs n absent)) h.cpus ∙ taken_is id taken (cpu_at v.cpus n) (d.answered tt).1 in
+    let o = on_number n (take_here n id) (keeping_counts n x s) in
     let low : n < length v.cpus.cpus = (let a = d.within in let l = long_shown v.cpus.online v.cpus.cpus hv.long in
     omega (arith, a, l)) in
     let cpus : o.state.cpus ≡ shown_cpus u.cpus =
     ap (λ cs. slice_set cs n (take_here n id (get_or cs n absent)).cpu) h.cpus ∙ sym d.cpus in
     let shows = ended_shows n id x taken.sent k r s v u h hv low is named refl refl refl records last o.state cpus refl refl
     (λ q j. refl) in
-    let goes : Goes s o = goes_from s (with_ended n x s) o (refl, refl)
-    (goes_on n (take_here n id) (with_ended n x s) (local_take n id) (subst (λ cs. n < length cs) (sym h.cpus) d.within)
+    let goes : Goes s o = goes_from s (keeping_counts n x s) o (refl, refl)
+    (goes_on n (take_here n id) (keeping_counts n x s) (local_take n id) (subst (λ cs. n < length cs) (sym h.cpus) d.within)
     (λ soft. none_admitted (take_here n id (cpu_of n s)).acts n soft _ (take_none n id (cpu_of n s)))
     (λ q. ap (λ cs. calls_of q (take_here n id (get_or cs n absent)).acts) h.cpus ∙ d.quiet q)) in
     let hu = (kept_ended n (TakeNow id (Ok taken)) taken.sent k r v u hv did is records last).half in
     let more = all_retire n ids u w hu rest o.state shows in
     subst (λ p. Retired s (followed_by p (each (retire n) ids)) w)
-    (sym (ap (λ c. on n (take_here n id) (keep_counts n c s)) found)) (record {
+    (sym (ap (λ c. on_number n (take_here n id) (keep_counts n c s)) found)) (record {
       goes = goes_then s o (each (retire n) ids) goes more.goes;
       shows = more.shows;
       admissions = more.admissions;
@@ -140,7 +140,7 @@ local_offline n c = local_nothing n c (go_offline c) (same_low_lock c (go_offlin
     (λ h. agrees_with c (go_offline c) refl refl refl (λ id. refl) h)
 
 abbrev taken_off : ℕ → State → Outcome
-taken_off n s = on n (λ c. nothing_here (go_offline c)) s
+taken_off n s = on_number n (λ c. nothing_here (go_offline c)) s
 
 offline_shows : (n : ℕ) (s : State) (v : SystemView Tables) → Half v → ShowsSystem s v
     → ShowsSystem (taken_off n s).state (offline_at n v)
@@ -171,9 +171,9 @@ at_once_busy None = tt
 at_once_busy (Some id) = tt
 
 all_at_once : (n : ℕ) (s : State) → AtOnce (juggle_refusal plain n s)
-all_at_once n s = at_once_else (no_cpu n s) _ (at_once_when _ NoCpu tt)
-    (at_once_else (offline_cpu n s) _ (at_once_when _ Offline tt)
-    (at_once_else (last_cpu n s) _ (at_once_when _ LastCpu tt)
+all_at_once n s = at_once_else (is_no_cpu n s) _ (at_once_when _ NoCpu tt)
+    (at_once_else (cpu_is_offline n s) _ (at_once_when _ Offline tt)
+    (at_once_else (is_last_online n s) _ (at_once_when _ LastCpu tt)
     (at_once_else (busy (cpu_of n s).removal) None (at_once_busy (cpu_of n s).removal) tt)))
 
 -- ---- what follows the turns
@@ -184,7 +184,7 @@ left_as step n [] j some = absurd (some refl)
 left_as step n (id ∷ ids) j some = refl
 
 emptied_as : (step n : ℕ) (ids : List ℕ) (b : Bool) (j : Juggled) → ids ≡ []
-    → any_pending plain n (ids_on n j.outcome.state) j.outcome.state ≡ b
+    → any_pending plain n (ids_of_cpu n j.outcome.state) j.outcome.state ≡ b
     → leaving plain step n ids j ≡ last_part b step n j.outcome
 emptied_as step n ids b j none is = ap (λ i. leaving plain step n i j) none ∙ ap (λ c. last_part c step n j.outcome) is
 
@@ -196,7 +196,7 @@ record DoesSo (given : List ℕ) (s : State) (o : Outcome) (w : SystemView Table
 -- the components end after the turns, and the CPU takes no further part
 retired_so : (n : ℕ) (given : List ℕ) (report : JuggleReport) (s : State) (j : Juggled) (m gone w : SystemView Tables)
     → JugglesTo report given s j m
-    → (ids : List ℕ) → ids_on n j.outcome.state ≡ ids → Retired j.outcome.state (each (retire n) ids j.outcome.state) gone
+    → (ids : List ℕ) → ids_of_cpu n j.outcome.state ≡ ids → Retired j.outcome.state (each (retire n) ids j.outcome.state) gone
     → Half gone
     → n < length s.cpus → w ≡ offline_at n gone → DoesSo given s (followed_by j.outcome (retire_all n)) w
 retired_so n given report s j m gone w d ids same r hg low is =
@@ -219,8 +219,8 @@ retired_so n given report s j m gone w d ids same r hg low is =
 module _ (n : ℕ) (s : State) (v w : SystemView Tables) (sys : IsSystem v) (h : ShowsSystem s v) where
   -- where each step's outcome is so
   with_line : (given : List ℕ) (line : ℕ → List ℕ) (o : (ℕ → ℕ) → Outcome) → first_refusal (juggle_refusals n v) ≡ None
-      → ((indexes : ℕ → ℕ) → Gives indexes s.admissions given → DoesSo given s (o indexes) w)
-      → ((indexes : ℕ → ℕ) (step : ℕ) → Gives indexes s.admissions given
+      → ((indexes : ℕ → ℕ) → GivesIndexes indexes s.admissions given → DoesSo given s (o indexes) w)
+      → ((indexes : ℕ → ℕ) (step : ℕ) → GivesIndexes indexes s.admissions given
       → offline plain indexes step n s ≡ told (line step) (o indexes))
       → IsDoneWith line (steps.Offline n) s w
   with_line given line o none does same = record {
@@ -285,7 +285,7 @@ module _ (n : ℕ) (s : State) (v w : SystemView Tables) (sys : IsSystem v) (h :
       (λ indexes step gives.
       let d = j indexes gives in
       let x = juggled plain indexes n s in
-      left_as step n (single_ids n x.outcome.state) x (λ e. some (sym (same_single n x.outcome.state m d.shows hm) ∙ e))
+      left_as step n (single_ids_of n x.outcome.state) x (λ e. some (sym (same_single n x.outcome.state m d.shows hm) ∙ e))
       ∙ ap (λ r. told (cyclics_left step r) x.outcome) (d.told ∙ sym is))
   offline_left report (inr (none, (own, m, turns, inr (inl (empty, answer, finds))))) =
       absurd (let isnt : Left report ≡ Pending =
@@ -323,7 +323,7 @@ module _ (n : ℕ) (s : State) (v w : SystemView Tables) (sys : IsSystem v) (h :
       (λ indexes step gives.
       let d = j indexes gives in
       let x = juggled plain indexes n s in
-      emptied_as step n (single_ids n x.outcome.state) true x (same_single n x.outcome.state m d.shows hm ∙ empty)
+      emptied_as step n (single_ids_of n x.outcome.state) true x (same_single n x.outcome.state m d.shows hm ∙ empty)
       ((λ z. list_any (λ i. nat_lt 0 (outstanding_here i (get_or (d.shows.cpus z) n absent)))
       (same_ids n x.outcome.state m d.shows hm z)) ∙ any))
   offline_pending (inr (none, (own, m, turns, inr (inr (empty, answer, retires))))) =
@@ -343,7 +343,7 @@ module _ (n : ℕ) (s : State) (v w : SystemView Tables) (sys : IsSystem v) (h :
       let ha = (kept_only (quiet n (ids_there n m.cpus)) m a hm (works, records, last)).half in
       let hg = (kept_retires n (ids_there n m.cpus) a gone ha retires).half in
       let (given, j) = juggles n s v h hv own m sys.agrees all turns in
-      let low : n < length s.cpus = is_cpu n s (both_none (no_cpu n s) _ (same_whys n s v h hv ∙ none)).0 in
+      let low : n < length s.cpus = is_cpu n s (both_none (is_no_cpu n s) _ (same_whys n s v h hv ∙ none)).0 in
       with_line n s v w sys h given accepted (λ indexes. followed_by (juggled plain indexes n s).outcome (retire_all n)) none
       (λ indexes gives.
       let d = j indexes gives in
@@ -354,6 +354,6 @@ module _ (n : ℕ) (s : State) (v w : SystemView Tables) (sys : IsSystem v) (h :
       (λ indexes step gives.
       let d = j indexes gives in
       let x = juggled plain indexes n s in
-      emptied_as step n (single_ids n x.outcome.state) false x (same_single n x.outcome.state m d.shows hm ∙ empty)
+      emptied_as step n (single_ids_of n x.outcome.state) false x (same_single n x.outcome.state m d.shows hm ∙ empty)
       ((λ z. list_any (λ i. nat_lt 0 (outstanding_here i (get_or (d.shows.cpus z) n absent)))
       (same_ids n x.outcome.state m d.shows hm z)) ∙ asked.1))

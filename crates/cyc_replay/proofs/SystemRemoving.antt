@@ -14,14 +14,14 @@ use Rattle.cyc_places.specs.declared.record.Record.{Record}
 use Rattle.cyc_places.specs.Places.{IsRecord, summed, ended_on, with_ended}
 use Rattle.cyc_system.specs.System.{SystemView}
 use Rattle.cyc_system.proofs.Spots.{same_some, none_some}
-use Rattle.cyc_system.specs.Removing.{counts_of, BeginsOn, Begun, kept_in}
+use Rattle.cyc_system.specs.Removing.{counts_of_receipt, BeginsOn, Begun, kept_in}
 use Rattle.cyc_system.specs.Polling.{PollsOn, Polled}
 use Rattle.cyc_model.specs.Acts.{calls_of}
-use Rattle.cyc_model.specs.Cpu.{Cyclic, Cpu, is_of, cyclic_of}
+use Rattle.cyc_model.specs.Cpu.{CyclicState, Cpu, is_of, cyclic_with_id}
 use Rattle.cyc_model.specs.Moving.{mark_here, clear_here, moment_at}
 use Rattle.cyc_model.specs.Questions.{plain, outstanding_here}
-use Rattle.cyc_model.specs.State.{State, Outcome, absent, cpu_of, on, nothing, before}
-use Rattle.cyc_model.specs.Places.{keep_counts, with_ended as with_ended_in}
+use Rattle.cyc_model.specs.State.{State, Outcome, absent, cpu_of, on_number, nothing, before}
+use Rattle.cyc_model.specs.Places.{keep_counts, keeping_counts as with_ended_in}
 use Rattle.cyc_model.specs.Remove.{clear, clear_if, poll, begin}
 use Rattle.cyc_model.proofs.Agreement.{moment_same}
 use Rattle.cyc_model.proofs.Events.{calls_append}
@@ -41,11 +41,11 @@ use Rattle.cyc_replay.proofs.Coming.{CameTo}
 -- ---- a stay that ends
 
 -- the CPU was cleared, and the counts were kept
-abbrev cleared : ℕ → ℕ → Cyclic → State → Outcome
-cleared id n x s = on n (clear_here n id) (with_ended_in n x s)
+abbrev cleared : ℕ → ℕ → CyclicState → State → Outcome
+cleared id n x s = on_number n (clear_here n id) (with_ended_in n x s)
 
-clear_is : (id n : ℕ) (x : Cyclic) (s : State) → cyclic_of id (cpu_of n s) ≡ Some x → clear id n s ≡ cleared id n x s
-clear_is id n x s is = ap (λ o. on n (clear_here n id) (keep_counts n o s)) is
+clear_is : (id n : ℕ) (x : CyclicState) (s : State) → cyclic_with_id id (cpu_of n s) ≡ Some x → clear id n s ≡ cleared id n x s
+clear_is id n x s is = ap (λ o. on_number n (clear_here n id) (keep_counts n o s)) is
 
 -- nothing of it is outstanding on its CPU after that
 cleared_out : (id n : ℕ) (c : Cpu) (w : SystemView Tables) → Half w → n < length w.cpus.cpus
@@ -53,9 +53,9 @@ cleared_out : (id n : ℕ) (c : Cpu) (w : SystemView Tables) → Half w → n < 
     → outstanding_here id (cpu_at w.cpus n) ≡ 0
 cleared_out id n c w h low is =
     none_out id (cpu_at w.cpus n) (own_at w n h low)
-    (ap (cyclic_of id) is ∙ ap (λ cs. find (is_of id) cs) (cleared_cpu n id c).0 ∙ found_gone id c.cyclics)
+    (ap (cyclic_with_id id) is ∙ ap (λ cs. find (is_of id) cs) (cleared_cpu n id c).0 ∙ found_gone id c.cyclics)
 
-moment_expired : (id moment : ℕ) (x : Cyclic) → ((moment_at id moment x).timer.expired ≡ x.timer.expired)
+moment_expired : (id moment : ℕ) (x : CyclicState) → ((moment_at id moment x).timer.expired ≡ x.timer.expired)
     × ((moment_at id moment x).lost ≡ x.lost)
 moment_expired id moment x = pick (is_of id x)
   where
@@ -73,7 +73,7 @@ module _ (id n : ℕ) (m : State) (v w : SystemView Tables) (hv : Half v) (h : S
   marked = (mark_here n id (cpu_of n m)).cpu
 
   abbrev opened : State
-  opened = (on n (mark_here n id) m).state
+  opened = (on_number n (mark_here n id) m).state
 
   at_opened : n < length (shown_cpus v.cpus) → cpu_of n opened ≡ marked
   at_opened low = get_set m.cpus n marked absent (subst (λ cs. n < length cs) (sym h.cpus) low)
@@ -81,11 +81,11 @@ module _ (id n : ℕ) (m : State) (v w : SystemView Tables) (hv : Half v) (h : S
   -- ---- it begins, and is kept
 
   begin_kept : (left : ℕ) → n < length (shown_cpus v.cpus) → 0 < left → left ≡ outstanding_here id (cpu_at v.cpus n)
-      → begin plain id n m ≡ before (on n (mark_here n id) m) (nothing opened)
+      → begin plain id n m ≡ before (on_number n (mark_here n id) m) (nothing opened)
   begin_kept left low some is =
       let out : outstanding_here id (cpu_of n opened) ≡ left = ap (outstanding_here id) (at_opened low)
       ∙ mark_out n id (cpu_of n m) ∙ ap (outstanding_here id) same_cpu ∙ sym is in
-      ap (λ b. before (on n (mark_here n id) m) (clear_if b id n opened))
+      ap (λ b. before (on_number n (mark_here n id) m) (clear_if b id n opened))
       (ne_eqb (outstanding_here id (cpu_of n opened)) 0 (λ e. omega (arith, e, out, some)))
 
   kept_comes : (left : ℕ) → (d : DoneAt n (BeginRemove id (Ok (Kept left))) v.cpus w.cpus) → w.records ≡ v.records
@@ -117,22 +117,23 @@ module _ (id n : ℕ) (m : State) (v w : SystemView Tables) (hv : Half v) (h : S
   n_there : n < length (shown_cpus v.cpus) → n < length v.cpus.cpus
   n_there low = let l = long_shown v.cpus.online v.cpus.cpus hv.long in omega (arith, low, l)
 
-  begin_done : (x : Cyclic) → n < length (shown_cpus v.cpus) → outstanding_here id (cpu_at v.cpus n) ≡ 0
-      → cyclic_of id (cpu_at v.cpus n) ≡ Some x
-      → begin plain id n m ≡ before (on n (mark_here n id) m) (cleared id n (moment_at id never x) opened)
+  begin_done : (x : CyclicState) → n < length (shown_cpus v.cpus) → outstanding_here id (cpu_at v.cpus n) ≡ 0
+      → cyclic_with_id id (cpu_at v.cpus n) ≡ Some x
+      → begin plain id n m ≡ before (on_number n (mark_here n id) m) (cleared id n (moment_at id never x) opened)
   begin_done x low none is =
       let out : outstanding_here id (cpu_of n opened) ≡ 0 = ap (outstanding_here id) (at_opened low) ∙ mark_out n id (cpu_of n m)
       ∙ ap (outstanding_here id) same_cpu ∙ none in
-      let there : cyclic_of id (cpu_of n opened) ≡ Some (moment_at id never x) =
-      ap (cyclic_of id) (at_opened low) ∙ ap (λ cs. find (is_of id) cs) (marked_same n id (cpu_of n m)).0
+      let there : cyclic_with_id id (cpu_of n opened) ≡ Some (moment_at id never x) =
+      ap (cyclic_with_id id) (at_opened low) ∙ ap (λ cs. find (is_of id) cs) (marked_same n id (cpu_of n m)).0
       ∙ found_map (moment_at id never) (λ y. (moment_same id never y).0) id (cpu_of n m).cyclics
-      ∙ ap (option_map (moment_at id never)) (ap (cyclic_of id) same_cpu ∙ is) in
-      ap (λ b. before (on n (mark_here n id) m) (clear_if b id n opened)) (eq-eqb (outstanding_here id (cpu_of n opened)) 0 out)
-      ∙ ap (before (on n (mark_here n id) m)) (clear_is id n (moment_at id never x) opened there)
+      ∙ ap (option_map (moment_at id never)) (ap (cyclic_with_id id) same_cpu ∙ is) in
+      ap (λ b. before (on_number n (mark_here n id) m) (clear_if b id n opened)) (eq-eqb (outstanding_here id (cpu_of n
+      opened)) 0 out)
+      ∙ ap (before (on_number n (mark_here n id) m)) (clear_is id n (moment_at id never x) opened there)
 
   done_comes : (receipt : Receipt) (k : ℕ) (r : Record) → (d : DoneAt n (BeginRemove id (Ok (Done receipt))) v.cpus w.cpus)
       → IsRecord v.records k r
-      → r.id ≡ id → w.records ≡ slice_set v.records k (with_ended n (summed (ended_on n r) (counts_of receipt)) r)
+      → r.id ≡ id → w.records ≡ slice_set v.records k (with_ended n (summed (ended_on n r) (counts_of_receipt receipt)) r)
       → w.last ≡ v.last
       → CameTo n (λ c. outstanding_here id c ≡ 0) m (begin plain id n m) w
   done_comes receipt k r d is named records last =
@@ -141,7 +142,7 @@ module _ (id n : ℕ) (m : State) (v w : SystemView Tables) (hv : Half v) (h : S
       let same_counts = moment_expired id never x in
       let named_y : y.timer.id ≡ id = (moment_same id never x).0 ∙ found_id id x (cpu_at v.cpus n).cyclics found in
       let low = n_there d.within in
-      let o = before (on n (mark_here n id) m) (cleared id n y opened) in
+      let o = before (on_number n (mark_here n id) m) (cleared id n y opened) in
       let acts : o.acts ≡ (mark_here n id (cpu_at v.cpus n)).acts
       ++ (clear_here n id (mark_here n id (cpu_at v.cpus n)).cpu).acts =
       ap (λ c. (mark_here n id (cpu_of n m)).acts ++ (clear_here n id c).acts) (at_opened d.within)
@@ -152,9 +153,9 @@ module _ (id n : ℕ) (m : State) (v w : SystemView Tables) (hv : Half v) (h : S
       ∙ ap (λ cs. slice_set cs n (clear_here n id (mark_here n id (get_or cs n absent)).cpu).cpu) h.cpus ∙ sym d.cpus in
       let hw = half_done n (BeginRemove id (Ok (Done receipt))) v w.cpus hv d in
       let many = as_many n _ v.cpus w.cpus hv.long d.long d.cpus in
-      let ended = ended_half n id y (counts_of receipt) k r m v w h hv low is named named_y (sent ∙ sym same_counts.0)
+      let ended = ended_half n id y (counts_of_receipt receipt) k r m v w h hv low is named named_y (sent ∙ sym same_counts.0)
       (lost ∙ sym same_counts.1) records last hw many in
-      let shows = ended_shows n id y (counts_of receipt) k r m v w h hv low is named named_y (sent ∙ sym same_counts.0)
+      let shows = ended_shows n id y (counts_of_receipt receipt) k r m v w h hv low is named named_y (sent ∙ sym same_counts.0)
       (lost ∙ sym same_counts.1) records last
       o.state cpus refl refl (λ q j. refl) in
       let quiet : (q : ℕ) → calls_of q o.acts ≡ 0 = λ q. ap (calls_of q) acts ∙ d.quiet q in
@@ -179,20 +180,21 @@ module _ (id n : ℕ) (m : State) (v w : SystemView Tables) (hv : Half v) (h : S
 
   -- ---- it is polled
 
-  poll_done : (x : Cyclic) → outstanding_here id (cpu_at v.cpus n) ≡ 0 → cyclic_of id (cpu_at v.cpus n) ≡ Some x
+  poll_done : (x : CyclicState) → outstanding_here id (cpu_at v.cpus n) ≡ 0 → cyclic_with_id id (cpu_at v.cpus n) ≡ Some x
       → poll plain id n m ≡ cleared id n x m
   poll_done x none is =
       ap (λ b. clear_if b id n m) (eq-eqb (outstanding_here id (cpu_of n m)) 0 (ap (outstanding_here id) same_cpu ∙ none))
-      ∙ clear_is id n x m (ap (cyclic_of id) same_cpu ∙ is)
+      ∙ clear_is id n x m (ap (cyclic_with_id id) same_cpu ∙ is)
 
   ended_comes : (receipt : Receipt) (k : ℕ) (r : Record) → (d : DoneAt n (PollRemove (Some receipt)) v.cpus w.cpus)
       → receipt.id ≡ id → IsRecord v.records k r
-      → r.id ≡ id → w.records ≡ slice_set v.records k (with_ended n (summed (ended_on n r) (counts_of receipt)) r)
+      → r.id ≡ id → w.records ≡ slice_set v.records k (with_ended n (summed (ended_on n r) (counts_of_receipt receipt)) r)
       → w.last ≡ v.last
       → CameTo n (λ c. Unit {0}) m (poll plain id n m) w
   ended_comes receipt k r d same is named records last =
       let (open_there, none, (x, found, own, sent, lost)) = d.answered tt in
-      let found_it : cyclic_of id (cpu_at v.cpus n) ≡ Some x = ap (λ i. cyclic_of i (cpu_at v.cpus n)) (sym same) ∙ found in
+      let found_it : cyclic_with_id id (cpu_at v.cpus n) ≡ Some x = ap (λ i. cyclic_with_id i (cpu_at v.cpus n)) (sym same)
+      ∙ found in
       let named_x = found_id id x (cpu_at v.cpus n).cyclics found_it in
       let low = n_there d.within in
       let o = cleared id n x m in
@@ -206,9 +208,10 @@ module _ (id n : ℕ) (m : State) (v w : SystemView Tables) (hv : Half v) (h : S
       subst (λ p. CameTo n (λ c. Unit {0}) m p w)
       (sym (poll_done x (ap (λ i. outstanding_here i (cpu_at v.cpus n)) (sym same) ∙ none) found_it)) (record {
         came = record {
-          shows = ended_shows n id x (counts_of receipt) k r m v w h hv low is named named_x sent lost records last o.state cpus
+          shows = ended_shows n id x (counts_of_receipt receipt) k r m v w h hv low is named named_x sent lost records last
+              o.state cpus
               refl refl (λ q j. refl);
-          half = ended_half n id x (counts_of receipt) k r m v w h hv low is named named_x sent lost records last hw many;
+          half = ended_half n id x (counts_of_receipt receipt) k r m v w h hv low is named named_x sent lost records last hw many;
           none = clear_none n id (cpu_of n m);
           quiet = quiet;
           called = λ q. let a = quiet q in omega (arith, a);

@@ -11,23 +11,23 @@ use Rattle.cyc_cpu.specs.FireRefused.{FireRefused}
 use Rattle.cyc_script.specs.declared.step.Softint.{Softint as SoftintStep}
 use Rattle.cyc_cpu.specs.Soft.{raise_tables, Interrupts}
 use Rattle.cyc_cpu.specs.Cpu.{CpuView, Running, running}
-use Rattle.cyc_cpu.specs.Calls.{Fire, SoftInterrupt as CpuSoftInterrupt, WhyNoFire, no_interrupts, Does as CpuDoes}
+use Rattle.cyc_cpu.specs.Calls.{Fire, SoftInterrupt as CpuSoftInterrupt, WhyNoFire, no_interrupts, CpuDoes as CpuDoes}
 use Rattle.cyc_system.specs.Cpus.{running_cpus}
-use Rattle.cyc_system.specs.declared.interrupting.SoftFault.{SoftFault}
-use Rattle.cyc_system.specs.declared.interrupting.SoftFault.TheVariants as fault
+use Rattle.cyc_system.specs.declared.system.SoftFault.{SoftFault}
+use Rattle.cyc_system.specs.declared.system.SoftFault.TheVariants as fault
 use Rattle.cyc_system.specs.System.{SystemView, RunningSystem}
 use Rattle.cyc_system.specs.Refusals as why
 use Rattle.cyc_system.specs.Calls.{Does, FireOne, SoftInterrupt, no_fire}
 use Rattle.cyc_system.proofs.Spots.{same_some, none_some}
 use Rattle.cyc_agreement.specs.Suspending.{is_suspended}
 use Rattle.std.proofs.lemmas.Option.{get_or_from_slice_get}
-use Rattle.cyc_model.specs.Acts.{calls_of, calls_in, losses_in}
+use Rattle.cyc_model.specs.Acts.{calls_of, handler_calls, all_losses}
 use Rattle.cyc_model.specs.Cpu.{Cpu, Here}
 use Rattle.cyc_model.specs.Firing.{due_here, fire_here}
 use Rattle.cyc_model.specs.Serving.{interrupt_here, serve_here}
-use Rattle.cyc_model.specs.State.{State, absent, cpu_of, on}
+use Rattle.cyc_model.specs.State.{State, absent, cpu_of, on_number}
 use Rattle.cyc_types.specs.Reasons.{first_refusal, or_else}
-use Rattle.cyc_model.specs.Refusals.{no_cpu, offline_cpu}
+use Rattle.cyc_model.specs.Refusals.{is_no_cpu, cpu_is_offline}
 use Rattle.cyc_model.specs.Softint.{softint_refusal}
 use Rattle.cyc_cpu_model.proofs.Free.{none_admitted, fire_none, interrupt_none}
 use Rattle.cyc_replay.specs.Shown.{shown_cpus, ShowsSystem, IsSystem}
@@ -47,7 +47,7 @@ only_suspended now v e awake is = absurd is
 -- the machine after what was done on one CPU
 pub on_shows : (n : ℕ) (f : Cpu → Here) (m : State) (v w : SystemView Tables) → ShowsSystem m v
     → shown_cpus w.cpus ≡ slice_set (shown_cpus v.cpus) n (f (cpu_at v.cpus n)).cpu → w.records ≡ v.records → w.last ≡ v.last
-    → ShowsSystem (on n f m).state w
+    → ShowsSystem (on_number n f m).state w
 on_shows n f m v w h cpus records last =
     let same = same_shown m v (record w { cpus = v.cpus }) h refl records last in
     record {
@@ -64,7 +64,7 @@ ran_of d (Err e) = d
 
 module _ {C : Type 0} (handler : Calls C)
     (m : State) (s t : RunningSystem C Tables) (sys : IsSystem s.system) (h : ShowsSystem m s.system) where
-  no_cpu_there : (n : ℕ) → first_refusal (no_cpu n m ∷ offline_cpu n m ∷ [])
+  no_cpu_there : (n : ℕ) → first_refusal (is_no_cpu n m ∷ cpu_is_offline n m ∷ [])
       ≡ or_else (why.no_cpu n s.system) (or_else (why.offline_cpu n s.system) None)
   no_cpu_there n = λ z. or_else (same_no_cpu m s.system h sys.agrees.long n z)
       (or_else (same_offline m s.system h sys.agrees.long n z) None)
@@ -85,13 +85,13 @@ module _ {C : Type 0} (handler : Calls C)
           free = λ k soft. none_admitted (fire_here n m.clock (cpu_of n m)).acts k soft _ (fire_none n m.clock (cpu_of n m));
         };
         expired = (r.answered tt).0 ∙ ap (λ cs. length (due_here m.clock (get_or cs n absent))) (sym h.cpus);
-        lost = (r.answered tt).1 ∙ ap (λ cs. losses_in (fire_here n m.clock (get_or cs n absent)).acts) (sym h.cpus);
+        lost = (r.answered tt).1 ∙ ap (λ cs. all_losses (fire_here n m.clock (get_or cs n absent)).acts) (sym h.cpus);
         called = λ q. r.called q ∙ ap (λ cs. handler.count s.calls q + calls_of q (fire_here n m.clock (get_or cs n absent)).acts)
             (sym h.cpus);
       }
 
   pub fire_refused : (n now : ℕ) (e : Refusal) (answer : Result Fired FireRefused)
-      → first_refusal (no_cpu n m ∷ offline_cpu n m ∷ []) ≡ Some e
+      → first_refusal (is_no_cpu n m ∷ cpu_is_offline n m ∷ []) ≡ Some e
       → Does handler raise_tables no_interrupts s (FireOne n now answer) t → (answer ≡ Err (no_fire e)) × (t ≡ s)
   fire_refused n now e answer is (inl (own, some, said, same)) =
       let es : own ≡ e = same_some (sym some ∙ sym (no_cpu_there n) ∙ is) in
@@ -100,13 +100,13 @@ module _ {C : Type 0} (handler : Calls C)
 
   -- where the system is suspended
   pub fire_suspended : (n now : ℕ) (answer : Result Fired FireRefused)
-      → first_refusal (no_cpu n m ∷ offline_cpu n m ∷ []) ≡ None → is_suspended s.system ≡ true
+      → first_refusal (is_no_cpu n m ∷ cpu_is_offline n m ∷ []) ≡ None → is_suspended s.system ≡ true
       → Does handler raise_tables no_interrupts s (FireOne n now answer) t → (answer ≡ Err (no_fire Suspended)) × (t ≡ s)
-  fire_suspended n now answer none on (inl (own, some, said, same)) = absurd (none_some (sym none ∙ no_cpu_there n ∙ some))
-  fire_suspended n now answer none on (inr (passed, (did, records, last))) = by answer did.change
+  fire_suspended n now answer none on_number (inl (own, some, said, same)) = absurd (none_some (sym none ∙ no_cpu_there n ∙ some))
+  fire_suspended n now answer none on_number (inr (passed, (did, records, last))) = by answer did.change
     where
       marked : did.before.suspended ≡ true
-      marked = mark_at s.system sys.agrees n did.before did.here ∙ on
+      marked = mark_at s.system sys.agrees n did.before did.here ∙ on_number
 
       awake : did.before.suspended ≡ false → ⊥
       awake off = let no : true ≡ false = sym marked ∙ off in cc
@@ -149,7 +149,7 @@ module _ {C : Type 0} (handler : Calls C)
               (interrupt_none i.cpu i.level i.budget (cpu_of i.cpu m));
         };
         calls = ap (λ (x : Ran). x.calls) is ∙ (r.answered tt).0
-            ∙ ap (λ cs. calls_in (interrupt_here i.cpu i.level i.budget (get_or cs i.cpu absent)).acts) (sym h.cpus);
+            ∙ ap (λ cs. handler_calls (interrupt_here i.cpu i.level i.budget (get_or cs i.cpu absent)).acts) (sym h.cpus);
         idle = ap (λ (x : Ran). x.idle) is ∙ (r.answered tt).1
             ∙ ap (λ cs. (interrupt_here i.cpu i.level i.budget (get_or cs i.cpu absent)).idle) (sym h.cpus);
         called = λ q. r.called q

@@ -10,7 +10,7 @@ use Rattle.cyc_types.specs.declared.refusal.Refusal.TheVariants as reason
 use Rattle.cyc_core.specs.Tables.{Tables}
 use Rattle.cyc_cpu.specs.Cpu.{CpuView}
 use Rattle.cyc_cpu.specs.Soft.{raise_tables}
-use Rattle.cyc_cpu.specs.Calls.{CpuCall, Changes as CpuChanges}
+use Rattle.cyc_cpu.specs.Calls.{CpuCall, CpuChanges as CpuChanges}
 use Rattle.cyc_cpu.specs.Calls as cpu
 use Rattle.cyc_script.specs.declared.step.Step.TheVariants as steps
 use Rattle.cyc_system.specs.Cpus.{CpusView, IsCpu, DoesAt, Works, on}

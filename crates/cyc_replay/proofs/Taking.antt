@@ -11,8 +11,9 @@ use Rattle.cyc_model.specs.Refusals.{refusal, after_refusal}
 use Rattle.cyc_model.specs.Script.{refusal_of, does}
 use Rattle.cyc_cpu_model.specs.Answers.{IsRefused}
 use Rattle.cyc_replay.specs.declared.machine.Machine.{Machine}
-use Rattle.cyc_replay.specs.Machine.{Holds}
-use Rattle.cyc_replay.specs.Words.{Comes, Accepts, AcceptsWith, Answers, TakesWord, answer_line}
+use Rattle.cyc_replay.specs.Machine.{ShowsMachine}
+use Rattle.cyc_replay.specs.Words.{Comes, TakesWord, answer_line}
+use Rattle.cyc_replay.proofs.Doing.{Accepts, AcceptsWith, Answers}
 use Rattle.cyc_replay.proofs.Doing.{word_done, word_refused}
 
 -- the word says nothing else where it is done
@@ -27,7 +28,8 @@ truly_refused e why other is = is
 
 -- a refused step does nothing, but that an `advance` sets the clock
 pub refused_takes : (texts : List (List ℕ)) (step : ℕ) (x : Step) (line : List ℕ) (e : Refusal) (s : State) (m : Machine)
-    → refusal_of plain x s ≡ Some e → line ≡ (refusal step e s).line → Holds (after_refusal x s) m → TakesWord texts step x line
+    → refusal_of plain x s ≡ Some e → line ≡ (refusal step e s).line → ShowsMachine (after_refusal x s) m
+    → TakesWord texts step x line
     s m
 refused_takes texts step x line e s m some same h = record {
   given = [];
@@ -65,7 +67,7 @@ taken texts step x (Ok done) line s m says still other is does_it =
     done_takes texts step x line s m does_it (λ indexes. is ∙ sym (says texts indexes step s))
 taken texts step x (Err e) line s m says still other is (why, h) =
     refused_takes texts step x line e s m (truly_refused e (refusal_of plain x s) (λ memory. other (ap Err memory)) why) is
-    (subst (λ t. Holds t m) (sym still) h)
+    (subst (λ t. ShowsMachine t m) (sym still) h)
 
 -- what holds where the line was written
 pub on_ok : {A E : Type 0} (P Q R : Type 0) (r : Result A E) → (P → Q → R) → OnOk r P → OnOk r Q → OnOk r R

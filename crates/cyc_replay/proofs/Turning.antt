@@ -10,7 +10,7 @@ use Rattle.cyc_core.specs.Tables.{Tables}
 use Rattle.cyc_cpu.specs.Cpu.{CpuView}
 use Rattle.cyc_cpu.specs.Soft.{raise_tables}
 use Rattle.cyc_cpu.specs.Calls.{AskPending, Reserve}
-use Rattle.cyc_places.specs.declared.record.Placement.TheVariants as place
+use Rattle.cyc_places.specs.declared.record.Placement.TheVariants as placements
 use Rattle.cyc_agreement.proofs.Given.{agrees_same}
 use Rattle.cyc_agreement.proofs.MayGo
 use Rattle.cyc_agreement.proofs.Replaced.{not_elsewhere}
@@ -19,26 +19,26 @@ use Rattle.cyc_system.specs.Agreement.{Agrees}
 use Rattle.cyc_system.specs.Cpus.{CpusView, IsCpu, DoesAt, on as on_cpu}
 use Rattle.cyc_system.specs.Destination.{destination as destination_in}
 use Rattle.cyc_system.specs.System.{SystemView}
-use Rattle.cyc_system.specs.Binding.{HasPlace, Records}
+use Rattle.cyc_system.specs.Binding.{HasPlacement, Records}
 use Rattle.cyc_system.specs.Turn.{Turn as TurnThere}
 use Rattle.cyc_system.specs.Turn.TheVariants as there
 use Rattle.cyc_system.specs.Juggling.{TakesTurn}
 use Rattle.cyc_model.specs.Acts.{calls_of, events_at}
-use Rattle.cyc_model.specs.Cpu.{Cyclic, cyclic_of}
+use Rattle.cyc_model.specs.Cpu.{CyclicState, cyclic_with_id}
 use Rattle.cyc_model.specs.Serving.{level_at}
 use Rattle.cyc_model.specs.Free.{AllCanBeAdmitted}
 use Rattle.cyc_model.specs.Moving.{enter_here, take_here}
 use Rattle.cyc_model.specs.Questions.{plain, outstanding_here}
-use Rattle.cyc_model.specs.State.{State, Outcome, On, absent, cpu_of, on, followed_by}
-use Rattle.cyc_model.specs.Places.{is_bound, destination, put_at, replaced}
-use Rattle.cyc_model.specs.Add.{cyclic_with, enter}
+use Rattle.cyc_model.specs.State.{State, Outcome, On, absent, cpu_of, on_number, followed_by}
+use Rattle.cyc_model.specs.Places.{is_bound, destination_of, put_at, replaced}
+use Rattle.cyc_model.specs.Add.{cyclic_that_expired, enter}
 use Rattle.cyc_model.specs.Bind.{bring, move}
 use Rattle.cyc_model.specs.Juggle.{Turn, IsBound, IsPending, IsRefused as IsTurnedAway, Moves, turn_to, turn, take_turn}
 use Rattle.cyc_model.proofs.Local.{local_enter, local_take}
 use Rattle.cyc_cpu_model.specs.Answers.{IsRefused, why_no_room}
 use Rattle.cyc_cpu_model.proofs.Free.{none_admitted, take_none}
 use Rattle.cyc_replay.specs.Shown.{shown_cpus, ShowsSystem}
-use Rattle.cyc_replay.specs.SystemWords.{Gives}
+use Rattle.cyc_replay.specs.SystemWords.{GivesIndexes}
 use Rattle.cyc_replay.specs.Room.{HaveRoomFor}
 use Rattle.cyc_replay.proofs.Lists.{length_set}
 use Rattle.cyc_replay.proofs.Cpus.{cpu_at, done_at}
@@ -70,23 +70,23 @@ module _ (source id : ℕ) (s : State) (v : SystemView Tables) (h : ShowsSystem 
   at_cpu k = ap (λ cs. get_or cs k absent) h.cpus
 
   abbrev goes_on_to : Turn
-  goes_on_to = turn_to plain id (destination (Some source) s) s
+  goes_on_to = turn_to plain id (destination_of (Some source) s) s
 
   abbrev not_bound : Turn
   not_bound = cond (nat_lt 0 (outstanding_here id (cpu_of source s))) IsPending goes_on_to
 
-  turn_bound : HasPlace id source true v → turn plain source id s ≡ IsBound
+  turn_bound : HasPlacement id source true v → turn plain source id s ≡ IsBound
   turn_bound at = ap (λ b. cond b IsBound not_bound) (bound_shown id source true s v h hv.rising at)
 
-  turn_free : HasPlace id source false v → turn plain source id s ≡ not_bound
+  turn_free : HasPlacement id source false v → turn plain source id s ≡ not_bound
   turn_free at = ap (λ b. cond b IsBound not_bound) (bound_shown id source false s v h hv.rising at)
 
-  turn_pending : HasPlace id source false v → (k : ℕ) → 0 < k → k ≡ outstanding_here id (cpu_at v.cpus source)
+  turn_pending : HasPlacement id source false v → (k : ℕ) → 0 < k → k ≡ outstanding_here id (cpu_at v.cpus source)
       → turn plain source id s ≡ IsPending
   turn_pending at k some is = turn_free at ∙ ap (λ b. cond b IsPending goes_on_to)
       (ap (λ c. nat_lt 0 (outstanding_here id c)) (at_cpu source) ∙ ap (nat_lt 0) (sym is) ∙ is_less k some)
 
-  turn_goes : HasPlace id source false v → outstanding_here id (cpu_at v.cpus source) ≡ 0
+  turn_goes : HasPlacement id source false v → outstanding_here id (cpu_at v.cpus source) ≡ 0
       → (d : ℕ) → destination_in (Some source) v.cpus ≡ Some d
       → turn plain source id s ≡ cond (is_some (why_no_room 1 (cpu_at v.cpus d))) IsTurnedAway (Moves d)
   turn_goes at none d dest = turn_free at
@@ -98,11 +98,11 @@ module _ (source id : ℕ) (s : State) (v : SystemView Tables) (h : ShowsSystem 
 
 -- ---- a cyclic that moves
 
-module _ (source id target : ℕ) (x : Cyclic) (indexes : ℕ
+module _ (source id target : ℕ) (x : CyclicState) (indexes : ℕ
     → ℕ) (s : State) (v w : SystemView Tables) (h : ShowsSystem s v) (hv : Half v)
     (d : Went id source target x v.cpus w.cpus) (is : indexes s.admissions ≡ d.index) where
   abbrev took : Outcome
-  took = on source (take_here source id) s
+  took = on_number source (take_here source id) s
 
   abbrev placed : State
   placed = put_at id (On target (is_bound id took.state)) took.state
@@ -112,7 +112,7 @@ module _ (source id target : ℕ) (x : Cyclic) (indexes : ℕ
 
   move_is : move indexes id source target s ≡ moved
   move_is = ap (λ o. followed_by took (λ t. bring indexes target o (put_at id (On target (is_bound id t)) t)))
-      (ap (λ cs. cyclic_of id (get_or cs source absent)) h.cpus ∙ d.found)
+      (ap (λ cs. cyclic_with_id id (get_or cs source absent)) h.cpus ∙ d.found)
 
   same_middle : placed.cpus ≡ d.middle
   same_middle = ap (λ cs. slice_set cs source (take_here source id (get_or cs source absent)).cpu) h.cpus ∙ sym d.left
@@ -140,14 +140,14 @@ module _ (source id target : ℕ) (x : Cyclic) (indexes : ℕ
   entered_goes =
       let f = enter_here target (indexes s.admissions) x in
       goes_from took.state placed (enter indexes target x placed) (refl, refl)
-      (goes_to placed (on target f placed) [] (enter indexes target x placed).state (refl, refl)
+      (goes_to placed (on_number target f placed) [] (enter indexes target x placed).state (refl, refl)
       (goes_on target f placed (local_enter target (indexes s.admissions) x) target_there can_enter
       (λ q. (λ z. calls_of q (enter_here target (is z) x (get_or (same_middle z) target absent)).acts) ∙ d.came q)))
 
   moved_goes : Goes s moved
   moved_goes = goes_then s took (λ t. enter indexes target x (put_at id (On target (is_bound id t)) t)) took_goes entered_goes
 
-  moved_shows : HasPlace id source false v → Records id (place.On target false) v w → ShowsSystem moved.state w
+  moved_shows : HasPlacement id source false v → Records id (placements.On target false) v w → ShowsSystem moved.state w
   moved_shows at records = replaced_shows s moved.state v w h hv.rising id target false records
       ((λ z. slice_set (same_middle z) target (enter_here target (is z) x (get_or (same_middle z) target absent)).cpu)
       ∙ sym d.cpus)
@@ -166,11 +166,12 @@ pub record TurnsTo (source id : ℕ) (t : TurnThere) (given : List ℕ) (indexes
   pub admissions : (take_turn indexes source id (as_turn target t) s).state.admissions ≡ s.admissions + length given
 
 abbrev pub TurnsSo : ℕ → ℕ → TurnThere → SystemView Tables → SystemView Tables → Type 0
-TurnsSo source id t v w = (given : List ℕ) × ((s : State) (indexes : ℕ → ℕ) → ShowsSystem s v → Gives indexes s.admissions given
+TurnsSo source id t v w = (given : List ℕ) × ((s : State) (indexes : ℕ → ℕ) → ShowsSystem s v
+    → GivesIndexes indexes s.admissions given
     → TurnsTo source id t given indexes s w)
 
 -- after an ask for a cyclic that may go, its destination has fewer cyclics than there are records
-fewer_there : (source id d : ℕ) (v : SystemView Tables) (u : CpusView Tables) → Half v → Agrees v → HasPlace id source false v
+fewer_there : (source id d : ℕ) (v : SystemView Tables) (u : CpusView Tables) → Half v → Agrees v → HasPlacement id source false v
     → destination_in (Some source) v.cpus ≡ Some d → DoesAt raise_tables v.cpus (on_cpu source (AskPending id (Some 0))) u
     → (cpu : CpuView Tables) → IsCpu d cpu u → length cpu.cyclics + 1 ≤ length v.records
 fewer_there source id d v u hv a (k, r, is, named, stands) dest ask cpu at =
@@ -226,7 +227,7 @@ turned source id there.StaysRefused v w hv agrees wanted few all
     )
 turned source id there.Moves v w hv agrees wanted few all (at, d, dest, (taken, works), records) =
     let g = went id source d taken v.cpus w.cpus hv.long hv.tied works in
-    let x = cyclic_with id taken.level taken.interval taken.moment taken.sent.sent taken.sent.lost in (
+    let x = cyclic_that_expired id taken.level taken.interval taken.moment taken.sent.sent taken.sent.lost in (
       g.index ∷ [],
       λ s indexes h gives.
           let same = move_is source id d x indexes s v w h hv g gives.0 in

@@ -13,10 +13,10 @@ use Rattle.cyc_types.specs.declared.level.Level.TheVariants.{High}
 use Rattle.cyc_types.specs.declared.refusal.Refusal.{Refusal}
 use Rattle.cyc_types.specs.declared.refusal.Refusal.TheVariants.{CountSpent, HandlerRefused}
 use Rattle.cyc_core.specs.Tables.{Tables}
-use Rattle.cyc_types.specs.Expirations.{Expiration, expirations, times_of, after, all_after}
+use Rattle.cyc_types.specs.Expirations.{Expiration, expirations, times_of, after_expirations, all_after}
 use Rattle.cyc_types.specs.Timers.{Timer}
 use Rattle.cyc_cpu_model.specs.Rows.{timers}
-use Rattle.cyc_cpu.specs.Acts.{ids_at, is_of as is_of_level, timer_of}
+use Rattle.cyc_cpu.specs.Acts.{ids_at, is_of_level as is_of_level, timer_of}
 use Rattle.cyc_cpu.specs.Made.{Stops}
 use Rattle.cyc_cpu.specs.FireRefused.{FireRefused}
 use Rattle.cyc_cpu.proofs.Sharing.{ids_add_up}
@@ -106,7 +106,7 @@ pub record IsFew (last most : ℕ) (t : Timer) : Type 0 where
 few_after : (now last most n : ℕ) (made : List Expiration) (ts : List Timer) → ((id : ℕ) → times_of id made ≤ n)
     → EachTimer (IsFew last most) ts
     → EachTimer (IsFew last (most + n)) (all_after now made ts)
-unfolding all_after after
+unfolding all_after after_expirations
 few_after now last most n made [] small few = tt
 few_after now last most n made (t ∷ ts) small few =
     let a = small t.id in let b = few.0.expired in

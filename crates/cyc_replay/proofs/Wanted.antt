@@ -3,14 +3,14 @@ use Rattle.std.proofs.Common.{ℕ, length, ap, arith}
 use Rattle.std.proofs.lemmas.List.{length-map}
 use Rattle.cyc_model.specs.State.{State}
 use Rattle.cyc_replay.specs.declared.machine.Machine.{Machine}
-use Rattle.cyc_replay.specs.Machine.{Holds, IsNamed, IsReached}
+use Rattle.cyc_replay.specs.Machine.{ShowsMachine, IsNamed, IsReached}
 use Rattle.cyc_replay.specs.Room.{HaveRoomFor}
 use Rattle.cyc_replay.specs.Shown.{shown_record}
 use Rattle.cyc_replay.proofs.Introduced.{few_placed}
 use Rattle.cyc_replay.proofs.Named.{reached_good}
 use Rattle.cyc_replay.proofs.Rooms.{room_fewer}
 
-pub room_for_all : (step : ℕ) (s : State) (m : Machine) → IsReached step s → IsNamed s → Holds s m
+pub room_for_all : (step : ℕ) (s : State) (m : Machine) → IsReached step s → IsNamed s → ShowsMachine s m
     → HaveRoomFor (length m.system.records) m.system.cpus
 room_for_all step s m r named h =
     let all = few_placed 0 s.last_id s.placed (reached_good step s r).base.rise in

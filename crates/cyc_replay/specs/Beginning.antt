@@ -5,7 +5,7 @@ use Rattle.cyc_cpu.specs.Cpu.{CpuView, HasFollowed, bank_for}
 use Rattle.cyc_cpu.specs.Soft.{firing_at}
 
 -- a CPU with no cyclic
-pub record IsEmpty (v : CpuView Tables) : Type 0 where
+pub record IsEmptyCpu (v : CpuView Tables) : Type 0 where
   pub cyclics : v.cyclics ≡ []
   pub removal : v.removal ≡ None
   pub size : v.size ≡ 1

@@ -10,14 +10,14 @@ use Rattle.cyc_model.specs.Softint.{interrupt, softint_refusal, poll_id}
 use Rattle.cyc_replay.specs.Running.{IsServed}
 use Rattle.cyc_replay.specs.Removal.{HavePolled}
 use Rattle.cyc_replay.specs.declared.machine.Machine.{Machine}
-use Rattle.cyc_replay.specs.Machine.{Holds, IsReached}
+use Rattle.cyc_replay.specs.Machine.{ShowsMachine, IsReached}
 
 -- The soft interrupt of this step was made on the machine first, which s shows: so many calls, and what they left is the machine
 -- now, before any removal is polled.
-pub record HasServed (step : ℕ) (i : SoftintStep) (made : Ran) (s : State) (first m : Machine) : Type 0 where
+pub record HasInterrupted (step : ℕ) (i : SoftintStep) (made : Ran) (s : State) (first m : Machine) : Type 0 where
   pub reached : IsReached step s
   pub served : IsServed tally_count i made s (running_system first.tally first.system) (running_system m.tally m.system)
-  pub holds : Holds (interrupt step i s).state m
+  pub holds : ShowsMachine (interrupt step i s).state m
 
 -- After the soft interrupt of this step, which s is before, the open removals of these ids were polled, in order, and these lines
 -- were written: the machine is now as the definition's.
@@ -26,4 +26,4 @@ pub record IsPolling (texts : List (List ℕ)) (step : ℕ) (ids lines : List �
   pub reached : IsReached step s
   pub accepted : softint_refusal i s ≡ None
   pub polled : HavePolled texts step ids lines (interrupt step i s).state m.system
-  pub holds : Holds (each (poll_id plain texts step) ids (interrupt step i s).state).state m
+  pub holds : ShowsMachine (each (poll_id plain texts step) ids (interrupt step i s).state).state m

@@ -7,8 +7,8 @@ use Rattle.cyc_system.specs.System.{SystemView}
 use Rattle.cyc_system.specs.Calls.{SystemCall, Suspend, Resume}
 
 -- the lock and the low level of each CPU are new
-abbrev pub AreNew : ℕ → List (Tables × Tables) → Type 0
-AreNew ceiling ends = All (λ e. (level_of e.0 ≡ empty_level ceiling) × (level_of e.1 ≡ empty_level ceiling)) ends
+abbrev pub LevelsAreNew : ℕ → List (Tables × Tables) → Type 0
+LevelsAreNew ceiling ends = All (λ e. (level_of e.0 ≡ empty_level ceiling) × (level_of e.1 ≡ empty_level ceiling)) ends
 
 -- a system before its first cyclic, whose id will be 1
 abbrev pub new_system : ℕ → List (Tables × Tables) → SystemView Tables

@@ -10,7 +10,6 @@ pub mod Words
 pub mod Runs
 pub mod Beginning
 pub mod Replay
-pub mod Offline
 pub mod Advancing
 pub mod Interrupting
-pub mod Removing
+pub mod WordLines

@@ -19,22 +19,22 @@ use Rattle.cyc_model.specs.Script.{text_in, does}
 use Rattle.cyc_replay.specs.SystemWords.{ComesTo, IsDone}
 
 -- what a receipt leaves to be told of an id, whose handler was called so often
-abbrev pub told_by : Receipt → ℕ → Counts
-told_by receipt called = record { expired = receipt.sent; called = called; lost = receipt.lost; pending = 0 }
+abbrev pub told_by_receipt : Receipt → ℕ → Counts
+told_by_receipt receipt called = record { expired = receipt.sent; called = called; lost = receipt.lost; pending = 0 }
 
 -- what totals tell of it
 abbrev pub told_in : SystemTotals → ℕ → Counts
 told_in totals called = record { expired = totals.expired; called = called; lost = totals.lost; pending = totals.pending }
 
 -- the removal of the name's cyclic answered at once, with this receipt
-pub record IsRemoved (name : ℕ) (receipt : Receipt) (s : State) (w : SystemView Tables) : Type 0 where
+pub record IsRemovedAtOnce (name : ℕ) (receipt : Receipt) (s : State) (w : SystemView Tables) : Type 0 where
   pub done : IsDone (steps.Remove name) s w
   pub line : (texts : List (List ℕ)) (indexes : ℕ → ℕ) (step : ℕ) → (does plain texts indexes step (steps.Remove name) s).line
       ≡ removed step (text_in texts name) (receipt.sent - receipt.lost)
   -- what is left to be told of it
   pub counts : (texts : List (List ℕ)) (indexes : ℕ → ℕ) (step : ℕ)
       → counts_of (id_of name s) (does plain texts indexes step (steps.Remove name) s).state
-      ≡ told_by receipt (s.called (id_of name s))
+      ≡ told_by_receipt receipt (s.called (id_of name s))
 
 -- it waits for so many calls
 pub record IsKept (name waits : ℕ) (s : State) (w : SystemView Tables) : Type 0 where

@@ -1,12 +1,13 @@
 -- A system over levels that no other thread uses, as the definition of a script has it.
 use Rattle.std.specs.Prelude.{◌≡◌, ℕ, ◌<◌, ◌≤◌, Bool, List, [], ◌∷◌, length, map}
+use Rattle.cyc_types.specs.Limits.{most_cpus}
 use Rattle.cyc_types.specs.declared.firing.Sent.{Sent}
 use Rattle.cyc_types.specs.declared.level.Level.{Level}
 use Rattle.cyc_types.specs.Counting.{no_counts}
 use Rattle.cyc_core.specs.Tables.{Tables}
 use Rattle.cyc_cpu.specs.Cpu.{CpuView}
 use Rattle.cyc_places.specs.declared.record.Placement.{Placement as RecordPlacement}
-use Rattle.cyc_places.specs.declared.record.Placement.TheVariants as place
+use Rattle.cyc_places.specs.declared.record.Placement.TheVariants as placements
 use Rattle.cyc_places.specs.declared.record.Record.{Record}
 use Rattle.cyc_places.specs.Places.{IsRecord, HasRisingIds, ended_on}
 use Rattle.cyc_system.specs.Cpus.{CpusView, IsCpu}
@@ -27,13 +28,13 @@ abbrev pub shown_cpus : CpusView Tables → List Cpu
 shown_cpus v = shown_list v.online v.cpus
 
 -- where a cyclic of this level is
-abbrev pub shown_place : Level → RecordPlacement → Placement
-shown_place level (place.On cpu bound) = On cpu bound
-shown_place level (place.Everywhere first skew) =
+abbrev pub shown_placement : Level → RecordPlacement → Placement
+shown_placement level (placements.On cpu bound) = On cpu bound
+shown_placement level (placements.Everywhere first skew) =
     OnAll (record { level = level; start = first.start; interval = first.interval; skew = skew })
 
 abbrev pub shown_record : Record → Placed
-shown_record r = record { id = r.id; place = shown_place r.level r.place }
+shown_record r = record { id = r.id; placement = shown_placement r.level r.placement }
 
 abbrev pub shown_counts : Sent → Ended
 shown_counts counts = record { expired = counts.sent; lost = counts.lost }
@@ -54,7 +55,7 @@ AreTied v = (n : ℕ) (cpu : CpuView Tables) → IsCpu n cpu v → IsTied cpu
 -- each of these records has the counts of 16 CPUs, and none of one that isn't among so many
 abbrev pub AllFull : ℕ → List Record → Type 0
 AllFull cpus rs = (k : ℕ) (r : Record) → IsRecord rs k r
-    → (length r.ended ≡ 16) × ((n : ℕ) → cpus ≤ n → ended_on n r ≡ no_counts)
+    → (length r.ended ≡ most_cpus) × ((n : ℕ) → cpus ≤ n → ended_on n r ≡ no_counts)
 
 -- what is true of every system over plain levels: its CPUs and its records agree, the ids of these rise, they have ended stays
 -- on its CPUs alone, and on each CPU the cyclics are tied to its levels

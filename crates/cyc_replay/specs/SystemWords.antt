@@ -19,9 +19,9 @@ use Rattle.cyc_cpu_model.specs.Answers.{IsRefused}
 use Rattle.cyc_replay.specs.Shown.{ShowsSystem}
 
 -- the next cyclics that are put on a CPU get these indexes
-abbrev pub Gives : (ℕ → ℕ) → ℕ → List ℕ → Type 0
-Gives indexes k [] = Unit {0}
-Gives indexes k (index ∷ given) = (indexes k ≡ index) × Gives indexes (k + 1) given
+abbrev pub GivesIndexes : (ℕ → ℕ) → ℕ → List ℕ → Type 0
+GivesIndexes indexes k [] = Unit {0}
+GivesIndexes indexes k (index ∷ given) = (indexes k ≡ index) × GivesIndexes indexes (k + 1) given
 
 -- What the definition comes to is what the system did: the machine after it shows the system after it, so many cyclics were put
 -- on a CPU, and the index of each was free.
@@ -40,15 +40,15 @@ IsRefusedFor e x s w = IsRefused e (refusal_of plain x s) × ShowsSystem s w
 pub record IsDone (x : Step) (s : State) (w : SystemView Tables) : Type 0 where
   pub accepted : refusal_of plain x s ≡ None
   pub given : List ℕ
-  pub comes : (texts : List (List ℕ)) (indexes : ℕ → ℕ) (step : ℕ) → Gives indexes s.admissions given
+  pub comes : (texts : List (List ℕ)) (indexes : ℕ → ℕ) (step : ℕ) → GivesIndexes indexes s.admissions given
       → ComesTo given s (does plain texts indexes step x s) w
-  pub quiet : (texts : List (List ℕ)) (indexes : ℕ → ℕ) (step : ℕ) → Gives indexes s.admissions given
+  pub quiet : (texts : List (List ℕ)) (indexes : ℕ → ℕ) (step : ℕ) → GivesIndexes indexes s.admissions given
       → (id : ℕ) → calls_of id (does plain texts indexes step x s).acts ≡ 0
 
 -- the same, and this is the line of a step of each number
 pub record IsDoneWith (line : ℕ → List ℕ) (x : Step) (s : State) (w : SystemView Tables) : Type 0 where
   pub done : IsDone x s w
-  pub said : (texts : List (List ℕ)) (indexes : ℕ → ℕ) (step : ℕ) → Gives indexes s.admissions done.given
+  pub said : (texts : List (List ℕ)) (indexes : ℕ → ℕ) (step : ℕ) → GivesIndexes indexes s.admissions done.given
       → (does plain texts indexes step x s).line ≡ line step
 
 -- a refusal that comes before anything is done: the others of an offline come after its cyclics had their turns

@@ -1,5 +1,5 @@
 -- What a word of a script does to the machine, and the line that it puts.
-use Rattle.std.specs.Prelude.{◌≡◌, ℕ, ◌+◌, ◌<◌, ⊤, List, length, None, Result, Ok, Err}
+use Rattle.std.specs.Prelude.{◌≡◌, ℕ, ◌+◌, ◌<◌, ⊤, List, length, Result, Ok, Err}
 use Rattle.cyc_types.specs.declared.level.Soft.{Soft}
 use Rattle.cyc_types.specs.declared.refusal.Refusal.{Refusal}
 use Rattle.cyc_types.specs.Refusals.{number_of}
@@ -12,11 +12,10 @@ use Rattle.cyc_model.specs.Serving.{level_at}
 use Rattle.cyc_model.specs.Questions.{plain}
 use Rattle.cyc_model.specs.State.{State, Outcome, cpu_of}
 use Rattle.cyc_model.specs.Free.{AllCanBeAdmitted}
-use Rattle.cyc_model.specs.Script.{refusal_of, does, word}
-use Rattle.cyc_cpu_model.specs.Answers.{IsRefused}
-use Rattle.cyc_replay.specs.SystemWords.{Gives}
+use Rattle.cyc_model.specs.Script.{word}
+use Rattle.cyc_replay.specs.SystemWords.{GivesIndexes}
 use Rattle.cyc_replay.specs.declared.machine.Machine.{Machine}
-use Rattle.cyc_replay.specs.Machine.{Holds}
+use Rattle.cyc_replay.specs.Machine.{ShowsMachine}
 
 -- the step sets the clock to no moment from never on: so it is in every script
 abbrev pub SetsBelowNever : Step → Type 0
@@ -26,31 +25,9 @@ SetsBelowNever x = ⊤
 -- What the definition comes to is what the machine did: the definition's machine shows the one after it, so many cyclics were
 -- put on a CPU, and the index of each was free.
 pub record Comes (given : List ℕ) (s : State) (o : Outcome) (m : Machine) : Type 0 where
-  pub holds : Holds o.state m
+  pub holds : ShowsMachine o.state m
   pub admissions : o.state.admissions ≡ s.admissions + length given
   pub free : (n : ℕ) (soft : Soft) → AllCanBeAdmitted (events_at n soft o.acts) (level_at soft (cpu_of n s))
-
--- the definition does not refuse the step, and comes to what the machine did, where the cyclics that it puts on CPUs get the
--- indexes that they got there
-pub record Accepts (x : Step) (s : State) (m : Machine) : Type 0 where
-  pub accepted : refusal_of plain x s ≡ None
-  pub given : List ℕ
-  pub comes : (texts : List (List ℕ)) (indexes : ℕ → ℕ) (step : ℕ) → Gives indexes s.admissions given
-      → Comes given s (does plain texts indexes step x s) m
-
--- the same of a step whose line tells more: this one, where the step has this number
-pub record AcceptsWith (line : ℕ → List ℕ) (x : Step) (s : State) (m : Machine) : Type 0 where
-  pub accepted : refusal_of plain x s ≡ None
-  pub given : List ℕ
-  pub comes : (texts : List (List ℕ)) (indexes : ℕ → ℕ) (step : ℕ) → Gives indexes s.admissions given
-      → Comes given s (does plain texts indexes step x s) m
-  pub said : (texts : List (List ℕ)) (indexes : ℕ → ℕ) (step : ℕ) → Gives indexes s.admissions given
-      → (does plain texts indexes step x s).line ≡ line step
-
--- the step is done, or refused for one reason by both; want of memory comes where there is no other reason
-abbrev pub Answers : {A : Type 0} → Step → Result A Refusal → State → Machine → Type 0
-Answers x (Ok done) s m = Accepts x s m
-Answers x (Err e) s m = IsRefused e (refusal_of plain x s) × Holds s m
 
 -- the line of a step that says no more than whether it was done
 abbrev pub answer_line : {A : Type 0} → ℕ → Result A Refusal → List ℕ
@@ -60,5 +37,5 @@ answer_line step (Err e) = refused step (number_of e)
 -- The word was taken, and this is its line: the definition's word has the same line and comes to what the machine did.
 pub record TakesWord (texts : List (List ℕ)) (step : ℕ) (x : Step) (line : List ℕ) (s : State) (m : Machine) : Type 0 where
   pub given : List ℕ
-  pub line_is : (indexes : ℕ → ℕ) → Gives indexes s.admissions given → line ≡ (word plain texts indexes step x s).line
-  pub comes : (indexes : ℕ → ℕ) → Gives indexes s.admissions given → Comes given s (word plain texts indexes step x s) m
+  pub line_is : (indexes : ℕ → ℕ) → GivesIndexes indexes s.admissions given → line ≡ (word plain texts indexes step x s).line
+  pub comes : (indexes : ℕ → ℕ) → GivesIndexes indexes s.admissions given → Comes given s (word plain texts indexes step x s) m

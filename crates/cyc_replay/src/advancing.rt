@@ -1,6 +1,7 @@
 //! The word that sets the clock.
 
 ghost use Rattle.std.specs.Prelude.{◌≡◌, ◌≤◌, ◌<◌, ◌+◌, ℕ, [], List, length, string_bytes, IfSome, IfNone, IfErr, OnOk};
+ghost use Rattle.cyc_types.specs.Limits.{most_cpus};
 ghost use Rattle.cyc_types.specs.Series.{never};
 ghost use Rattle.cyc_types.specs.Tally.{TallyView};
 ghost use Rattle.cyc_core.specs.Tables.{Tables};
@@ -10,9 +11,10 @@ ghost use Rattle.cyc_script.specs.Limits.{most_steps};
 ghost use Rattle.cyc_script.specs.declared.step.Step.TheVariants as steps;
 ghost use Rattle.cyc_model.specs.State.{State};
 ghost use Rattle.cyc_model.specs.Advance.{advance};
-ghost use Rattle.cyc_replay.specs.Machine.{Holds, IsReached};
+ghost use Rattle.cyc_replay.specs.Machine.{ShowsMachine, IsReached};
 ghost use Rattle.cyc_text.specs.Status.{IsMemory};
 ghost use Rattle.cyc_replay.specs.Words.{Comes, TakesWord};
+ghost use Rattle.cyc_replay.specs.SystemAdvancing.{fired_and_lost};
 ghost use Rattle.cyc_replay.specs.Advancing.{IsAdvancing};
 
 use crate::lines::write_answer;
@@ -21,7 +23,7 @@ use crate::system_laws::{advance_law, kept_law};
 use cyc_core::LevelCore;
 use cyc_system::System;
 use cyc_text::{RunFault, write_fired};
-use cyc_types::{Moment, Refusal, Tally};
+use cyc_types::{CPUS, Moment, Refusal, Tally};
 
 /// What fires made.
 #[derive(Clone, Copy, Drop)]
@@ -35,25 +37,25 @@ pub struct Made {
 /// How many CPUs a system has.
 pub fn count_cpus(system: &System<LevelCore>) -> u32
     ensures count { result ≡ length system.now.cpus.cpus }
-    ensures few { result ≤ 16 }
+    ensures few { result ≤ most_cpus }
 {
     system.law();
-    for cpu in 0..16 {
+    for cpu in 0..CPUS {
         if system.len(cpu).is_none() {
             return cpu;
         }
     }
-    16
+    CPUS
 }
 
 /// The CPU of this number fires at the machine's clock, where it is online. The tally refuses no call.
 fn fire_cpu(machine: &mut Machine, cpu: u32) -> Made
     requires ready { (step expired lost : ℕ) × (s : State) × (first : RunningSystem TallyView Tables)
-        × IsAdvancing step cpu expired lost s first machine.old }
+        × IsAdvancing step cpu (fired_and_lost expired lost) s first machine.old }
     requires there { cpu < length machine.old.system.cpus.cpus }
     ensures next { (step expired lost : ℕ) (s : State) (first : RunningSystem TallyView Tables)
-        → IsAdvancing step cpu expired lost s first machine.old
-        → IsAdvancing step (cpu + 1) (expired + result.expired) (lost + result.lost) s first machine.new }
+        → IsAdvancing step cpu (fired_and_lost expired lost) s first machine.old
+        → IsAdvancing step (cpu + 1) (fired_and_lost (expired + result.expired) (lost + result.lost)) s first machine.new }
     ensures clock { machine.new.clock ≡ machine.old.clock }
     ensures many { length machine.new.system.cpus.cpus ≡ length machine.old.system.cpus.cpus }
     ensures few_expired { result.expired < 18446744073709551616 }
@@ -83,9 +85,11 @@ fn fire_cpu(machine: &mut Machine, cpu: u32) -> Made
 /// The CPUs fire at the machine's clock, by rising number, where they are online. The tally refuses no call.
 fn fire_all(machine: &mut Machine) -> Made
     requires ready { (step : ℕ) × (s : State) × (first : RunningSystem TallyView Tables)
-        × IsAdvancing step 0 0 0 s first machine.old }
-    ensures all { (step : ℕ) (s : State) (first : RunningSystem TallyView Tables) → IsAdvancing step 0 0 0 s first machine.old
-        → IsAdvancing step (length machine.old.system.cpus.cpus) result.expired result.lost s first machine.new }
+        × IsAdvancing step 0 (fired_and_lost 0 0) s first machine.old }
+    ensures all { (step : ℕ) (s : State) (first : RunningSystem TallyView Tables)
+        → IsAdvancing step 0 (fired_and_lost 0 0) s first machine.old
+        → IsAdvancing step (length machine.old.system.cpus.cpus) (fired_and_lost result.expired result.lost) s first
+        machine.new }
     ensures clock { machine.new.clock ≡ machine.old.clock }
 {
     let cpus = count_cpus(&machine.system);
@@ -119,8 +123,8 @@ pub fn take_advance(
 ) -> Result<(), RunFault>
     requires few { step ≤ most_steps }
     requires before { moment < never }
-    requires reached { (s : State) × IsReached step s × Holds s machine.old }
-    ensures takes { OnOk result ((texts : List (List ℕ)) (s : State) → IsReached step s → Holds s machine.old
+    requires reached { (s : State) × IsReached step s × ShowsMachine s machine.old }
+    ensures takes { OnOk result ((texts : List (List ℕ)) (s : State) → IsReached step s → ShowsMachine s machine.old
         → TakesWord texts step (steps.Advance moment) (string_bytes line.new) s machine.new) }
     ensures memory { IfErr result IsMemory }
 {

@@ -1,22 +1,25 @@
 //! The machine before the first step.
 
-ghost use Rattle.std.specs.Prelude.{◌≡◌, ◌≤◌, min, All, None, length, replicate, IfOk, IfErr, OnOk};
+ghost use Rattle.std.specs.Prelude.{◌≡◌, ◌≤◌, min, All, length, replicate, IfOk, IfErr, OnOk};
 ghost use Rattle.cyc_types.specs.Limits.{cyclics as most_cyclics};
 ghost use Rattle.cyc_types.specs.declared.refusal.Refusal.TheVariants.{Memory};
 ghost use Rattle.cyc_types.specs.Tally.{tally_made};
 ghost use Rattle.cyc_types.specs.Pairs.{EachTwo};
-ghost use Rattle.cyc_script.specs.Limits.{most_cpus, most_steps};
+ghost use Rattle.cyc_types.specs.Limits.{most_cpus};
+ghost use Rattle.cyc_script.specs.Limits.{most_steps};
 ghost use Rattle.cyc_model.specs.Script.{start};
-ghost use Rattle.cyc_replay.specs.Kept.{AreNew};
-ghost use Rattle.cyc_replay.specs.Machine.{Holds};
-ghost use Rattle.cyc_replay.specs.Beginning.{IsEmpty, HasReserved};
+ghost use Rattle.cyc_words.specs.declared.named.Named.TheVariants.{Nothing};
+ghost use Rattle.cyc_replay.specs.Kept.{LevelsAreNew};
+ghost use Rattle.cyc_replay.specs.Machine.{ShowsMachine};
+ghost use Rattle.cyc_replay.specs.Beginning.{IsEmptyCpu, HasReserved};
 
-use crate::machine::{Counted, Machine};
+use crate::machine::Machine;
 use crate::system_laws::begin_law;
 use cyc_core::LevelCore;
 use cyc_cpu::Hard;
 use cyc_system::System;
 use cyc_types::{CYCLICS, Ceiling, CyclicId, Moment, Refusal, Tally};
+use cyc_words::Names;
 use std::alloc::Global;
 
 /// The most steps of a script: at each a cyclic can be added.
@@ -36,7 +39,7 @@ fn new_levels(
     ceiling: Ceiling,
 ) -> Result<Vec<(LevelCore, LevelCore)>, Refusal>
     ensures long { IfOk result (λ ends. length ends.items ≡ cpus) }
-    ensures new { IfOk result (λ ends. AreNew ceiling ends.items) }
+    ensures new { IfOk result (λ ends. LevelsAreNew ceiling ends.items) }
     ensures err { IfErr result (λ refusal. refusal ≡ Memory) }
 {
     let mut ends = Vec::new(alloc);
@@ -50,7 +53,7 @@ fn new_levels(
 
 /// Takes the memory for so many cyclics of the CPU.
 fn reserve_wanted(hard: &mut Hard<LevelCore>, wanted: usize) -> Result<(), Refusal>
-    requires empty { IsEmpty hard.old }
+    requires empty { IsEmptyCpu hard.old }
     requires few { wanted ≤ most_cyclics }
     ensures did { OnOk result (HasReserved wanted hard.old hard.new) }
     ensures err { IfErr result (λ refusal. refusal ≡ Memory) }
@@ -60,7 +63,7 @@ fn reserve_wanted(hard: &mut Hard<LevelCore>, wanted: usize) -> Result<(), Refus
 
 /// The same on each of these CPUs.
 fn reserve_each(hards: &mut Vec<Hard<LevelCore>>, wanted: usize) -> Result<(), Refusal>
-    requires empty { All IsEmpty hards.old.items }
+    requires empty { All IsEmptyCpu hards.old.items }
     requires few { wanted ≤ most_cyclics }
     ensures did { OnOk result (EachTwo (HasReserved wanted) hards.old.items hards.new.items) }
     ensures err { IfErr result (λ refusal. refusal ≡ Memory) }
@@ -81,7 +84,7 @@ fn wanted_of(names: usize) -> usize
 /// The system with memory on each CPU for a cyclic of each name, or for as many as a CPU can have: from here on no cyclic of a
 /// name that comes to a CPU is refused for want of memory there.
 fn with_room(system: System<LevelCore>, names: usize) -> Result<System<LevelCore>, Refusal>
-    requires empty { All IsEmpty system.cpus.cpus }
+    requires empty { All IsEmptyCpu system.cpus.cpus }
     ensures cpus { IfOk result (λ wide. EachTwo (HasReserved (min names most_cyclics)) system.cpus.cpus wide.cpus.cpus
         × (wide.cpus.online ≡ system.cpus.online)) }
     ensures rest { IfOk result (λ wide. (wide.records ≡ system.records) × (wide.last ≡ system.last)) }
@@ -93,28 +96,6 @@ fn with_room(system: System<LevelCore>, names: usize) -> Result<System<LevelCore
     Ok(desk.unite(hards))
 }
 
-/// No name has an id.
-fn no_ids(alloc: Global, names: usize) -> Result<Vec<Option<CyclicId>>, Refusal>
-    ensures ids { IfOk result (λ ids. ids.items ≡ replicate names None) }
-    ensures err { IfErr result (λ refusal. refusal ≡ Memory) }
-{
-    let ids = vec![in alloc; None; names]?;
-    Ok(ids)
-}
-
-/// No removal has counted anything.
-fn none_counted(alloc: Global, names: usize) -> Result<Vec<Counted>, Refusal>
-    ensures long { IfOk result (λ counted. length counted.items ≡ names) }
-    ensures err { IfErr result (λ refusal. refusal ≡ Memory) }
-{
-    let none = Counted {
-        expired: 0,
-        lost: 0,
-    };
-    let counted = vec![in alloc; none; names]?;
-    Ok(counted)
-}
-
 /// A place for the name of each id.
 fn no_names(alloc: Global) -> Result<Vec<usize>, Refusal>
     ensures long { IfOk result (λ named. length named.items ≡ most_steps) }
@@ -124,22 +105,17 @@ fn no_names(alloc: Global) -> Result<Vec<usize>, Refusal>
     Ok(named)
 }
 
-/// What a machine has beside its system: the tally of its calls, the ids of names, what removals counted, the names of ids.
-fn beside(
-    alloc: Global,
-    names: usize,
-) -> Result<(Tally, Vec<Option<CyclicId>>, Vec<Counted>, Vec<usize>), Refusal>
+/// What a machine has beside its system: the tally of its calls, what names have, the names of ids.
+fn beside(alloc: Global, names: usize) -> Result<(Tally, Names, Vec<usize>), Refusal>
     ensures tally { IfOk result (λ r. r.0 ≡ tally_made 1 most_steps 18446744073709551615) }
-    ensures ids { IfOk result (λ r. r.1.items ≡ replicate names None) }
-    ensures counted { IfOk result (λ r. length r.2.items ≡ names) }
-    ensures named { IfOk result (λ r. length r.3.items ≡ most_steps) }
+    ensures names { IfOk result (λ r. r.1 ≡ replicate names Nothing) }
+    ensures named { IfOk result (λ r. length r.2.items ≡ most_steps) }
     ensures err { IfErr result (λ refusal. refusal ≡ Memory) }
 {
     let tally = Tally::new(alloc, first_id(), MOST_STEPS, u64::MAX)?;
-    let ids = no_ids(alloc, names)?;
-    let counted = none_counted(alloc, names)?;
+    let names = Names::new(alloc, names)?;
     let named = no_names(alloc)?;
-    Ok((tally, ids, counted, named))
+    Ok((tally, names, named))
 }
 
 /// So many CPUs, all online, with no cyclic, and so many names with no id. Each CPU takes the memory for a cyclic of each name,
@@ -147,7 +123,7 @@ fn beside(
 pub fn begin(alloc: Global, cpus: u32, ceiling: Ceiling, names: usize) -> Result<Machine, Refusal>
     requires some { 1 ≤ cpus }
     requires few { cpus ≤ most_cpus }
-    ensures holds { IfOk result (Holds (start cpus ceiling names)) }
+    ensures holds { IfOk result (ShowsMachine (start cpus ceiling names)) }
     ensures err { IfErr result (λ refusal. refusal ≡ Memory) }
 {
     begin_law();
@@ -156,13 +132,12 @@ pub fn begin(alloc: Global, cpus: u32, ceiling: Ceiling, names: usize) -> Result
     fresh.law();
     let system = with_room(fresh, names)?;
     system.law();
-    let (tally, ids, counted, named) = beside(alloc, names)?;
+    let (tally, names, named) = beside(alloc, names)?;
     Ok(Machine {
         clock: Moment::ZERO,
         system,
         tally,
-        names: ids,
-        counted,
+        names,
         named,
     })
 }

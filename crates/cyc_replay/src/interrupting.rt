@@ -1,7 +1,7 @@
 //! The word that runs a soft interrupt, and then polls the open removals.
 
 ghost use Rattle.std.specs.Prelude.{◌≡◌, ◌≢◌, ◌↔◌, ℕ, ◌<◌, ◌≤◌, ◌-◌, ◌^◌, ◌++◌, ◌∷◌, [], List, map, string_bytes, OnOk, IfErr};
-ghost use Rattle.std.specs.Prelude.{IfNone, IfSome, IsTrue, slice_set, Some, Ok};
+ghost use Rattle.std.specs.Prelude.{IfNone, IfSome, IsTrue, length, Some, Ok};
 ghost use Rattle.cyc_types.specs.declared.refusal.Refusal.TheVariants.{NoCpu};
 ghost use Rattle.cyc_types.specs.Limits.{last_id};
 ghost use Rattle.cyc_text.specs.Lines.{removed};
@@ -13,34 +13,34 @@ ghost use Rattle.cyc_model.specs.State.{State};
 ghost use Rattle.cyc_model.specs.Softint.{interrupt, leaving_ids, softint_refusal, text_of_id};
 ghost use Rattle.cyc_replay.specs.Removal.{answer_line};
 ghost use Rattle.cyc_text.specs.Status.{IsMemory};
-ghost use Rattle.cyc_replay.specs.Machine.{Holds, IsReached, id_at, name_at};
+ghost use Rattle.cyc_replay.specs.Machine.{ShowsMachine, IsReached, id_at, name_at};
 ghost use Rattle.cyc_replay.specs.Words.{TakesWord};
 ghost use Rattle.cyc_cpu.specs.Soft.{raise_tables};
-ghost use Rattle.cyc_system.specs.Agreement.{Agrees};
-ghost use Rattle.cyc_system.specs.Calls.{Changes, PollRemove};
-ghost use Rattle.cyc_replay.specs.Removing.{counted_by};
-ghost use Rattle.cyc_replay.specs.Interrupting.{HasServed, IsPolling};
+ghost use Rattle.cyc_system.specs.Calls.{PollRemove};
+ghost use Rattle.cyc_words.specs.Doing.{DoesCall, word_state};
+ghost use Rattle.cyc_replay.specs.Interrupting.{HasInterrupted, IsPolling};
 
-use crate::lines::write_answer;
-use crate::machine::{Counted, Machine, id_of, name_of, set_counted};
-use crate::removing::{counted_in, name_text};
+use crate::lines::{name_text, write_answer};
+use crate::machine::{Machine, id_in, name_of};
 use crate::system_laws::{kept_law, poll_law, softint_law};
+use cyc_agreement::others_law;
 use cyc_core::LevelCore;
 use cyc_script::Softint;
 use cyc_soft::Ran;
-use cyc_system::{SoftFault, System, others_law};
+use cyc_system::{SoftFault, System};
 use cyc_text::{RunFault, write_ran};
-use cyc_types::{CyclicId, Receipt, Refusal, Soft, Tally};
+use cyc_types::{CPUS, CyclicId, Receipt, Refusal, Soft, Tally};
+use cyc_words::{Names, poll};
 use std::alloc::AllocError;
 use std::fmt::Write;
 
 /// Makes the soft interrupt of one level of a CPU. The tally refuses no call. None where there is no such CPU.
 fn serve_level(machine: &mut Machine, cpu: u32, level: Soft, budget: u32) -> Option<Ran>
-    requires reached { (step : ℕ) × (s : State) × (step ≤ most_steps) × IsReached step s × Holds s machine.old }
-    ensures none { IfNone result ((s : State) → Holds s machine.old
-        → (softint_refusal (record { cpu = cpu; level = level; budget = budget }) s ≡ Some NoCpu) × Holds s machine.new) }
-    ensures some { IfSome result (λ made. (step : ℕ) (s : State) → IsReached step s → Holds s machine.old
-        → HasServed step (record { cpu = cpu; level = level; budget = budget }) made s machine.old machine.new) }
+    requires reached { (step : ℕ) × (s : State) × (step ≤ most_steps) × IsReached step s × ShowsMachine s machine.old }
+    ensures none { IfNone result ((s : State) → ShowsMachine s machine.old
+        → (softint_refusal (record { cpu = cpu; level = level; budget = budget }) s ≡ Some NoCpu) × ShowsMachine s machine.new) }
+    ensures some { IfSome result (λ made. (step : ℕ) (s : State) → IsReached step s → ShowsMachine s machine.old
+        → HasInterrupted step (record { cpu = cpu; level = level; budget = budget }) made s machine.old machine.new) }
 {
     softint_law::<Tally>();
     kept_law::<Tally>();
@@ -77,7 +77,7 @@ fn least_open(system: &System<LevelCore>, above: u64) -> u64
 {
     system.law();
     let mut least = u64::MAX;
-    for cpu in 0..16 {
+    for cpu in 0..CPUS {
         least = least.min(open_above(system, cpu, above));
     }
     least
@@ -92,11 +92,11 @@ fn next_open(system: &System<LevelCore>, above: u64) -> Option<CyclicId>
     CyclicId::new(least_open(system, above))
 }
 
-/// Whether the name has this id.
-fn has_id(ids: &[Option<CyclicId>], name: usize, id: CyclicId) -> bool
-    ensures { IsTrue result ↔ (id_at ids.now name ≡ Some id) }
+/// Whether the name has this id, or had it until its removal answered.
+fn has_id(names: &Names, name: usize, id: CyclicId) -> bool
+    ensures { IsTrue result ↔ (id_at names.now name ≡ Some id) }
 {
-    match id_of(ids, name) {
+    match id_in(names.at(name)) {
         Some(own) => own.number() == id.number(),
         None => false,
     }
@@ -104,7 +104,7 @@ fn has_id(ids: &[Option<CyclicId>], name: usize, id: CyclicId) -> bool
 
 /// The text of the name that has this id.
 fn text_of<'a>(machine: &Machine, names: &'a [String], id: CyclicId) -> &'a str
-    ensures { (s : State) → Holds s machine.now → result.now ≡ text_of_id id (map string_bytes names.now) s.names }
+    ensures { (s : State) → ShowsMachine s machine.now → result.now ≡ text_of_id id (map string_bytes names.now) s.names }
 {
     let _number = id.number();
     let name = name_of(&machine.named, id);
@@ -114,42 +114,41 @@ fn text_of<'a>(machine: &Machine, names: &'a [String], id: CyclicId) -> &'a str
     ""
 }
 
-/// Keeps what the removal of this id has counted, for the name that has the id.
-fn keep_answered(
-    counted: &mut Vec<Counted>,
-    names: &[Option<CyclicId>],
-    named: &[usize],
-    id: CyclicId,
-    receipt: Receipt,
-)
-    ensures named { id_at names.now (name_at named.now id) ≡ Some id
-        → counted.new.items ≡ slice_set counted.old.items (name_at named.now id) (counted_by receipt) }
-    ensures other { (id_at names.now (name_at named.now id) ≡ Some id → ⊥) → counted.new.items ≡ counted.old.items }
+/// The number of the name that has this id. As many as there are names where none has.
+fn name_with(machine: &Machine, id: CyclicId) -> usize
+    ensures here { id_at machine.now.names (name_at machine.now.named.items id) ≡ Some id
+        → result ≡ name_at machine.now.named.items id }
+    ensures other { (id_at machine.now.names (name_at machine.now.named.items id) ≡ Some id → ⊥)
+        → result ≡ length machine.now.names }
 {
-    let name = name_of(named, id);
-    if !has_id(names, name, id) {
-        return;
+    let name = name_of(&machine.named, id);
+    if has_id(&machine.names, name, id) {
+        name
+    } else {
+        machine.names.len()
     }
-    set_counted(counted, name, counted_in(receipt));
 }
 
-/// Polls the open removal of this id in the system.
-fn poll_system(system: &mut System<LevelCore>, id: CyclicId) -> Option<Receipt>
+/// Polls the open removal of this id in the system. Where it answers, the name of this number has the receipt.
+fn poll_named(
+    system: &mut System<LevelCore>,
+    names: &mut Names,
+    name: usize,
+    id: CyclicId,
+) -> Option<Receipt>
     requires open { (n : ℕ) × (removal_on n system.old.cpus ≡ Some id) }
-    ensures polled { Changes raise_tables system.old (PollRemove id (Ok result)) system.new }
-    ensures agrees { Agrees system.new }
+    ensures polled { DoesCall raise_tables name (PollRemove id (Ok result))
+        (word_state system.old names.old) (word_state system.new names.new) }
     ensures others { (n k : ℕ) → k ≢ id → (removal_on n system.new.cpus ≡ Some k) ↔ (removal_on n system.old.cpus ≡ Some k) }
 {
     others_law::<LevelCore>();
-    let answer = system.poll_remove(id);
-    system.law();
-    match answer {
+    match poll(system, names, name, id) {
         Ok(polled) => polled,
         Err(_) => unreachable!(),
     }
 }
 
-/// Polls the open removal of this id, and keeps what it counted where it answers.
+/// Polls the open removal of this id. Where it answers, the name that has the id has the receipt.
 fn poll_removal(machine: &mut Machine, id: CyclicId) -> Option<Receipt>
     requires open { (n : ℕ) × (removal_on n machine.old.system.cpus ≡ Some id) }
     ensures polls { (texts : List (List ℕ)) (step : ℕ) (ids lines : List ℕ) (i : SoftintStep) (s : State)
@@ -160,19 +159,8 @@ fn poll_removal(machine: &mut Machine, id: CyclicId) -> Option<Receipt>
 {
     poll_law::<Tally>();
     kept_law::<Tally>();
-    let polled = poll_system(&mut machine.system, id);
-    let Some(receipt) = polled else {
-        return None;
-    };
-    let answered = receipt;
-    keep_answered(
-        &mut machine.counted,
-        &machine.names,
-        &machine.named,
-        id,
-        receipt,
-    );
-    Some(answered)
+    let name = name_with(machine, id);
+    poll_named(&mut machine.system, &mut machine.names, name, id)
 }
 
 /// Adds `STEP removed NAME CALLS` to the line: the removal has answered, with all its calls.
@@ -235,8 +223,8 @@ pub fn take_softint(
     softint: &Softint,
 ) -> Result<(), RunFault>
     requires few { step ≤ most_steps }
-    requires reached { (s : State) × IsReached step s × Holds s machine.old }
-    ensures takes { OnOk result ((s : State) → IsReached step s → Holds s machine.old
+    requires reached { (s : State) × IsReached step s × ShowsMachine s machine.old }
+    ensures takes { OnOk result ((s : State) → IsReached step s → ShowsMachine s machine.old
         → TakesWord (map string_bytes names.now) step (steps.Softint softint.now) (string_bytes line.new) s machine.new) }
     ensures memory { IfErr result IsMemory }
 {

@@ -3,8 +3,8 @@
 ghost use Rattle.cyc_script.specs.declared.script.Script.{Script};
 ghost use Rattle.cyc_model.specs.Script.{names_of};
 ghost use Rattle.cyc_replay.specs.declared.machine.Machine.{Machine};
-ghost use Rattle.cyc_replay.specs.Runs.{Runs};
-ghost use Rattle.cyc_replay.specs.Replay.{HasRun};
+ghost use Rattle.cyc_replay.specs.Runs.{RunsTo};
+ghost use Rattle.cyc_replay.specs.Replay.{HasReplayed};
 
 /// The conservation theorem of the machine that all steps of a script led to, as `put_steps` says of its own: the machine's
 /// cyclics got free indexes; at each soft level of each of its CPUs each event of its run was enabled when it happened, and the
@@ -12,6 +12,6 @@ ghost use Rattle.cyc_replay.specs.Replay.{HasRun};
 ///
 /// It does nothing when it runs: its clause is the law.
 pub fn runs_are_sound()
-    ensures { (script : Script) (m : Machine) → Runs script.cpus script.ceiling (names_of script) script.steps.items m
-        → HasRun script m }
+    ensures { (script : Script) (m : Machine) → RunsTo script.cpus script.ceiling (names_of script) script.steps.items m
+        → HasReplayed script m }
 {}

@@ -1,12 +1,24 @@
 //! The line of each step.
 
-ghost use Rattle.std.specs.Prelude.{◌≡◌, ◌≢◌, OnOk, OnErr, IfErr, string_bytes, Err};
+ghost use Rattle.std.specs.Prelude.{◌≡◌, ◌≢◌, map, OnOk, OnErr, IfErr, string_bytes, Err};
 ghost use Rattle.cyc_types.specs.declared.refusal.Refusal.TheVariants.{Memory};
 ghost use Rattle.cyc_text.specs.Status.{IsMemory};
+ghost use Rattle.cyc_model.specs.Script.{text_in};
 ghost use Rattle.cyc_replay.specs.Words.{answer_line};
 
 use cyc_text::{RunFault, write_accepted, write_refused};
 use cyc_types::Refusal;
+
+/// The text of a name.
+pub(crate) fn name_text(names: &[String], name: usize) -> &str
+    ensures { result.now ≡ text_in (map string_bytes names.now) name }
+{
+    if name < names.len() {
+        names[name].as_str()
+    } else {
+        ""
+    }
+}
 
 /// Replaces the line by that of a step which says no more than whether it was done. Where memory was refused the run is.
 pub fn write_answer(

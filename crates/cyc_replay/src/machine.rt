@@ -1,19 +1,12 @@
 //! The machine that runs a script: a clock, a system of CPUs, and the tally that counts the handlers' calls.
 
-ghost use Rattle.std.specs.Prelude.{◌≡◌, ◌-◌, ◌+◌, ◌<◌, slice_set, Some};
-ghost use Rattle.cyc_replay.specs.Machine.{id_at, name_at, counted_at};
+ghost use Rattle.std.specs.Prelude.{◌≡◌, ◌-◌, ◌+◌, ◌<◌, slice_set};
+ghost use Rattle.cyc_replay.specs.Machine.{id_of_named, name_at};
 
 use cyc_core::LevelCore;
 use cyc_system::System;
 use cyc_types::{CyclicId, Moment, Tally};
-
-/// What a removal counted of its cyclic.
-#[derive(Clone, Copy, Drop)]
-pub struct Counted {
-    pub expired: u128,
-    /// Those of them that were lost at the ceiling.
-    pub lost: u128,
-}
+use cyc_words::{Named, Names};
 
 /// The machine between two steps.
 #[derive(Drop)]
@@ -22,22 +15,21 @@ pub struct Machine {
     pub system: System<LevelCore>,
     /// The calls of each id's handler.
     pub tally: Tally,
-    /// The id of each name, where an add of it was accepted. A name keeps its id after the removal.
-    pub names: Vec<Option<CyclicId>>,
-    /// What the removal of each name's cyclic counted, once it has answered.
-    pub counted: Vec<Counted>,
+    /// What each name has.
+    pub names: Names,
     /// The number of the name that each id was given to: that of the id 1 stands first.
     pub named: Vec<usize>,
 }
 
-/// The id of a name. None where no add of it was accepted.
-pub fn id_of(names: &[Option<CyclicId>], name: usize) -> Option<CyclicId>
-    ensures { result ≡ id_at names.now name }
+/// The id that a name has, or had until its removal answered. None where no add of it was accepted.
+pub fn id_in(named: Named) -> Option<CyclicId>
+    ensures { result ≡ id_of_named named }
 {
-    if name < names.len() {
-        names[name]
-    } else {
-        None
+    match named {
+        Named::Nothing => None,
+        Named::Cyclic(id) => Some(id),
+        Named::Leaving(id) => Some(id),
+        Named::Removed(receipt) => Some(receipt.id),
     }
 }
 
@@ -45,34 +37,11 @@ pub fn id_of(names: &[Option<CyclicId>], name: usize) -> Option<CyclicId>
 pub fn name_of(named: &[usize], id: CyclicId) -> usize
     ensures { result ≡ name_at named.now id }
 {
-    let place = id.number() - 1;
-    if place < named.len() as u64 {
-        named[place as usize]
+    let position = id.number() - 1;
+    if position < named.len() as u64 {
+        named[position as usize]
     } else {
         0
-    }
-}
-
-/// What the removal of a name's cyclic counted.
-pub fn counted_of(counted: &[Counted], name: usize) -> Counted
-    ensures { result ≡ counted_at counted.now name }
-{
-    if name < counted.len() {
-        counted[name]
-    } else {
-        Counted {
-            expired: 0,
-            lost: 0,
-        }
-    }
-}
-
-/// The name has this id, where there is such a name.
-pub fn set_id(names: &mut Vec<Option<CyclicId>>, name: usize, id: CyclicId)
-    ensures { names.new.items ≡ slice_set names.old.items name (Some id) }
-{
-    if name < names.len() {
-        names[name] = Some(id);
     }
 }
 
@@ -80,17 +49,8 @@ pub fn set_id(names: &mut Vec<Option<CyclicId>>, name: usize, id: CyclicId)
 pub fn set_name(named: &mut Vec<usize>, id: CyclicId, name: usize)
     ensures { named.new.items ≡ slice_set named.old.items (id - 1) name }
 {
-    let place = id.number() - 1;
-    if place < named.len() as u64 {
-        named[place as usize] = name;
-    }
-}
-
-/// The removal of the name's cyclic has counted this, where there is such a name.
-pub fn set_counted(counted: &mut Vec<Counted>, name: usize, one: Counted)
-    ensures { counted.new.items ≡ slice_set counted.old.items name one }
-{
-    if name < counted.len() {
-        counted[name] = one;
+    let position = id.number() - 1;
+    if position < named.len() as u64 {
+        named[position as usize] = name;
     }
 }

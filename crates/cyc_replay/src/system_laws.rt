@@ -21,17 +21,17 @@ ghost use Rattle.cyc_script.specs.declared.step.Omni.{Omni as OmniStep};
 ghost use Rattle.cyc_script.specs.declared.step.Reprogram.{Reprogram as ReprogramStep};
 ghost use Rattle.cyc_script.specs.declared.step.Softint.{Softint as SoftintStep};
 ghost use Rattle.cyc_script.specs.declared.step.Step.TheVariants as steps;
-ghost use Rattle.cyc_system.specs.declared.interrupting.SoftFault.{SoftFault};
-ghost use Rattle.cyc_system.specs.declared.interrupting.SoftFault.TheVariants as fault;
+ghost use Rattle.cyc_system.specs.declared.system.SoftFault.{SoftFault};
+ghost use Rattle.cyc_system.specs.declared.system.SoftFault.TheVariants as fault;
 ghost use Rattle.cyc_system.specs.System.{SystemView, RunningSystem, is_online};
 ghost use Rattle.cyc_system.specs.Agreement.{Agrees, most_on};
 ghost use Rattle.cyc_system.specs.Calls.{SystemCall, Changes, Does, Add, AddOmni, Bind, BeginRemove, PollRemove, AskTotals};
 ghost use Rattle.cyc_system.specs.Calls.{Juggle, Offline, Online, FireOne, SoftInterrupt, Suspend, Resume, no_fire, reprograms};
 ghost use Rattle.cyc_agreement.specs.Suspending.{is_suspended};
 ghost use Rattle.cyc_model.specs.State.{State, each};
-ghost use Rattle.cyc_model.specs.Places.{id_of, is_unknown};
+ghost use Rattle.cyc_model.specs.Places.{id_of, is_no_cyclic};
 ghost use Rattle.cyc_types.specs.Reasons.{first_refusal};
-ghost use Rattle.cyc_model.specs.Refusals.{no_cpu, offline_cpu};
+ghost use Rattle.cyc_model.specs.Refusals.{is_no_cpu, cpu_is_offline};
 ghost use Rattle.cyc_model.specs.Script.{start};
 ghost use Rattle.cyc_model.specs.Softint.{softint_refusal};
 ghost use Rattle.cyc_types.specs.declared.receipt.Receipt.{Receipt};
@@ -40,11 +40,11 @@ ghost use Rattle.cyc_system.specs.SystemTotals.{SystemTotals};
 ghost use Rattle.cyc_model.specs.Softint.{interrupt, text_of_id, poll_id, leaving_ids};
 ghost use Rattle.cyc_model.specs.Report.{counts_of};
 ghost use Rattle.cyc_model.specs.Questions.{plain};
-ghost use Rattle.cyc_replay.specs.Removal.{told_by, told_in, answer_line, IsRemoved, IsKept, HavePolled, leaving_in};
+ghost use Rattle.cyc_replay.specs.Removal.{told_by_receipt, told_in, answer_line, IsRemovedAtOnce, IsKept, HavePolled, leaving_in};
 ghost use Rattle.cyc_replay.specs.Removal.{IsInterrupted};
 ghost use Rattle.cyc_replay.specs.Room.{HaveRoomFor};
 ghost use Rattle.cyc_replay.specs.Shown.{ShowsSystem, IsSystem};
-ghost use Rattle.cyc_replay.specs.Kept.{AreNew, new_system, LeavesMark};
+ghost use Rattle.cyc_replay.specs.Kept.{LevelsAreNew, new_system, LeavesMark};
 ghost use Rattle.cyc_replay.specs.Running.{IsFired, IsServed};
 ghost use Rattle.cyc_replay.specs.SystemAdvancing.{at_clock, fired_and_lost, HasFired, IsAdvanced};
 ghost use Rattle.cyc_replay.specs.SystemWords.{IsSeries, IsMoment, IsDone, IsDoneWith, IsRefusedFor, IsAtOnce};
@@ -55,7 +55,7 @@ use cyc_types::Calls;
 ///
 /// It does nothing when it runs: its clause is the law.
 pub fn begin_law()
-    ensures { (most ceiling names : ℕ) (ends : List (Tables × Tables)) → AreNew ceiling ends → Agrees (new_system most ends)
+    ensures { (most ceiling names : ℕ) (ends : List (Tables × Tables)) → LevelsAreNew ceiling ends → Agrees (new_system most ends)
         → IsSystem (new_system most ends) × ShowsSystem (start (length ends) ceiling names) (new_system most ends) }
 {}
 
@@ -150,7 +150,7 @@ pub fn unbind_law()
 /// It does nothing when it runs: its clauses are the law.
 pub fn remove_law()
     ensures answered { (name : ℕ) (receipt : Receipt) (s : State) (v w : SystemView Tables) → IsSystem v → ShowsSystem s v
-        → Changes raise_tables v (BeginRemove (id_of name s) (Ok (removal.Done receipt))) w → IsRemoved name receipt s w }
+        → Changes raise_tables v (BeginRemove (id_of name s) (Ok (removal.Done receipt))) w → IsRemovedAtOnce name receipt s w }
     ensures kept { (name waits : ℕ) (s : State) (v w : SystemView Tables) → IsSystem v → ShowsSystem s v
         → Changes raise_tables v (BeginRemove (id_of name s) (Ok (removal.Kept waits))) w → IsKept name waits s w }
     ensures refused { (name : ℕ) (e : Refusal) (s : State) (v w : SystemView Tables) → IsSystem v → ShowsSystem s v
@@ -235,11 +235,11 @@ pub fn fire_law<C: Calls>()
         → Does C.Calls raise_tables no_interrupts s (FireOne n m.clock (Ok fired)) t
         → IsFired C.count n fired m s t }
     ensures refused { (n now : ℕ) (e : Refusal) (answer : Result Fired FireRefused) (m : State) (s t : RunningSystem C Tables)
-        → IsSystem s.system → ShowsSystem m s.system → first_refusal (no_cpu n m ∷ offline_cpu n m ∷ []) ≡ Some e
+        → IsSystem s.system → ShowsSystem m s.system → first_refusal (is_no_cpu n m ∷ cpu_is_offline n m ∷ []) ≡ Some e
         → Does C.Calls raise_tables no_interrupts s (FireOne n now answer) t
         → (answer ≡ Err (no_fire e)) × (t ≡ s) }
     ensures suspended { (n now : ℕ) (answer : Result Fired FireRefused) (m : State) (s t : RunningSystem C Tables)
-        → IsSystem s.system → ShowsSystem m s.system → first_refusal (no_cpu n m ∷ offline_cpu n m ∷ []) ≡ None
+        → IsSystem s.system → ShowsSystem m s.system → first_refusal (is_no_cpu n m ∷ cpu_is_offline n m ∷ []) ≡ None
         → is_suspended s.system ≡ true
         → Does C.Calls raise_tables no_interrupts s (FireOne n now answer) t
         → (answer ≡ Err (no_fire why.Suspended)) × (t ≡ s) }
@@ -261,7 +261,8 @@ pub fn advance_law<C: Calls>()
         → HasFired C.count n (fired_and_lost expired lost) m s t → is_online n t.system.cpus ≡ false
         → HasFired C.count (n + 1) (fired_and_lost expired lost) m s t }
     ensures ends { (now n expired lost : ℕ) (m : State) (s t : RunningSystem C Tables) → n ≡ length m.cpus
-        → HasFired C.count n (fired_and_lost expired lost) (at_clock now m) s t → IsAdvanced C.count now expired lost m s t }
+        → HasFired C.count n (fired_and_lost expired lost) (at_clock now m) s t
+        → IsAdvanced C.count now (fired_and_lost expired lost) m s t }
 {}
 
 /// A `softint` of a system that no handler stops is what the word `softint` does before it polls removals; or both are refused.
@@ -291,7 +292,7 @@ pub fn poll_law<C: Calls>()
     ensures counts { (texts : List (List ℕ)) (step : ℕ) (ids lines : List ℕ) (id : ℕ) (receipt : Receipt) (m : State)
         (v w : SystemView Tables) → IsSystem v → HavePolled texts step ids lines m v
         → Changes raise_tables v (PollRemove id (Ok (Some receipt))) w
-        → counts_of id (each (poll_id plain texts step) (ids ++ id ∷ []) m).state ≡ told_by receipt (m.called id) }
+        → counts_of id (each (poll_id plain texts step) (ids ++ id ∷ []) m).state ≡ told_by_receipt receipt (m.called id) }
     ensures leaving { (m : State) (v : SystemView Tables) → IsSystem v → ShowsSystem m v → leaving_ids m ≡ leaving_in v }
     ensures ends { (texts : List (List ℕ)) (step : ℕ) (i : SoftintStep) (ran : Ran) (lines : List ℕ) (m : State)
         (s t : RunningSystem C Tables) (w : SystemView Tables) → IsServed C.count i ran m s t
@@ -308,5 +309,5 @@ pub fn report_law()
         → Changes raise_tables v (AskTotals id (Some totals)) w → ShowsSystem m w
         × (counts_of id m ≡ told_in totals (m.called id)) }
     ensures none { (id : ℕ) (m : State) (v w : SystemView Tables) → IsSystem v → ShowsSystem m v
-        → Changes raise_tables v (AskTotals id None) w → (is_unknown id m ≡ true) × (w ≡ v) }
+        → Changes raise_tables v (AskTotals id None) w → (is_no_cyclic id m ≡ true) × (w ≡ v) }
 {}

@@ -7,7 +7,7 @@ use native.Mathlib.Decide.{ℕ_discrete}
 use Rattle.ring_rule.specs.declared.RaiseStep.{RaiseStep}
 use Rattle.ring_rule.specs.declared.RaiseStep.TheVariants.{Admitted, Loaded, Lost, Added, Cleared}
 use Rattle.cyc_level.specs.Runs.{StayCounts, stay_calls, one_more}
-use Rattle.ring_rule.specs.Trail.{open_stay, ended_calls, raises_of, losses_of}
+use Rattle.ring_rule.specs.Trail.{open_stay, ended_calls, raises_of, losses_on_trail}
 use Rattle.cyc_ring.specs.Views.{IsBalanced, IsSeenSound}
 
 abbrev Even : ℕ → Option StayCounts → ℕ → ℕ → Type 0
@@ -48,19 +48,20 @@ to_id id a P e p = dite (ℕ_discrete id a) (λ q. subst P (sym q) p) (λ ne. le
 
 module _ (t : List RaiseStep) (B : IsBalanced t) where
   pub balanced_admitted : (a i : ℕ) → open_stay a t ≡ None → IsBalanced (Admitted a i ∷ t)
-  balanced_admitted a i none id = admits (eqb id a) (ended_calls id t) (losses_of id t) (raises_of id t) i (open_stay id t)
+  balanced_admitted a i none id = admits (eqb id a) (ended_calls id t) (losses_on_trail id t) (raises_of id t) i (open_stay id t)
       (λ e. to_id id a (λ x. open_stay x t ≡ None) e none) (B id)
 
   pub balanced_added : (c a n before : ℕ) → IsSeenSound c t → open_stay a t ≢ None → IsBalanced (Added a n ∷ Loaded a before ∷ t)
-  balanced_added c a n before S some id = adds (eqb id a) (ended_calls id t) (losses_of id t) (raises_of id t) (open_stay id t)
+  balanced_added c a n before S some id = adds (eqb id a) (ended_calls id t) (losses_on_trail id t) (raises_of id t) (open_stay
+      id t)
       (within (open_stay id t) (λ s e. let x = (S id s e).1 in omega (arith, x)))
       (λ e. to_id id a (λ x. open_stay x t ≢ None) e some) (B id)
 
   pub balanced_lost : (a n : ℕ) → IsBalanced (Lost a n ∷ t)
-  balanced_lost a n id = loses (eqb id a) (ended_calls id t) (losses_of id t) (raises_of id t) (open_stay id t) (B id)
+  balanced_lost a n id = loses (eqb id a) (ended_calls id t) (losses_on_trail id t) (raises_of id t) (open_stay id t) (B id)
 
   pub balanced_cleared : (a : ℕ) → IsBalanced (Cleared a ∷ t)
-  balanced_cleared a id = clears (eqb id a) (ended_calls id t) (losses_of id t) (raises_of id t) (open_stay id t) (B id)
+  balanced_cleared a id = clears (eqb id a) (ended_calls id t) (losses_on_trail id t) (raises_of id t) (open_stay id t) (B id)
 
 pub balanced_none : IsBalanced []
 balanced_none id = refl

@@ -12,7 +12,7 @@ use Rattle.ring_rule.specs.declared.SeatView.{SeatView}
 use Rattle.ring_rule.specs.declared.Setting.{Setting}
 use Rattle.ring_rule.specs.Words.{pend_word, mark_bit}
 use Rattle.ring_rule.specs.Trail.{open_stay, marked_of, made_calls, ended_calls}
-use Rattle.ring_rule.specs.Log.{RingStep, raise_side, drain_side, events_of, level_after, replay}
+use Rattle.ring_rule.specs.Log.{RingStep, raise_side, drain_side, events_of, level_after_steps, replay}
 use Rattle.ring_rule.specs.Rule.{joint_view, HasRaises, HasDrains, HasItsTrail}
 use Rattle.ring_rule.specs.Conservation.{LevelStands, AllStood}
 use Rattle.ring_rule.proofs.Stays.{behind, not_held}
@@ -26,7 +26,7 @@ module _ (k : Setting) (small : k.ceiling < 2 ^ 32) (log : List RingStep) (L : L
   id = get_or ids i 0
 
   abbrev l : SoftLevel
-  l = level_after k.ceiling log
+  l = level_after_steps k.ceiling log
 
   abbrev words : List ℕ
   words = replay k.start log

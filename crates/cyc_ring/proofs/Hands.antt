@@ -4,7 +4,7 @@ use Rattle.std.specs.Prelude.{Option, Some, None, IsSome}
 use Rattle.cyc_level.specs.Events.{hand_after_finish}
 use Rattle.ring_rule.specs.declared.DrainStep.{DrainStep}
 use Rattle.ring_rule.specs.declared.DrainStep.TheVariants.{LoadedHardBank, LoadedProducer, Took, Followed, Subtracted}
-use Rattle.ring_rule.specs.Trail.{held_entry, made_calls, id_in, drainer_hand_of}
+use Rattle.ring_rule.specs.Trail.{held_entry, made_calls, id_in_entry, drainer_hand_of}
 use Rattle.cyc_ring.specs.Rows.{entry_in_hand}
 use Rattle.cyc_types.specs.Draining.{Takes}
 use Rattle.cyc_ring.specs.Steps.{AreFollows, DrainSteps}
@@ -70,16 +70,16 @@ module _ (start : ℕ) (t : List DrainStep) where
   pub hand_take : (steps : List DrainStep) (answer : Option ℕ) → held_entry t ≡ None → DrainSteps start t (Takes answer) steps
       → drainer_hand_of (steps ++ t) ≡ answer
   hand_take steps None bare f = ap (λ (l : List DrainStep). drainer_hand_of (l ++ t)) f.2.4
-      ∙ (ap id_in (held_follows f.0 f.1) ∙ ap id_in bare)
+      ∙ (ap id_in_entry (held_follows f.0 f.1) ∙ ap id_in_entry bare)
   hand_take steps (Some x) bare f = ap (λ (l : List DrainStep). drainer_hand_of (l ++ t)) f.2.5 ∙ ap Some (sym f.2.4)
 
-bare_of : (o : Option ℕ) → id_in o ≡ None → o ≡ None
+bare_of : (o : Option ℕ) → id_in_entry o ≡ None → o ≡ None
 bare_of None e = refl
 bare_of (Some x) e = absurd (cc)
 
 pub bare_held : (t : List DrainStep) → drainer_hand_of t ≡ None → held_entry t ≡ None
 bare_held t e = bare_of (held_entry t) e
 
-pub full_hand : (n : ℕ) → IsSome (id_in (entry_in_hand n)) → ¬ (n ≡ 0)
+pub full_hand : (n : ℕ) → IsSome (id_in_entry (entry_in_hand n)) → ¬ (n ≡ 0)
 full_hand zero some e = absurd (cc)
 full_hand (suc n) some e = absurd (cc)

@@ -19,7 +19,7 @@ use Rattle.ring_rule.specs.Words.{index_range, entry}
 use Rattle.cyc_level.specs.Runs.{StayCounts, one_more}
 use Rattle.ring_rule.specs.Trail.{producer_index, open_stay, seen_pend, firer_hand_of, hard_bank_of, has_followed}
 use Rattle.cyc_ring.specs.Rows.{HoldsStays}
-use Rattle.cyc_ring.specs.Views.{stay_with, firing_view, IsSeenSound}
+use Rattle.cyc_ring.specs.Views.{stay_with, trail_view, IsSeenSound}
 use Rattle.cyc_ring.specs.Steps.{RaiseSteps}
 
 by_id : (id : ℕ) (P : Bool → ℕ → Type 0) → P true id → ((j : ℕ) → j ≢ id → P false j) → (j : ℕ) → P (eqb j id) j
@@ -76,27 +76,27 @@ cleared_stay true x m o = refl
 cleared_stay false x m o = refl
 
 module _ (c : ℕ) (t : List RaiseStep) where
-  seen_is : (id : ℕ) (st : StayCounts) → open_stay id t ≡ Some st → seen_of id (firing_view c t) ≡ seen_pend id t
+  seen_is : (id : ℕ) (st : StayCounts) → open_stay id t ≡ Some st → seen_of id (trail_view c t) ≡ seen_pend id t
   seen_is id st is = subst (λ (o : Option StayCounts). seen_in (stay_with (seen_pend id t) o) ≡ seen_pend id t) (sym is) refl
 
-  pub learns_admits : (id index : ℕ) → Learns (firing_view c t) (Admits id index) (firing_view c (Admitted id index ∷ t))
-  learns_admits id index = λ z. record (firing_view c t) {
+  pub learns_admits : (id index : ℕ) → Learns (trail_view c t) (Admits id index) (trail_view c (Admitted id index ∷ t))
+  learns_admits id index = λ z. record (trail_view c t) {
     stays =
         λ j. admitted_stay (eqb j id) index (seen_pend j t) (open_stay j t) z;
   }
 
   pub learns_loads : (id found : ℕ) (st : StayCounts) → open_stay id t ≡ Some st → found % 2 ^ 32 ≤ seen_pend id t
-      → Learns (firing_view c t) (Loads id (found % 2 ^ 32)) (firing_view c (Loaded id found ∷ t))
+      → Learns (trail_view c t) (Loads id (found % 2 ^ 32)) (trail_view c (Loaded id found ∷ t))
   learns_loads id found st is low = (
     (let e = seen_is id st is in omega (arith, e, low)),
-    λ z. record (firing_view c t) { stays = λ j. loaded_stay (eqb j id) (found % 2 ^ 32) (seen_pend j t) (open_stay j t) z },
+    λ z. record (trail_view c t) { stays = λ j. loaded_stay (eqb j id) (found % 2 ^ 32) (seen_pend j t) (open_stay j t) z },
   )
 
   pub learns_lost : (id : ℕ) (st : StayCounts) → open_stay id t ≡ Some st → IsSeenSound c t → c ≤ seen_pend id t
-      → Learns (firing_view c t) (Raises id answers.Lost) (firing_view c (Lost id c ∷ t))
+      → Learns (trail_view c t) (Raises id answers.Lost) (trail_view c (Lost id c ∷ t))
   learns_lost id st is S full = (
     (let e = seen_is id st is in let s = S id st is in let top = s.0 in omega (arith, e, top, full)),
-    λ z. record (firing_view c t) { stays = λ j. lost_stay (eqb j id) c (seen_pend j t) (open_stay j t) z },
+    λ z. record (trail_view c t) { stays = λ j. lost_stay (eqb j id) c (seen_pend j t) (open_stay j t) z },
   )
 
   up_none : (n id : ℕ) (h : Option ℕ) → 0 < n → hand_after_expire n id h ≡ h
@@ -105,13 +105,13 @@ module _ (c : ℕ) (t : List RaiseStep) where
 
   pub learns_more : (id before found : ℕ) (st : StayCounts) → open_stay id t ≡ Some st → before < c → before ≤ seen_pend id t
       → 0 < found → found ≤ before
-      → Learns (firing_view c t) (Raises id answers.More) (firing_view c (Added id found ∷ Loaded id before ∷ t))
+      → Learns (trail_view c t) (Raises id answers.More) (trail_view c (Added id found ∷ Loaded id before ∷ t))
   learns_more id before found st is below low some under = (
     found,
     some,
     omega (arith, under, below),
     (let e = seen_is id st is in omega (arith, e, low, under)),
-    λ z. record (firing_view c t) {
+    λ z. record (trail_view c t) {
       stays = λ j. expired_stay (eqb j id) found (before % 2 ^ 32) (seen_pend j t)
           (open_stay j t) z;
       hand_free = is_none (up_none found id (firer_hand_of t) some z);
@@ -119,19 +119,19 @@ module _ (c : ℕ) (t : List RaiseStep) where
   )
 
   pub learns_first : (id before entry next : ℕ) → firer_hand_of t ≡ None
-      → Learns (firing_view c t) (Raises id answers.First)
-      (firing_view c (Published next ∷ Stored entry ∷ Added id 0 ∷ Loaded id before ∷ t))
+      → Learns (trail_view c t) (Raises id answers.First)
+      (trail_view c (Published next ∷ Stored entry ∷ Added id 0 ∷ Loaded id before ∷ t))
   learns_first id before entry next bare =
-      λ z. record (firing_view c t) {
+      λ z. record (trail_view c t) {
         stays = λ j. expired_stay (eqb j id) 0 (before % 2 ^ 32) (seen_pend j t) (open_stay j t) z;
         hand_free = is_none (sym bare z);
       }
 
   pub learns_marks : (id pend : ℕ) (st : StayCounts) → open_stay id t ≡ Some st → pend ≤ seen_pend id t
-      → Learns (firing_view c t) (Marks id pend) (firing_view c (Marked id pend ∷ t))
+      → Learns (trail_view c t) (Marks id pend) (trail_view c (Marked id pend ∷ t))
   learns_marks id pend st is low = (
     (let e = seen_is id st is in omega (arith, e, low)),
-    λ z. record (firing_view c t) {
+    λ z. record (trail_view c t) {
       stays = λ j. loaded_stay (eqb j id) pend (seen_pend j t) (open_stay j t) z;
       marked =
           Some id;
@@ -139,25 +139,25 @@ module _ (c : ℕ) (t : List RaiseStep) where
   )
 
   pub learns_kept : (id found : ℕ) (st : StayCounts) → open_stay id t ≡ Some st → 0 < found % 2 ^ 32
-      → found % 2 ^ 32 ≤ seen_pend id t → Learns (firing_view c t) (Polls id None) (firing_view c (Loaded id found ∷ t))
+      → found % 2 ^ 32 ≤ seen_pend id t → Learns (trail_view c t) (Polls id None) (trail_view c (Loaded id found ∷ t))
   learns_kept id found st is some low = let l = learns_loads id found st is low in (found % 2 ^ 32, some, l.0, l.1)
 
   pub learns_cleared : (id found : ℕ) (st : StayCounts) → open_stay id t ≡ Some st
-      → Learns (firing_view c t) (Polls id (Some record { sent = st.sent; lost = st.lost }))
-      (firing_view c (Cleared id ∷ Loaded id found ∷ t))
+      → Learns (trail_view c t) (Polls id (Some record { sent = st.sent; lost = st.lost }))
+      (trail_view c (Cleared id ∷ Loaded id found ∷ t))
   learns_cleared id found st is = (
     ap (λ (o : Option StayCounts). sent_in (stay_with (seen_pend id t) o)) is,
-    λ z. record (firing_view c t) {
+    λ z. record (trail_view c t) {
       stays = λ j. cleared_stay (eqb j id) (found % 2 ^ 32) (seen_pend j t) (open_stay j t) z;
       marked = None;
     },
   )
 
-  pub learns_expands : (bank : ℕ) → Learns (firing_view c t) (Expands bank) (firing_view c (Switched bank ∷ t))
+  pub learns_expands : (bank : ℕ) → Learns (trail_view c t) (Expands bank) (trail_view c (Switched bank ∷ t))
   learns_expands bank = refl
 
   pub learns_looks : (found : ℕ) → (has_followed t ≡ true → found ≡ hard_bank_of t)
-      → Learns (firing_view c t) (Looks (eqb found (hard_bank_of t))) (firing_view c (LoadedSoftBank found ∷ t))
+      → Learns (trail_view c t) (Looks (eqb found (hard_bank_of t))) (trail_view c (LoadedSoftBank found ∷ t))
   learns_looks found even = ((λ e. eq-eqb found (hard_bank_of t) (even e)), refl)
 
   -- the trail stays sound
@@ -240,11 +240,11 @@ was_known n (Some st) s e = let same = some_same record { index = st.index; sent
 )
 
 module _ (c : ℕ) (t : List RaiseStep) where
-  pub admitted_stay_of : (id : ℕ) (s : Known) → (firing_view c t).stays id ≡ Some s → (st : StayCounts)
+  pub admitted_stay_of : (id : ℕ) (s : Known) → (trail_view c t).stays id ≡ Some s → (st : StayCounts)
       × (open_stay id t ≡ Some st) × (st.index ≡ s.index) × (st.sent ≡ s.sent) × (st.lost ≡ s.lost) × (seen_pend id t ≡ s.seen)
   admitted_stay_of id s e = was_known (seen_pend id t) (open_stay id t) s e
 
-  pub not_admitted : (id : ℕ) → (firing_view c t).stays id ≡ None → open_stay id t ≡ None
+  pub not_admitted : (id : ℕ) → (trail_view c t).stays id ≡ None → open_stay id t ≡ None
   not_admitted id e = at (open_stay id t) e
     where
       at : (o : Option StayCounts) → stay_with (seen_pend id t) o ≡ None → o ≡ None
@@ -252,7 +252,7 @@ module _ (c : ℕ) (t : List RaiseStep) where
       at (Some s) e = absurd (cc)
 
   pub sound_view : IsSeenSound c t → ((a b : ℕ) (s u : StayCounts) → open_stay a t ≡ Some s → open_stay b t ≡ Some u
-      → s.index ≡ u.index → a ≡ b) → hard_bank_of t ≤ greatest_bank → 0 < c → Sound (firing_view c t)
+      → s.index ≡ u.index → a ≡ b) → hard_bank_of t ≤ greatest_bank → 0 < c → Sound (trail_view c t)
   sound_view S one most some = record {
     some_ceiling = some;
     capped = λ id s e. let w = admitted_stay_of id s e in let x = S id w.0 w.1 in let a = x.0 in let b = w.5 in
@@ -270,7 +270,7 @@ module _ (c : ℕ) (t : List RaiseStep) where
 module _ (k : Setting) (t t' steps : List RaiseStep) (gained : t' ≡ steps ++ t) (id : ℕ) (st : StayCounts)
     (is : open_stay id t ≡ Some st) (S : IsSeenSound k.ceiling t) (bare : firer_hand_of t ≡ None) where
   abbrev V : List RaiseStep → FiringView
-  V = firing_view k.ceiling
+  V = trail_view k.ceiling
 
   same : (xs : List RaiseStep) → steps ≡ xs → xs ++ t ≡ t'
   same xs e = ap (λ (l : List RaiseStep). l ++ t) (sym e) ∙ sym gained
@@ -284,7 +284,7 @@ module _ (k : Setting) (t t' steps : List RaiseStep) (gained : t' ≡ steps ++ t
       (learns_first k.ceiling t id f.0 (entry id (f.1).index) ((producer_index k.start t + 1) % index_range) bare)
 
 module _ (c : ℕ) (ids sent lost : List ℕ) (t : List RaiseStep) (F : HoldsStays ids sent lost t) (id : ℕ) (P : Known → Type 0)
-    (a : IsAdmitted id (firing_view c t) P) where
+    (a : IsAdmitted id (trail_view c t) P) where
   pub the_stay : (st : StayCounts) × (open_stay id t ≡ Some st) × (st.index ≡ (a.0).index) × (st.sent ≡ (a.0).sent)
       × (st.lost ≡ (a.0).lost) × (seen_pend id t ≡ (a.0).seen)
   the_stay = admitted_stay_of c t id a.0 a.1
@@ -293,7 +293,7 @@ module _ (c : ℕ) (ids sent lost : List ℕ) (t : List RaiseStep) (F : HoldsSta
   has_index = let w = the_stay in let o = F.only id w.0 w.1 in ((w.0).index, o.0, o.1)
 
 pub free_index : (c : ℕ) (ids sent lost : List ℕ) (t : List RaiseStep) → HoldsStays ids sent lost t → (i : ℕ) → i < cyclics
-    → ((j : ℕ) (s : Known) → (firing_view c t).stays j ≡ Some s → ¬ (s.index ≡ i)) → get_or ids i 0 ≡ 0
+    → ((j : ℕ) (s : Known) → (trail_view c t).stays j ≡ Some s → ¬ (s.index ≡ i)) → get_or ids i 0 ≡ 0
 free_index c ids sent lost t F i low unused = dite (ℕ_discrete (get_or ids i 0) 0) (λ e. e)
     (λ ne. absurd (unused (get_or ids i 0) record {
       index = i;
@@ -304,7 +304,7 @@ free_index c ids sent lost t F i low unused = dite (ℕ_discrete (get_or ids i 0
     } (ap (stay_with (seen_pend (get_or ids i 0) t)) (F.used i low ne)) refl))
 
 pub sound_seat : (c : ℕ) (ids sent lost : List ℕ) (t : List RaiseStep) → HoldsStays ids sent lost t → IsSeenSound c t
-    → hard_bank_of t ≤ greatest_bank → 0 < c → Sound (firing_view c t)
+    → hard_bank_of t ≤ greatest_bank → 0 < c → Sound (trail_view c t)
 sound_seat c ids sent lost t F S most some =
     sound_view c t S (λ a b s u e f i. let x = F.only a s e in let y = F.only b u f in sym x.1
     ∙ (ap (λ (n : ℕ). get_or ids n 0) i ∙ y.1)) most some

@@ -10,7 +10,7 @@ use Rattle.std.specs.List.{FoldsTo}
 use Rattle.cyc_types.specs.Counting.{times, one_at}
 use Rattle.cyc_types.specs.Firing.{FiringCall, Admits, Loads, Raises, Marks, Polls, Expands, Looks}
 use Rattle.cyc_types.specs.Draining.{DrainCall, Takes, Finishes}
-use Rattle.cyc_types.specs.Runs.{Taught, raised_by, lost_by, finished_by, raises_of as raise_in, losses_of as loss_in}
+use Rattle.cyc_types.specs.Runs.{Taught, raised_by, lost_by, finished_by, raises_in_call as raise_in, losses_in_call as loss_in}
 use Rattle.cyc_types.specs.declared.firing.Raised.TheVariants as answers
 use Rattle.cyc_level.specs.Level.{AdmittedCyclic, in_hand}
 use Rattle.cyc_level.specs.Runs.{StayCounts}
@@ -19,14 +19,22 @@ use Rattle.ring_rule.specs.declared.DrainStep.{DrainStep}
 use Rattle.ring_rule.specs.declared.DrainStep.TheVariants.{LoadedProducer, LoadedHardBank}
 use Rattle.ring_rule.specs.declared.Setting.{Setting}
 use Rattle.ring_rule.specs.Words.{index_range}
-use Rattle.ring_rule.specs.Trail.{raises_of, losses_of, made_calls, drainer_hand_of, id_in, consumer_index, soft_bank_of}
+use Rattle.ring_rule.specs.Trail.{
+  raises_of,
+  losses_on_trail,
+  made_calls,
+  drainer_hand_of,
+  id_in_entry,
+  consumer_index,
+  soft_bank_of,
+}
 use Rattle.ring_rule.specs.Trail.{open_stay, ended_calls}
-use Rattle.ring_rule.specs.Log.{raise_side, drain_side, level_after}
+use Rattle.ring_rule.specs.Log.{raise_side, drain_side, level_after_steps}
 use Rattle.ring_rule.specs.Shown.{IsSameStay}
 use Rattle.cyc_ring.specs.Steps.{RaiseSteps, DrainSteps}
 use Rattle.cyc_ring.specs.Ends.{raise_trail, drain_trail, raise_end, DrainEndCall, IsSameRaiseSeat, IsSameDrainSeat}
 use Rattle.cyc_ring.specs.Ends.{end_made}
-use Rattle.cyc_ring.specs.Laws.{RaiseWaysAddUp, DrainWaysAddUp, IdleIsFound, NothingFollowsRemoval, IsQuiet}
+use Rattle.cyc_ring.specs.Laws.{RaiseWaysAddUp, DrainWaysAddUp, IdleIsFound, NoFinishFollowsRemoval, IsQuiet}
 use Rattle.cyc_ring.specs.Laws.{QuietCallsRaiseNothing, EndsKeepTheirCeiling}
 use Rattle.cyc_ring.specs.declared.ends.RaiseEnd.{RaiseEnd}
 use Rattle.cyc_ring.specs.declared.ends.DrainEnd.{DrainEnd}
@@ -37,74 +45,75 @@ module _ (k : Setting) (t : List RaiseStep) (id : ℕ) where
   -- the steps of a call have its raise and its loss
   pub call_adds : (call : FiringCall) (steps : List RaiseStep) → RaiseSteps k t call steps
       → (raises_of id (steps ++ t) ≡ raises_of id t + raise_in id call)
-      × (losses_of id (steps ++ t) ≡ losses_of id t + loss_in id call)
+      × (losses_on_trail id (steps ++ t) ≡ losses_on_trail id t + loss_in id call)
   call_adds (Admits a i) steps f = (
     ap (λ (l : List RaiseStep). raises_of id (l ++ t)) f
         ∙ omega arith,
-    ap (λ (l : List RaiseStep). losses_of id (l ++ t)) f ∙ omega arith,
+    ap (λ (l : List RaiseStep). losses_on_trail id (l ++ t)) f ∙ omega arith,
   )
   call_adds (Loads a i) steps f = (
     ap (λ (l : List RaiseStep). raises_of id (l ++ t)) f.3
         ∙ omega arith,
-    ap (λ (l : List RaiseStep). losses_of id (l ++ t)) f.3 ∙ omega arith,
+    ap (λ (l : List RaiseStep). losses_on_trail id (l ++ t)) f.3 ∙ omega arith,
   )
   call_adds (Raises a answers.Lost) steps f = (
     ap (λ (l : List RaiseStep). raises_of id (l ++ t)) f.1
         ∙ omega arith,
-    ap (λ (l : List RaiseStep). losses_of id (l ++ t)) f.1 ∙ omega arith,
+    ap (λ (l : List RaiseStep). losses_on_trail id (l ++ t)) f.1 ∙ omega arith,
   )
   call_adds (Raises a answers.More) steps f = (
     ap (λ (l : List RaiseStep). raises_of id (l ++ t)) f.6
         ∙ omega arith,
-    ap (λ (l : List RaiseStep). losses_of id (l ++ t)) f.6 ∙ omega arith,
+    ap (λ (l : List RaiseStep). losses_on_trail id (l ++ t)) f.6 ∙ omega arith,
   )
   call_adds (Raises a answers.First) steps f = (
     ap (λ (l : List RaiseStep). raises_of id (l ++ t)) f.5
         ∙ omega arith,
-    ap (λ (l : List RaiseStep). losses_of id (l ++ t)) f.5 ∙ omega arith,
+    ap (λ (l : List RaiseStep). losses_on_trail id (l ++ t)) f.5 ∙ omega arith,
   )
   call_adds (Marks a i) steps f = (
     ap (λ (l : List RaiseStep). raises_of id (l ++ t)) f.1
         ∙ omega arith,
-    ap (λ (l : List RaiseStep). losses_of id (l ++ t)) f.1 ∙ omega arith,
+    ap (λ (l : List RaiseStep). losses_on_trail id (l ++ t)) f.1 ∙ omega arith,
   )
   call_adds (Polls a None) steps f = (
     ap (λ (l : List RaiseStep). raises_of id (l ++ t)) f.3
         ∙ omega arith,
-    ap (λ (l : List RaiseStep). losses_of id (l ++ t)) f.3 ∙ omega arith,
+    ap (λ (l : List RaiseStep). losses_on_trail id (l ++ t)) f.3 ∙ omega arith,
   )
   call_adds (Polls a (Some counts)) steps f = (
     ap (λ (l : List RaiseStep). raises_of id (l ++ t)) f.4
         ∙ omega arith,
-    ap (λ (l : List RaiseStep). losses_of id (l ++ t)) f.4 ∙ omega arith,
+    ap (λ (l : List RaiseStep). losses_on_trail id (l ++ t)) f.4 ∙ omega arith,
   )
   call_adds (Expands a) steps f = (
     ap (λ (l : List RaiseStep). raises_of id (l ++ t)) f
         ∙ omega arith,
-    ap (λ (l : List RaiseStep). losses_of id (l ++ t)) f ∙ omega arith,
+    ap (λ (l : List RaiseStep). losses_on_trail id (l ++ t)) f ∙ omega arith,
   )
   call_adds (Looks a) steps f = (
     ap (λ (l : List RaiseStep). raises_of id (l ++ t)) f.2
         ∙ omega arith,
-    ap (λ (l : List RaiseStep). losses_of id (l ++ t)) f.2 ∙ omega arith,
+    ap (λ (l : List RaiseStep). losses_on_trail id (l ++ t)) f.2 ∙ omega arith,
   )
 
 raise_run : (way : List FiringCall) (e f : RaiseEnd) → FoldsTo (Taught raise_end) e way f
     → IsSameRaiseSeat e.seat f.seat × ((id : ℕ)
     → raises_of id (raise_trail f.seat) ≡ raises_of id (raise_trail e.seat) + raised_by id way)
-    × ((id : ℕ) → losses_of id (raise_trail f.seat) ≡ losses_of id (raise_trail e.seat) + lost_by id way)
+    × ((id : ℕ) → losses_on_trail id (raise_trail f.seat) ≡ losses_on_trail id (raise_trail e.seat) + lost_by id way)
 raise_run [] e f h = (
   (ap (λ (x : RaiseEnd). x.seat.side.seat.table_id) (sym h), ap (λ (x : RaiseEnd). x.seat.setting) (sym h)),
   (λ id. ap (λ (x : RaiseEnd). raises_of id (raise_trail x.seat)) (sym h) ∙ omega arith),
-  (λ id. ap (λ (x : RaiseEnd). losses_of id (raise_trail x.seat)) (sym h) ∙ omega arith),
+  (λ id. ap (λ (x : RaiseEnd). losses_on_trail id (raise_trail x.seat)) (sym h) ∙ omega arith),
 )
 raise_run (call ∷ way) e f (m, first, rest) = let b = raise_run way m f rest in let c = first.0.1 in (
   (b.0.0 ∙ first.0.0.0, b.0.1 ∙ first.0.0.1),
   (λ id. let x : raises_of id (raise_trail m.seat) ≡ raises_of id (raise_trail e.seat) + raise_in id call =
       ap (raises_of id) c.gained ∙ (call_adds e.seat.setting (raise_trail e.seat) id call c.steps c.made).0 in let y = b.1 id in
       omega (arith, x, y)),
-  (λ id. let x : losses_of id (raise_trail m.seat) ≡ losses_of id (raise_trail e.seat) + loss_in id call =
-      ap (losses_of id) c.gained ∙ (call_adds e.seat.setting (raise_trail e.seat) id call c.steps c.made).1 in let y = b.2 id in
+  (λ id. let x : losses_on_trail id (raise_trail m.seat) ≡ losses_on_trail id (raise_trail e.seat) + loss_in id call =
+      ap (losses_on_trail id) c.gained ∙ (call_adds e.seat.setting (raise_trail e.seat) id call c.steps c.made).1 in let y =
+      b.2 id in
       omega (arith, x, y)),
 )
 
@@ -125,7 +134,8 @@ one_made id j m = let e = one_times id j in omega (arith, e)
 call_makes : (start : ℕ) (t : List DrainStep) (id : ℕ) (call : DrainCall) (steps : List DrainStep) → DrainSteps start t call steps
     → made_calls id (steps ++ t) ≡ made_calls id t + finished_by id (call ∷ [])
 call_makes start t id (Takes answer) steps f = made_take start t steps answer f id ∙ omega arith
-call_makes start t id (Finishes j answer) steps f = let hand : drainer_hand_of t ≡ Some j = ap id_in f.2 ∙ ap Some (sym f.3) in
+call_makes start t id (Finishes j answer) steps f = let hand : drainer_hand_of t ≡ Some j = ap id_in_entry f.2
+    ∙ ap Some (sym f.3) in
     ap (λ (l : List DrainStep). made_calls id (l ++ t)) f.5
     ∙ (ap (λ (o : Option ℕ). in_hand id o + made_calls id t) hand ∙ one_made id j (made_calls id t))
 
@@ -170,9 +180,9 @@ over made ended None None e h = h
 over made ended None (Some c) e h = absurd h
 over made ended (Some s) p e h = absurd (cc)
 
-pub nothing_follows : NothingFollowsRemoval
+pub nothing_follows : NoFinishFollowsRemoval
 nothing_follows k log id L none = over (made_calls id (drain_side log)) (ended_calls id (raise_side log))
-    (open_stay id (raise_side log)) ((level_after k.ceiling log).cyclics id) none (L.shows.stays id)
+    (open_stay id (raise_side log)) ((level_after_steps k.ceiling log).cyclics id) none (L.shows.stays id)
 
 -- a call that is no raise
 quiet_call : (id : ℕ) (call : FiringCall) → IsQuiet call → (raise_in id call ≡ 0) × (loss_in id call ≡ 0)

@@ -10,7 +10,7 @@ use Rattle.ring_rule.specs.declared.SeatView.{SeatView}
 use Rattle.ring_rule.specs.Trail.{drainer_hand_of, made_calls}
 use Rattle.ring_rule.specs.Log.{RingStep}
 use Rattle.ring_rule.specs.Rule.{HasRaises, HasDrains}
-use Rattle.cyc_ring.specs.Views.{firing_view}
+use Rattle.cyc_ring.specs.Views.{trail_view}
 use Rattle.cyc_ring.specs.Steps.{MakesRaiseCall, MakesDrainCall, FoundNone}
 use Rattle.cyc_ring.specs.declared.ring.Ring.{Ring}
 use Rattle.cyc_ring.specs.declared.seats.RaiseSeat.{RaiseSeat}
@@ -52,7 +52,7 @@ IsSameDrainSeat d d' = (d'.side.seat.table_id ≡ d.side.seat.table_id) × (d'.s
 
 -- what the holder of a raise seat or of a raise end knows
 abbrev pub seat_view : RaiseSeat → FiringView
-seat_view r = firing_view r.setting.ceiling (raise_trail r)
+seat_view r = trail_view r.setting.ceiling (raise_trail r)
 
 abbrev pub end_view : RaiseEnd → FiringView
 end_view e = seat_view e.seat

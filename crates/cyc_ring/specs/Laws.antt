@@ -4,7 +4,7 @@ use Rattle.cyc_types.specs.Firing.{FiringCall, Raises}
 use Rattle.cyc_types.specs.Draining.{DrainCall, Takes}
 use Rattle.cyc_types.specs.Runs.{Goes, DrainGoes, raised_by, lost_by, finished_by}
 use Rattle.ring_rule.specs.declared.Setting.{Setting}
-use Rattle.ring_rule.specs.Trail.{open_stay, raises_of, losses_of, ended_calls, made_calls}
+use Rattle.ring_rule.specs.Trail.{open_stay, raises_of, losses_on_trail, ended_calls, made_calls}
 use Rattle.ring_rule.specs.Log.{RingStep, raise_side, drain_side}
 use Rattle.ring_rule.specs.Conservation.{LevelStands}
 use Rattle.cyc_ring.specs.Ends.{raise_trail, raise_end, end_view, end_made, drain_end, DrainEndCall}
@@ -18,7 +18,7 @@ abbrev pub RaiseWaysAddUp : Type 0
 RaiseWaysAddUp = (e f : RaiseEnd) (way : List FiringCall) → Goes raise_end e way f
     → IsSameRaiseSeat e.seat f.seat
     × ((id : ℕ) → raises_of id (raise_trail f.seat) ≡ raises_of id (raise_trail e.seat) + raised_by id way)
-    × ((id : ℕ) → losses_of id (raise_trail f.seat) ≡ losses_of id (raise_trail e.seat) + lost_by id way)
+    × ((id : ℕ) → losses_on_trail id (raise_trail f.seat) ≡ losses_on_trail id (raise_trail e.seat) + lost_by id way)
 
 -- the finishes grow by those of the run
 abbrev pub DrainWaysAddUp : Type 0
@@ -32,8 +32,8 @@ IdleIsFound = (e before f : DrainEnd) (way : List DrainCall) → DrainGoes drain
     → FoundIdle e f
 
 -- while no stay of the id is open, its finishes stay what they were when the last one ended
-abbrev pub NothingFollowsRemoval : Type 0
-NothingFollowsRemoval = (k : Setting) (log : List RingStep) (id : ℕ) → LevelStands k log → open_stay id (raise_side log) ≡ None
+abbrev pub NoFinishFollowsRemoval : Type 0
+NoFinishFollowsRemoval = (k : Setting) (log : List RingStep) (id : ℕ) → LevelStands k log → open_stay id (raise_side log) ≡ None
     → made_calls id (drain_side log) ≡ ended_calls id (raise_side log)
 
 -- a call of the firing side that is no raise

@@ -4,7 +4,16 @@ use Rattle.cyc_types.specs.Firing.{Stay, FiringView}
 use Rattle.cyc_level.specs.Level.{bank_size}
 use Rattle.ring_rule.specs.declared.RaiseStep.{RaiseStep}
 use Rattle.cyc_level.specs.Runs.{StayCounts, stay_calls}
-use Rattle.ring_rule.specs.Trail.{open_stay, ended_calls, raises_of, losses_of, seen_pend, marked_of, firer_hand_of, hard_bank_of}
+use Rattle.ring_rule.specs.Trail.{
+  open_stay,
+  ended_calls,
+  raises_of,
+  losses_on_trail,
+  seen_pend,
+  marked_of,
+  firer_hand_of,
+  hard_bank_of,
+}
 use Rattle.ring_rule.specs.Trail.{has_followed}
 
 -- an open stay, with the pend that was seen
@@ -13,8 +22,8 @@ stay_with seen None = None
 stay_with seen (Some s) = Some record { index = s.index; sent = s.sent; lost = s.lost; seen = seen }
 
 -- what the holder of a firing side with this trail knows
-abbrev pub firing_view : ℕ → List RaiseStep → FiringView
-firing_view ceiling t = record {
+abbrev pub trail_view : ℕ → List RaiseStep → FiringView
+trail_view ceiling t = record {
   stays = λ id. stay_with (seen_pend id t) (open_stay id t);
   marked = marked_of t;
   bank = hard_bank_of t;
@@ -30,4 +39,4 @@ IsSeenSound ceiling t = (id : ℕ) (s : StayCounts) → open_stay id t ≡ Some 
 
 -- for each id the calls of its ended stays and of its open one are its raises less its losses
 abbrev pub IsBalanced : List RaiseStep → Type 0
-IsBalanced t = (id : ℕ) → ended_calls id t + stay_calls (open_stay id t) + losses_of id t ≡ raises_of id t
+IsBalanced t = (id : ℕ) → ended_calls id t + stay_calls (open_stay id t) + losses_on_trail id t ≡ raises_of id t

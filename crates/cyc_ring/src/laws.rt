@@ -1,6 +1,6 @@
 //! What runs of calls at the ends add up to, and what a moment says of a removal that has answered. The functions here do
 //! nothing: each one's contract is a law.
-ghost use Rattle.cyc_ring.specs.Laws.{RaiseWaysAddUp, DrainWaysAddUp, IdleIsFound, NothingFollowsRemoval, QuietCallsRaiseNothing};
+ghost use Rattle.cyc_ring.specs.Laws.{RaiseWaysAddUp, DrainWaysAddUp, IdleIsFound, NoFinishFollowsRemoval, QuietCallsRaiseNothing};
 ghost use Rattle.cyc_ring.specs.Laws.{EndsKeepTheirCeiling};
 
 /// A run of calls at a raise end leaves it an end of the same ring, and its trail gains the raises and losses of the run.
@@ -23,7 +23,7 @@ pub fn idle_is_found()
 /// At each moment at which no stay of an id is open, its finishes are the calls of its ended stays. So once its `poll_clear`
 /// has answered, and until it is admitted anew, no call of it is finished any more.
 pub fn nothing_follows_removal()
-    ensures { NothingFollowsRemoval }
+    ensures { NoFinishFollowsRemoval }
 {}
 
 /// A run of calls with no raise among them raises nothing and loses nothing: `admit`, `load_pend`, `mark`, `poll_clear`,

@@ -4,8 +4,8 @@
 //! that the two sides are on (`ring_steps`). The two sides are mostly at neighbouring indexes, whose pend words lie on two cache
 //! lines, and so do their slots in a bank of 32 or more. A raise seat fills the buffer and a drain seat empties it, each by
 //! single atomic steps, and every step of one may fall between two steps of the other. At each moment between two of them the
-//! words and the two seats' trails show a lawful level (`cyc_level`), which `ring_rule` states and this crate keeps. No call but
-//! `Ring::open` takes memory, and none waits.
+//! words and the two seats' trails show a lawful level (`cyc_level`), which `ring_rule` states and this crate keeps. `softint` is
+//! the soft interrupt over the soft side. No call but `Ring::open` takes memory, and none waits.
 #![tactic(auto)]
 
 mod closed;
@@ -16,8 +16,10 @@ pub mod laws;
 mod raising;
 mod ring;
 mod seats;
+mod soft;
 
 pub use closed::{Book, Closed};
 pub use ends::{DrainEnd, RaiseEnd};
 pub use ring::Ring;
 pub use seats::{DrainSeat, RaiseSeat};
+pub use soft::softint;

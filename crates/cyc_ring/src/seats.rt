@@ -3,7 +3,7 @@
 ghost use Rattle.std.specs.Prelude.{◌≡◌, ◌≢◌, ℕ, ◌+◌, ◌-◌, ◌/◌, ◌%◌, ◌^◌, ◌<◌, ◌≤◌, [], None, slice_index, IfOk, IsSome};
 ghost use Rattle.cyc_types.specs.Limits.{cyclics, greatest_bank};
 ghost use Rattle.cyc_level.specs.Lawful.{IsId};
-ghost use Rattle.ring_rule.specs.Words.{index_range, entry_id};
+ghost use Rattle.ring_rule.specs.Words.{mark_bit, index_range, entry_id};
 ghost use Rattle.ring_rule.specs.Trail.{open_stay, firer_hand_of, hard_bank_of, producer_index, held_entry, consumer_index};
 ghost use Rattle.ring_rule.specs.Trail.{soft_bank_of};
 ghost use Rattle.cyc_finder.specs.Indexes.{index_of};
@@ -16,8 +16,8 @@ use ring_rule::Setting;
 use ring_steps::{FiringSide, INDEXES, SoftSide};
 use std::alloc::{AllocError, Global};
 
-/// For each index the id of its cyclic, 0 where it is free, and the counts of its stay; and its pend word, once the ring is closed. They
-/// stand in memory of their own, so that a seat or a closed ring that is moved copies little.
+/// For each index the id of its cyclic, 0 where it is free, and the counts of its stay; and its pend word, once the ring is
+/// closed. They stand in memory of their own, so that a seat or a closed ring that is moved copies little.
 #[derive(Drop)]
 pub struct Stays {
     pub(crate) ids: [u64; INDEXES],
@@ -40,7 +40,7 @@ pub struct RaiseSeat {
     ghost free_hand: { firer_hand_of side.seat.me.0.raise_trail ≡ None },
     ghost bank_is: { (bank ≡ hard_bank_of side.seat.me.0.raise_trail) × (bank ≤ greatest_bank) × (mask + 1 ≡ 2 ^ bank) },
     ghost next_is: { next ≡ producer_index setting.start side.seat.me.0.raise_trail % index_range },
-    ghost ranges: { (0 < setting.ceiling) × (setting.ceiling < 2 ^ 32) × (setting.start < 2 ^ 32) },
+    ghost ranges: { (0 < setting.ceiling) × (setting.ceiling < mark_bit) × (setting.start < index_range) },
     ghost rows: { HoldsStays stays.value.ids stays.value.sent stays.value.lost side.seat.me.0.raise_trail },
     ghost roomy: { cyclics ≤ finder.room },
     ghost listed: { (id : ℕ) → index_of id finder.entries ≡ stay_index (open_stay id side.seat.me.0.raise_trail) },
@@ -61,7 +61,7 @@ pub struct DrainSeat {
     pub(crate) hand: u64,
     ghost bank_is: { (bank ≡ soft_bank_of side.seat.me.0.drain_trail) × (bank ≤ greatest_bank) × (mask + 1 ≡ 2 ^ bank) },
     ghost next_is: { next ≡ consumer_index setting.start side.seat.me.0.drain_trail % index_range },
-    ghost ranges: { (0 < setting.ceiling) × (setting.ceiling < 2 ^ 32) × (setting.start < 2 ^ 32) },
+    ghost ranges: { (0 < setting.ceiling) × (setting.ceiling < mark_bit) × (setting.start < index_range) },
     ghost hand_is: { held_entry side.seat.me.0.drain_trail ≡ entry_in_hand hand },
     ghost hand_named: { hand ≢ 0 → IsId (entry_id hand) },
 }
@@ -73,7 +73,7 @@ impl RaiseSeat {
         setting: Setting,
     ) -> Result<RaiseSeat, AllocError>
         requires empty { side.seat.me.0.raise_trail ≡ [] }
-        requires ranges { (0 < setting.ceiling) × (setting.ceiling < 2 ^ 32) × (setting.start < 2 ^ 32) }
+        requires ranges { (0 < setting.ceiling) × (setting.ceiling < mark_bit) × (setting.start < index_range) }
         ensures { IfOk result (λ r. (r.side ≡ side) × (r.setting ≡ setting)) }
     {
         let mut finder = Finder::new(alloc)?;
@@ -113,7 +113,7 @@ impl RaiseSeat {
 impl DrainSeat {
     pub(crate) fn new(side: SoftSide, setting: Setting) -> DrainSeat
         requires empty { side.seat.me.0.drain_trail ≡ [] }
-        requires ranges { (0 < setting.ceiling) × (setting.ceiling < 2 ^ 32) × (setting.start < 2 ^ 32) }
+        requires ranges { (0 < setting.ceiling) × (setting.ceiling < mark_bit) × (setting.start < index_range) }
         ensures { (result.side ≡ side) × (result.setting ≡ setting) }
     {
         DrainSeat {

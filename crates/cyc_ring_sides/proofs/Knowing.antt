@@ -11,13 +11,13 @@ use Rattle.cyc_types.specs.Firing.{Learns, MayAdmit, MayAsk, MayRaise, MayMark, 
 use Rattle.cyc_types.specs.declared.firing.Raised.{Raised}
 use Rattle.cyc_types.specs.declared.firing.Raised.TheVariants.{First, More, Lost}
 use Rattle.cyc_types.specs.declared.firing.Sent.{Sent}
-use Rattle.cyc_ring.specs.Views.{firing_view}
-use Rattle.cyc_ring_sides.specs.Knowing.{index_in, Lists, Knows}
+use Rattle.cyc_ring.specs.Views.{trail_view}
+use Rattle.cyc_ring_sides.specs.Knowing.{index_of_stay, Lists, Knows}
 
 abbrev Fits : List ℕ → ℕ → ℕ → Stay → Type 0
 Fits ids n id s = (s.index < cyclics) × (get_or ids s.index 0 ≡ id) × (id ≢ 0) × (s.sent ≤ n)
 
-is_some : (o : Option Stay) (i : ℕ) → index_in o ≡ Some i → (s : Stay) × (o ≡ Some s)
+is_some : (o : Option Stay) (i : ℕ) → index_of_stay o ≡ Some i → (s : Stay) × (o ≡ Some s)
 is_some None i e = absurd (cc)
 is_some (Some s) i e = (s, refl)
 
@@ -27,7 +27,7 @@ is_none (Some s) never = absurd (never s refl)
 
 -- an edit of one stay that leaves its index
 module _ (f : Stay → Stay) (d : ℕ) (keeps : (s : Stay) → ((f s).index ≡ s.index) × ((f s).sent ≤ s.sent + d)) where
-  index_edited : (b : Bool) (o : Option Stay) → index_in (cond b (edited f o) o) ≡ index_in o
+  index_edited : (b : Bool) (o : Option Stay) → index_of_stay (cond b (edited f o) o) ≡ index_of_stay o
   index_edited true None = refl
   index_edited true (Some s) = ap (λ (i : ℕ). Some i) (keeps s).0
   index_edited false o = refl
@@ -65,7 +65,7 @@ module _ (ids : List ℕ) (n : ℕ) (stays : Stays) (L : Lists ids n stays) wher
 
   pub stay_of : (i id : ℕ) → i < cyclics → get_or ids i 0 ≡ id → id ≢ 0 → (s : Stay) × (stays id ≡ Some s) × (s.sent ≤ n)
   stay_of i id low is real = let x = is_some (stays id) i
-      (subst (λ (y : ℕ). index_in (stays y) ≡ Some i) is (L.used i low (λ z. real (sym is ∙ z)))) in
+      (subst (λ (y : ℕ). index_of_stay (stays y) ≡ Some i) is (L.used i low (λ z. real (sym is ∙ z)))) in
       (x.0, x.1, (L.only id x.0 x.1).3)
 
   module _ (id i : ℕ) (low : i < cyclics) (long : i < length ids) (real : id ≢ 0) where
@@ -73,12 +73,12 @@ module _ (ids : List ℕ) (n : ℕ) (stays : Stays) (L : Lists ids n stays) wher
         → Lists (set ids i id) n (at_stay id (λ _. Some record { index = i; sent = 0; lost = 0; seen = 0 }) stays)
     lists_admitted free never = let new : Stay = record { index = i; sent = 0; lost = 0; seen = 0 } in record {
       used = λ j lj uj. dite (ℕ_discrete j i)
-          (λ e. subst (λ (k : ℕ). index_in (at_stay id (λ _. Some new) stays (get_or (set ids i id) k 0)) ≡ Some k) (sym e)
-          (ap (λ b. index_in (cond b (Some new) (stays (get_or (set ids i id) i 0))))
+          (λ e. subst (λ (k : ℕ). index_of_stay (at_stay id (λ _. Some new) stays (get_or (set ids i id) k 0)) ≡ Some k) (sym e)
+          (ap (λ b. index_of_stay (cond b (Some new) (stays (get_or (set ids i id) i 0))))
           (eq-eqb (get_or (set ids i id) i 0) id (get_or-set_same ids i id 0 long))))
           (λ ne. let o = get_or-set_other ids i j id 0 ne in
-          subst (λ (x : ℕ). index_in (at_stay id (λ _. Some new) stays x) ≡ Some j) (sym o)
-          (ap (λ b. index_in (cond b (Some new) (stays (get_or ids j 0)))) (ne_eqb (get_or ids j 0) id (never j lj))
+          subst (λ (x : ℕ). index_of_stay (at_stay id (λ _. Some new) stays x) ≡ Some j) (sym o)
+          (ap (λ b. index_of_stay (cond b (Some new) (stays (get_or ids j 0)))) (ne_eqb (get_or ids j 0) id (never j lj))
           ∙ L.used j lj (λ z. uj (o ∙ z))));
       only = λ j s e. dite (ℕ_discrete j id)
           (λ x. let is : new ≡ s = some_same new s (ap (λ b. cond b (Some new) (stays j)) (sym (eq-eqb j id x)) ∙ e) in
@@ -103,10 +103,10 @@ module _ (ids : List ℕ) (n : ℕ) (stays : Stays) (L : Lists ids n stays) wher
       used = λ j lj uj. let ne : j ≢ i = λ e. uj (ap (λ (x : ℕ). get_or (set ids i 0) x 0) e ∙ get_or-set_same ids i 0 0 long) in
           let o = get_or-set_other ids i j 0 0 ne in let uses = L.used j lj (λ z. uj (o ∙ z)) in
           let other : get_or ids j 0 ≢ id = λ x. ne
-          (some_same j i (sym uses ∙ (ap (λ (y : ℕ). index_in (stays y)) (x ∙ sym is)
+          (some_same j i (sym uses ∙ (ap (λ (y : ℕ). index_of_stay (stays y)) (x ∙ sym is)
           ∙ L.used i low (λ z. real (sym is ∙ z))))) in
-          subst (λ (x : ℕ). index_in (at_stay id (λ _. None) stays x) ≡ Some j) (sym o)
-          (ap (λ b. index_in (cond b None (stays (get_or ids j 0)))) (ne_eqb (get_or ids j 0) id other) ∙ uses);
+          subst (λ (x : ℕ). index_of_stay (at_stay id (λ _. None) stays x) ≡ Some j) (sym o)
+          (ap (λ b. index_of_stay (cond b None (stays (get_or ids j 0)))) (ne_eqb (get_or ids j 0) id other) ∙ uses);
       only = λ j s e. dite (ℕ_discrete j id)
           (λ x. let never : None ≡ Some s = ap (λ b. cond b None (stays j)) (sym (eq-eqb j id x)) ∙ e in absurd (cc))
           (λ ne. let o = L.only j s (ap (λ b. cond b None (stays j)) (sym (ne_eqb j id ne)) ∙ e) in (
@@ -120,7 +120,7 @@ module _ (ids : List ℕ) (n : ℕ) (stays : Stays) (L : Lists ids n stays) wher
 
 pub knows_begin : (ceiling : ℕ) (ids : List ℕ) (n : ℕ) (marked : Option ℕ) (bank : ℕ) (followed : Bool) → n ≡ 0 → marked ≡ None
     → bank ≡ 0 → followed ≡ true → ((i : ℕ) → i < cyclics → get_or ids i 0 ≡ 0)
-    → Knows ids n marked bank followed (firing_view ceiling [])
+    → Knows ids n marked bank followed (trail_view ceiling [])
 knows_begin ceiling ids n marked bank followed n0 m0 b0 f0 none = record {
   lists = record { used = λ i low real. absurd (real (none i low)); only = λ id s e. absurd (cc) };
   marked_is = sym m0;

@@ -4,13 +4,13 @@ use Rattle.cyc_types.specs.Limits.{cyclics, greatest_bank}
 use Rattle.cyc_types.specs.Firing.{FiringView, Stay, Stays}
 
 -- the index of a stay
-abbrev pub index_in : Option Stay → Option ℕ
-index_in None = None
-index_in (Some s) = Some s.index
+abbrev pub index_of_stay : Option Stay → Option ℕ
+index_of_stay None = None
+index_of_stay (Some s) = Some s.index
 
 -- the table has the id of each index, 0 where it is free, and no stay has more raises than these
 pub record Lists (ids : List ℕ) (raises : ℕ) (stays : Stays) : Type 0 where
-  pub used : (i : ℕ) → i < cyclics → slice_index ids i ≢ 0 → index_in (stays (slice_index ids i)) ≡ Some i
+  pub used : (i : ℕ) → i < cyclics → slice_index ids i ≢ 0 → index_of_stay (stays (slice_index ids i)) ≡ Some i
   pub only : (id : ℕ) (s : Stay) → stays id ≡ Some s → (s.index < cyclics) × (slice_index ids s.index ≡ id) × (id ≢ 0)
       × (s.sent ≤ raises)
 

@@ -14,9 +14,9 @@ use Rattle.serde_json.specs.Find.{as_array}
 use Rattle.serde_json.specs.Read.{of_items, of_json, of_members, converted, number_of}
 use Rattle.json.specs.declared.reader.Invalid.{Invalid}
 use Rattle.cyc_script.specs.declared.part.Part.{Part}
-use Rattle.cyc_script.specs.Parts.{IsNumberPart, plain}
+use Rattle.cyc_script.specs.Parts.{IsNumberPart, plain_data}
 use Rattle.cyc_script.specs.Script.{has_keys}
-use Rattle.cyc_script.specs.Tokens.{Begins, HasPart, HasValue, is_leaf}
+use Rattle.cyc_script.specs.Tokens.{BeginsWith, HasPart, HasValue, is_leaf}
 use Rattle.cyc_script.proofs.Grammar.{array_flat, converted_array, converted_object, object_flat}
 
 abbrev pub Kind : declared.Token → Data → Type 0
@@ -54,7 +54,7 @@ array_data : (o : Option (json.Items × List Token)) (d : Data) (r : List Token)
     → converted of_json (parse_map json.array o) ≡ Some (d, r) → (ds : Items) × (d ≡ array ds)
 array_data o d r e = mapped array (converted of_items o) d r (sym (converted_array o) ∙ e)
 
-array_kind : (depth : ℕ) (ts r : List Token) (d : Data) → Begins depth (Token.begin_array ∷ ts) d r
+array_kind : (depth : ℕ) (ts r : List Token) (d : Data) → BeginsWith depth (Token.begin_array ∷ ts) d r
     → (ds : Items) × (d ≡ array ds)
 array_kind zero ts r d e = let f = sym (ap (converted of_json) (array_flat ts)) ∙ e in absurd (cc)
 array_kind (suc k) ts r d e = array_data (json.items (value (suc k - 1)) (length ts) ts) d r
@@ -64,13 +64,13 @@ object_data : (o : Option (json.Members × List Token)) (d : Data) (r : List Tok
     → converted of_json (parse_map json.object o) ≡ Some (d, r) → (ms : Members) × (d ≡ object ms)
 object_data o d r e = mapped object (converted (λ ms. of_members ms no_members) o) d r (sym (converted_object o) ∙ e)
 
-object_kind : (depth : ℕ) (ts r : List Token) (d : Data) → Begins depth (Token.begin_object ∷ ts) d r
+object_kind : (depth : ℕ) (ts r : List Token) (d : Data) → BeginsWith depth (Token.begin_object ∷ ts) d r
     → (ms : Members) × (d ≡ object ms)
 object_kind zero ts r d e = let f = sym (ap (converted of_json) (object_flat ts)) ∙ e in absurd (cc)
 object_kind (suc k) ts r d e = object_data (json.members (value (suc k - 1)) (length ts) ts) d r
     (sym (ap (converted of_json) (value-begin_object (suc k) ts (omega arith))) ∙ e)
 
-pub kind_of : (next : declared.Token) (depth : ℕ) (ts r : List Token) (d : Data) → Begins depth (token_of next ∷ ts) d r
+pub kind_of : (next : declared.Token) (depth : ℕ) (ts r : List Token) (d : Data) → BeginsWith depth (token_of next ∷ ts) d r
     → Kind next d
 kind_of token.BeginObject depth ts r d e = object_kind depth ts r d e
 kind_of token.EndObject depth ts r d e =
@@ -118,16 +118,16 @@ not_object token.Null d other kind = ap has_keys kind
 not_object token.Bad d other kind = absurd kind
 
 pub not_plain : (next : declared.Token) (d : Data) → ((s : _) → ¬ (next ≡ token.String s))
-    → ((s : _) → ¬ (next ≡ token.Number s)) → Kind next d → null ≡ plain d
-not_plain token.BeginObject d no_text no_number kind = sym (ap plain kind.1)
+    → ((s : _) → ¬ (next ≡ token.Number s)) → Kind next d → null ≡ plain_data d
+not_plain token.BeginObject d no_text no_number kind = sym (ap plain_data kind.1)
 not_plain token.EndObject d no_text no_number kind = absurd kind
-not_plain token.BeginArray d no_text no_number kind = sym (ap plain kind.1)
+not_plain token.BeginArray d no_text no_number kind = sym (ap plain_data kind.1)
 not_plain token.EndArray d no_text no_number kind = absurd kind
 not_plain (token.Key s) d no_text no_number kind = absurd kind
 not_plain (token.String s) d no_text no_number kind = absurd (no_text s refl)
 not_plain (token.Number s) d no_text no_number kind = absurd (no_number s refl)
-not_plain (token.Bool b) d no_text no_number kind = sym (ap plain kind)
-not_plain token.Null d no_text no_number kind = sym (ap plain kind)
+not_plain (token.Bool b) d no_text no_number kind = sym (ap plain_data kind)
+not_plain token.Null d no_text no_number kind = sym (ap plain_data kind)
 not_plain token.Bad d no_text no_number kind = absurd kind
 
 number_leaf : (o : Option Num) (ts : List Token) → is_some o ≡ true
@@ -170,11 +170,11 @@ none_read token.Bad depth ts no_array no_object e = ap (converted of_json) (valu
 -- ---- parts
 
 pub text_part : (depth : ℕ) (s : List ℕ) (ts : List Token)
-    → (d : Data) × Begins depth (Token.string s ∷ ts) d ts × (string s ≡ plain d)
+    → (d : Data) × BeginsWith depth (Token.string s ∷ ts) d ts × (string s ≡ plain_data d)
 text_part depth s ts = (string s, ap (converted of_json) (value_is depth (Token.string s ∷ ts)), refl)
 
 number_read : (depth : ℕ) (s : List ℕ) (ts : List Token) (n : Num) → number_of s ≡ Some n
-    → Begins depth (Token.number s ∷ ts) (number n) ts
+    → BeginsWith depth (Token.number s ∷ ts) (number n) ts
 number_read depth s ts n e = ap (converted of_json) (value_is depth (Token.number s ∷ ts)) ∙ rw e refl
 
 no_number_read : (depth : ℕ) (s : List ℕ) (ts : List Token) → number_of s ≡ None

@@ -14,10 +14,10 @@ use Rattle.cyc_script.specs.declared.cause.Cause.TheVariants.{NameTwice, NoName,
 use Rattle.cyc_script.specs.declared.context.Context.{Context}
 use Rattle.cyc_script.specs.declared.step.Step.{Step}
 use Rattle.cyc_script.specs.declared.step.Step.TheVariants.{Advance, Juggle, Offline, Online, Suspend, Resume}
-use Rattle.cyc_script.specs.Names.{number_of}
+use Rattle.cyc_script.specs.Names.{number_of_name}
 use Rattle.cyc_script.specs.Parameters.{shaped, at_most, whole_in, name_of, level_in_value, soft_of, whole_of, skew_of}
 use Rattle.cyc_script.specs.Parameters.{unsigned_of, moment_of}
-use Rattle.cyc_script.specs.Steps.{Fits, Reads, accepted}
+use Rattle.cyc_script.specs.Steps.{Fits, Reads, accepted_form}
 use Rattle.cyc_script.specs.WellFormed.{name_fits, names_after, moment_fits, moment_after}
 use Rattle.cyc_script.specs.Words.{Form, introduces, refers, advances, nameless, ◌>>=◌, add_of, omni_of, bind_of, unbind_of}
 use Rattle.cyc_script.specs.Words.{reprogram_of, remove_of, advance_of, softint_of, only_cpu, without_parameters, form_of}
@@ -203,8 +203,8 @@ added before text step is = let u = is.untimed in
     let longer = length-append before.names (text ∷ []) ∙ sym is.names in
     record { name = is.name; names = longer; moment = u.fits before.moment; clock = sym (u.clock before.moment) }
 
-accepted_fits : (before : Context) (form : Form) → IsSound form → AreFit before (accepted before form)
-accepted_fits before (introduces text step) sound = by_test (is_some (number_of text before.names)) where
+accepted_fits : (before : Context) (form : Form) → IsSound form → AreFit before (accepted_form before form)
+accepted_fits before (introduces text step) sound = by_test (is_some (number_of_name text before.names)) where
   by_test : (b : Bool) → AreFit before
       (◌>>=◌ {A = ℕ × List (List ℕ)} (if b then Err NameTwice else Ok (length before.names, before.names ++ text ∷ []))
       (λ new. Ok (step new.0, record before { names = new.1 })))
@@ -224,7 +224,7 @@ accepted_fits before (advances moment) sound = by_test (nat_lt moment before.mom
   by_test false e = record { name = refl; names = refl; moment = both _ _ (grind (arith, nat_tests)) sound; clock = refl }
 accepted_fits before (nameless step) sound = kept before step (sound (length before.names))
 
-all_fit : (before : Context) (forms : Result Form Cause) → AreSound forms → AreFit before (forms >>= accepted before)
+all_fit : (before : Context) (forms : Result Form Cause) → AreSound forms → AreFit before (forms >>= accepted_form before)
 all_fit before (Ok form) sound = accepted_fits before form sound
 all_fit before (Err e) sound = tt
 

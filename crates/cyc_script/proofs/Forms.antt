@@ -17,9 +17,9 @@ use Rattle.cyc_script.specs.Answers.{Fails, Gives}
 use Rattle.cyc_script.specs.Names.{introduced, referred}
 use Rattle.cyc_script.specs.Parameters.{name_of, level_in_value, skew_of, unsigned_of, whole_of}
 use Rattle.cyc_script.specs.Parts.{data_of}
-use Rattle.cyc_script.specs.Steps.{Reads, accepted}
+use Rattle.cyc_script.specs.Steps.{Reads, accepted_form}
 use Rattle.cyc_script.specs.Words.{Form, introduces, refers, nameless, ◌>>=◌, add_of, omni_of, reprogram_of, reprogram_with}
-use Rattle.cyc_script.specs.Words.{cyclic_of, form_of, later_form_of, last_form_of}
+use Rattle.cyc_script.specs.Words.{cyclic_in_word, form_of, later_form_of, last_form_of}
 
 -- ---- how many parts there are
 
@@ -80,8 +80,8 @@ abbrev pub adds : List ℕ × Level × ℤ × ℤ → Result Form Cause
 adds c = Ok (introduces c.0 (λ k. Add (record { name = k; level = c.1; start = c.2; interval = c.3 })))
 
 pub add_is : (name level start interval : Data)
-    → add_of (name ∷ level ∷ start ∷ interval ∷ []) ≡ (cyclic_of name level start interval >>= adds)
-unfolding add_of cyclic_of
+    → add_of (name ∷ level ∷ start ∷ interval ∷ []) ≡ (cyclic_in_word name level start interval >>= adds)
+unfolding add_of cyclic_in_word
 add_is name level start interval = all_four (name_of name) (level_in_value level) (whole_of start) (whole_of interval) adds
 
 -- the form of `omni`, of what is said of the cyclic
@@ -90,8 +90,8 @@ omnis skew c = skew_of skew >>= λ w.
     Ok (introduces c.0 (λ k. Omni (record { name = k; level = c.1; start = c.2; interval = c.3; skew = w })))
 
 pub omni_is : (name level start interval skew : Data)
-    → omni_of (name ∷ level ∷ start ∷ interval ∷ skew ∷ []) ≡ (cyclic_of name level start interval >>= omnis skew)
-unfolding omni_of cyclic_of
+    → omni_of (name ∷ level ∷ start ∷ interval ∷ skew ∷ []) ≡ (cyclic_in_word name level start interval >>= omnis skew)
+unfolding omni_of cyclic_in_word
 omni_is name level start interval skew =
     all_four (name_of name) (level_in_value level) (whole_of start) (whole_of interval) (omnis skew)
 
@@ -119,19 +119,19 @@ reprogram_three name moment cpu = all_three (name_of name) (whole_of moment) (un
 
 -- what is read first is at fault
 pub first_fails : {A : Type 0} (r : Result A Cause) (f : A → Result Form Cause) (before : Context) (e : Cause)
-    → Fails Memory e r → Fails Memory e (r >>= f >>= accepted before)
+    → Fails Memory e r → Fails Memory e (r >>= f >>= accepted_form before)
 first_fails r f before e (inl is) = inl is
 first_fails r f before e (inr is) = inr (rw is refl)
 
 -- the name is
 pub name_fails : (text : List ℕ) (step : ℕ → Step) (before : Context) (e : Cause)
-    → Fails Memory e (introduced text before.names) → Fails Memory e (accepted before (introduces text step))
+    → Fails Memory e (introduced text before.names) → Fails Memory e (accepted_form before (introduces text step))
 name_fails text step before e (inl is) = inl is
 name_fails text step before e (inr is) = inr (rw is refl)
 
 -- the name that is referred to is
 pub reference_fails : (text : List ℕ) (step : ℕ → Step) (before : Context) (e : Cause) → Err e ≡ referred text before.names
-    → Fails Memory e (accepted before (refers text step))
+    → Fails Memory e (accepted_form before (refers text step))
 reference_fails text step before e is = inr (rw (← is) refl)
 
 -- ---- the words

@@ -15,10 +15,10 @@ use Rattle.cyc_script.specs.declared.cause.Cause.TheVariants.{NameTwice, NoName,
 use Rattle.cyc_script.specs.declared.context.Context.{Context}
 use Rattle.cyc_script.specs.declared.step.Step.{Step}
 use Rattle.cyc_script.specs.declared.step.Step.TheVariants.{Advance}
-use Rattle.cyc_script.specs.Names.{AreNames, number_of}
+use Rattle.cyc_script.specs.Names.{AreNames, number_of_name}
 use Rattle.cyc_script.specs.Parameters.{is_name, shaped, name_in, name_of, level_in_value, soft_of, whole_of, moment_of}
 use Rattle.cyc_script.specs.Parameters.{skew_of, unsigned_of}
-use Rattle.cyc_script.specs.Steps.{accepted, first_context, numbered, step_of, steps_of}
+use Rattle.cyc_script.specs.Steps.{accepted_form, first_context, numbered, step_of, steps_of}
 use Rattle.cyc_script.specs.Words.{Form, introduces, refers, advances, nameless, ◌>>=◌, add_of, omni_of, bind_of, unbind_of}
 use Rattle.cyc_script.specs.Words.{reprogram_of, remove_of, advance_of, softint_of, only_cpu, without_parameters, form_of}
 use Rattle.cyc_script.specs.Words.{form_of_items, form_of_value, list_of}
@@ -30,7 +30,7 @@ none : AreNames []
 none = record { valid = All-nil (λ text. is_name text ≡ true); distinct = λ i j d before below. absurd (omega (arith, below)) }
 
 -- a name that has no number is none of those before it
-is_another : (text : List ℕ) (names : List (List ℕ)) → is_some (number_of text names) ≡ false → (k : ℕ) (d : List ℕ)
+is_another : (text : List ℕ) (names : List (List ℕ)) → is_some (number_of_name text names) ≡ false → (k : ℕ) (d : List ℕ)
     → k < length names → ¬ (get_or names k d ≡ text)
 is_another text names unknown k d below same =
     let missing = is_new text names unknown in
@@ -38,7 +38,7 @@ is_another text names unknown k d below same =
     let differs = prefix_len_passes (λ name. not (bytes_eq text name)) names k d far in
     absurd (grind (arith, differs, (bytes_eq-Decides text (get_or names k d)).1 (sym same)))
 
-one_more : (text : List ℕ) (names : List (List ℕ)) → is_name text ≡ true → is_some (number_of text names) ≡ false
+one_more : (text : List ℕ) (names : List (List ℕ)) → is_name text ≡ true → is_some (number_of_name text names) ≡ false
     → AreNames names → AreNames (names ++ text ∷ [])
 one_more text names is unknown are = record {
   valid = All-push (λ text. is_name text ≡ true) names text are.valid is;
@@ -172,14 +172,14 @@ abbrev LeavesNames : Result (Step × Context) Cause → Type 0
 LeavesNames (Ok next) = AreNames next.1.names
 LeavesNames (Err e) = Unit {0}
 
-accepts : (before : Context) (form : Form) → IsNamed form → AreNames before.names → LeavesNames (accepted before form)
-accepts before (introduces text step) is are = by_test (is_some (number_of text before.names)) refl where
-  by_test : (b : Bool) → is_some (number_of text before.names) ≡ b → LeavesNames
+accepts : (before : Context) (form : Form) → IsNamed form → AreNames before.names → LeavesNames (accepted_form before form)
+accepts before (introduces text step) is are = by_test (is_some (number_of_name text before.names)) refl where
+  by_test : (b : Bool) → is_some (number_of_name text before.names) ≡ b → LeavesNames
       (◌>>=◌ {A = ℕ × List (List ℕ)} (if b then Err NameTwice else Ok (length before.names, before.names ++ text ∷ []))
       (λ new. Ok (step new.0, record before { names = new.1 })))
   by_test true e = tt
   by_test false e = one_more text before.names is e are
-accepts before (refers text step) is are = by_number (number_of text before.names) where
+accepts before (refers text step) is are = by_number (number_of_name text before.names) where
   by_number : (number : Option ℕ) → LeavesNames (ok_or number NoName >>= λ number. Ok (step number, before))
   by_number (Some number) = are
   by_number None = tt
@@ -190,7 +190,7 @@ accepts before (advances moment) is are = by_test (nat_lt moment before.moment) 
 accepts before (nameless step) is are = are
 
 accepts_all : (before : Context) (forms : Result Form Cause) → AreNamed forms → AreNames before.names
-    → LeavesNames (forms >>= accepted before)
+    → LeavesNames (forms >>= accepted_form before)
 accepts_all before (Ok form) is are = accepts before form is are
 accepts_all before (Err e) is are = tt
 

@@ -22,13 +22,13 @@ use Rattle.cyc_script.specs.declared.step.Step.{Step}
 use Rattle.cyc_script.specs.declared.stop.Stop.{Stop}
 use Rattle.cyc_script.specs.declared.stop.Stop.TheVariants.{NoJson}
 use Rattle.cyc_script.specs.declared.stop.Stop.TheVariants as stop
-use Rattle.cyc_script.specs.Answers.{Answers, Fails, refusal_of}
-use Rattle.cyc_script.specs.Limits.{most_cpus}
+use Rattle.cyc_script.specs.Answers.{Answers, Fails, refusal_of_text}
+use Rattle.cyc_types.specs.Limits.{most_cpus}
 use Rattle.cyc_script.specs.Parameters.{at_most, whole_in}
 use Rattle.cyc_script.specs.Script.{Content, number_between, is_key, keys_of, has_keys, cpus_in, cpus_of, ceiling_in, ceiling_of}
 use Rattle.cyc_script.specs.Script.{values_of, within_limit, content_of, formed, parsed}
 use Rattle.cyc_script.specs.Steps.{first_context, steps_of}
-use Rattle.cyc_script.specs.Tokens.{AreWhole, Begins, Denies, HasObject, HasValue, IsObject, content_in, ended, if_over}
+use Rattle.cyc_script.specs.Tokens.{AreWhole, BeginsWith, Denies, HasObject, HasValue, IsObject, content_in, ended, if_over}
 use Rattle.cyc_script.specs.Tokens.{object_in, steps_in, steps_with}
 use Rattle.cyc_script.specs.WellFormed.{IsWellFormed}
 use Rattle.cyc_script.specs.Words.{list_of, ◌>>=◌}
@@ -256,7 +256,7 @@ module _ (o : Object) (ms : Members) (is : IsObject o ms) where
 -- ---- the whole text
 
 pub denied_content : (json : Option Data) (stop : Stop) → Denies (json ≡ None) stop
-    → Fails Memory (refusal_of stop) (content_in (parsed json))
+    → Fails Memory (refusal_of_text stop) (content_in (parsed json))
 denied_content json NoJson none = inr (ap (λ d. content_in (parsed d)) none)
 denied_content json stop.Memory told = inl refl
 
@@ -286,9 +286,9 @@ module _ {A : Type 0} (read : Option (A × List Token)) (a : A) (rest : List Tok
   more_left (Ok u) last = tt
   more_left (Err e) more = rw more.0 (not_over a read rest is more.1)
 
-pub value_last : (depth : ℕ) (tokens rest : List Token) (d : Data) → Begins depth tokens d rest → (r : Result Unit Stop)
+pub value_last : (depth : ℕ) (tokens rest : List Token) (d : Data) → BeginsWith depth tokens d rest → (r : Result Unit Stop)
     → MatchResult r (λ _. rest ≡ []) (λ stop. (stop ≡ NoJson) × ¬ (rest ≡ [])) → OnOk r (HasValue depth tokens [])
-value_last depth tokens rest d begins (Ok u) last = (d, subst (Begins depth tokens d) last begins)
+value_last depth tokens rest d begins (Ok u) last = (d, subst (BeginsWith depth tokens d) last begins)
 value_last depth tokens rest d begins (Err e) more = tt
 
 pub all_object : (tokens rest : List Token) (o : Object) → HasObject tokens rest o → (r : Result Unit Stop)

@@ -11,11 +11,21 @@ use Rattle.cyc_script.specs.declared.cause.Cause.{Cause}
 use Rattle.cyc_script.specs.declared.part.Part.{Part}
 use Rattle.cyc_script.specs.declared.step.Step.{Step}
 use Rattle.cyc_script.specs.declared.step.Step.TheVariants.{Suspend, Resume}
-use Rattle.cyc_script.specs.Parameters.{shaped, at_most, name_in, level_in, soft_in, whole_in, name_of, level_in_value, soft_of}
+use Rattle.cyc_script.specs.Parameters.{
+  shaped,
+  at_most,
+  name_in,
+  level_in_word,
+  soft_in,
+  whole_in,
+  name_of,
+  level_in_value,
+  soft_of,
+}
 use Rattle.cyc_script.specs.Parameters.{whole_of, skew_of, unsigned_of, moment_of}
-use Rattle.cyc_script.specs.Parts.{data_of, plain, plain_number}
+use Rattle.cyc_script.specs.Parts.{data_of, plain_data, plain_number}
 use Rattle.cyc_script.specs.Script.{number_between}
-use Rattle.cyc_script.specs.Steps.{accepted, step_of}
+use Rattle.cyc_script.specs.Steps.{accepted_form, step_of}
 use Rattle.cyc_script.specs.Tokens.{ReadsAs}
 use Rattle.cyc_script.specs.Words.{◌>>=◌, add_of, omni_of, bind_of, unbind_of, reprogram_of, remove_of, advance_of, softint_of}
 use Rattle.cyc_script.specs.Words.{only_cpu, without_parameters, form_of, form_of_items, form_of_value}
@@ -27,7 +37,7 @@ no_text : (n : Num) (whole : Option ℤ) → as_str (plain_number n whole) ≡ N
 no_text n None = refl
 no_text n (Some z) = refl
 
-plain_text : (d : Data) → as_str (plain d) ≡ as_str d
+plain_text : (d : Data) → as_str (plain_data d) ≡ as_str d
 plain_text null = refl
 plain_text (boolean b) = refl
 plain_text (number n) = no_text n (as_i64 n)
@@ -39,7 +49,7 @@ number_whole : (n : Num) (whole : Option ℤ) → as_i64 n ≡ whole → whole_i
 number_whole n None e = refl
 number_whole n (Some z) e = e
 
-plain_whole : (d : Data) → whole_in (plain d) ≡ whole_in d
+plain_whole : (d : Data) → whole_in (plain_data d) ≡ whole_in d
 plain_whole null = refl
 plain_whole (boolean b) = refl
 plain_whole (number n) = number_whole n (as_i64 n) refl
@@ -47,99 +57,99 @@ plain_whole (string s) = refl
 plain_whole (array ds) = refl
 plain_whole (object ms) = refl
 
-pub plain_between : (least most : ℕ) (d : Data) → number_between least most (plain d) ≡ number_between least most d
+pub plain_between : (least most : ℕ) (d : Data) → number_between least most (plain_data d) ≡ number_between least most d
 plain_between least most d =
     ap (λ z. option_and_then (λ n. if nat_le least n then Some n else None) (option_and_then (at_most most) z)) (plain_whole d)
 
 -- a whole number is plain
-pub whole_plain : (z : ℤ) → as_i64 (of_integer z) ≡ Some z → plain (number (of_integer z)) ≡ number (of_integer z)
+pub whole_plain : (z : ℤ) → as_i64 (of_integer z) ≡ Some z → plain_data (number (of_integer z)) ≡ number (of_integer z)
 whole_plain z e = ap (plain_number (of_integer z)) e
 
-pub other_plain : (n : Num) → as_i64 n ≡ None → plain (number n) ≡ null
+pub other_plain : (n : Num) → as_i64 n ≡ None → plain_data (number n) ≡ null
 other_plain n e = ap (plain_number n) e
 
-name : (d : Data) → name_of (plain d) ≡ name_of d
+name : (d : Data) → name_of (plain_data d) ≡ name_of d
 unfolding name_of
 name d = ap (λ s. shaped (option_and_then name_in s)) (plain_text d)
 
-level : (d : Data) → level_in_value (plain d) ≡ level_in_value d
+level : (d : Data) → level_in_value (plain_data d) ≡ level_in_value d
 unfolding level_in_value
-level d = ap (λ s. shaped (option_and_then level_in s)) (plain_text d)
+level d = ap (λ s. shaped (option_and_then level_in_word s)) (plain_text d)
 
-soft : (d : Data) → soft_of (plain d) ≡ soft_of d
+soft : (d : Data) → soft_of (plain_data d) ≡ soft_of d
 unfolding soft_of
 soft d = ap (λ s. shaped (option_and_then soft_in s)) (plain_text d)
 
-whole : (d : Data) → whole_of (plain d) ≡ whole_of d
+whole : (d : Data) → whole_of (plain_data d) ≡ whole_of d
 unfolding whole_of
 whole d = ap shaped (plain_whole d)
 
-moment : (d : Data) → moment_of (plain d) ≡ moment_of d
+moment : (d : Data) → moment_of (plain_data d) ≡ moment_of d
 unfolding moment_of
 moment d = ap (λ z. shaped (option_and_then (at_most (never - 1)) z)) (plain_whole d)
 
-skew : (d : Data) → skew_of (plain d) ≡ skew_of d
+skew : (d : Data) → skew_of (plain_data d) ≡ skew_of d
 unfolding skew_of
 skew d = ap (λ z. shaped (option_and_then (at_most never) z)) (plain_whole d)
 
-unsigned : (d : Data) → unsigned_of (plain d) ≡ unsigned_of d
+unsigned : (d : Data) → unsigned_of (plain_data d) ≡ unsigned_of d
 unfolding unsigned_of
 unsigned d = ap (λ z. shaped (option_and_then (at_most 4294967295) z)) (plain_whole d)
 
 -- ---- the words
 
-adds : (parts : List Data) → add_of (map plain parts) ≡ add_of parts
+adds : (parts : List Data) → add_of (map plain_data parts) ≡ add_of parts
 unfolding add_of
 adds (a ∷ b ∷ c ∷ d ∷ []) = rw (name a, level b, whole c, whole d) refl
 adds _ = refl
 
-omnis : (parts : List Data) → omni_of (map plain parts) ≡ omni_of parts
+omnis : (parts : List Data) → omni_of (map plain_data parts) ≡ omni_of parts
 unfolding omni_of
 omnis (a ∷ b ∷ c ∷ d ∷ e ∷ []) = rw (name a, level b, whole c, whole d, skew e) refl
 omnis _ = refl
 
-binds : (parts : List Data) → bind_of (map plain parts) ≡ bind_of parts
+binds : (parts : List Data) → bind_of (map plain_data parts) ≡ bind_of parts
 unfolding bind_of
 binds (a ∷ b ∷ []) = rw (name a, unsigned b) refl
 binds _ = refl
 
-unbinds : (parts : List Data) → unbind_of (map plain parts) ≡ unbind_of parts
+unbinds : (parts : List Data) → unbind_of (map plain_data parts) ≡ unbind_of parts
 unfolding unbind_of
 unbinds (a ∷ []) = rw (name a) refl
 unbinds _ = refl
 
-reprograms : (parts : List Data) → reprogram_of (map plain parts) ≡ reprogram_of parts
+reprograms : (parts : List Data) → reprogram_of (map plain_data parts) ≡ reprogram_of parts
 unfolding reprogram_of
 reprograms (a ∷ b ∷ []) = rw (name a, whole b) refl
 reprograms (a ∷ b ∷ c ∷ []) = rw (name a, whole b, unsigned c) refl
 reprograms _ = refl
 
-removes : (parts : List Data) → remove_of (map plain parts) ≡ remove_of parts
+removes : (parts : List Data) → remove_of (map plain_data parts) ≡ remove_of parts
 unfolding remove_of
 removes (a ∷ []) = rw (name a) refl
 removes _ = refl
 
-advances : (parts : List Data) → advance_of (map plain parts) ≡ advance_of parts
+advances : (parts : List Data) → advance_of (map plain_data parts) ≡ advance_of parts
 unfolding advance_of
 advances (a ∷ []) = rw (moment a) refl
 advances _ = refl
 
-softints : (parts : List Data) → softint_of (map plain parts) ≡ softint_of parts
+softints : (parts : List Data) → softint_of (map plain_data parts) ≡ softint_of parts
 unfolding softint_of
 softints (a ∷ b ∷ c ∷ []) = rw (unsigned a, soft b, unsigned c) refl
 softints _ = refl
 
-cpus : (parts : List Data) → only_cpu (map plain parts) ≡ only_cpu parts
+cpus : (parts : List Data) → only_cpu (map plain_data parts) ≡ only_cpu parts
 unfolding only_cpu
 cpus (a ∷ []) = unsigned a
 cpus _ = refl
 
-alone : (step : Step) (parts : List Data) → without_parameters step (map plain parts) ≡ without_parameters step parts
+alone : (step : Step) (parts : List Data) → without_parameters step (map plain_data parts) ≡ without_parameters step parts
 unfolding without_parameters
 alone step [] = refl
 alone step (a ∷ parts) = refl
 
-forms : (word : List ℕ) (parts : List Data) → form_of word (map plain parts) ≡ form_of word parts
+forms : (word : List ℕ) (parts : List Data) → form_of word (map plain_data parts) ≡ form_of word parts
 unfolding form_of
 forms word parts = rw (
   adds parts,
@@ -161,10 +171,10 @@ then_same : {A B : Type 0} (r : Result A Cause) (f g : A → Result B Cause) →
 then_same (Ok x) f g same = same x
 then_same (Err e) f g same = refl
 
-plain_items : (parts : List Data) → form_of_items (map plain parts) ≡ form_of_items parts
+plain_items : (parts : List Data) → form_of_items (map plain_data parts) ≡ form_of_items parts
 unfolding form_of_items
 plain_items [] = refl
-plain_items (word ∷ parts) = ap (λ s. shaped s >>= λ w. form_of w (map plain parts)) (plain_text word)
+plain_items (word ∷ parts) = ap (λ s. shaped s >>= λ w. form_of w (map plain_data parts)) (plain_text word)
     ∙ then_same (shaped (as_str word)) _ _ (λ w. forms w parts)
 
 -- no word has more than six parts with itself
@@ -179,13 +189,13 @@ unfolding form_of_value
 form_of_array ds = ap form_of_items (list_of_items_of ds)
 
 -- a step of these items reads as that of its first parts does
-pub reads_as : (front : List Data) (parts : List Part) → map data_of parts ≡ take 7 (map plain front)
+pub reads_as : (front : List Data) (parts : List Part) → map data_of parts ≡ take 7 (map plain_data front)
     → ReadsAs (array (items_of front)) parts
 unfolding step_of
 reads_as front parts e = λ before.
-    let seen = form_of_array (map data_of parts) ∙ ap form_of_items e ∙ first_items (map plain front) ∙ plain_items front
+    let seen = form_of_array (map data_of parts) ∙ ap form_of_items e ∙ first_items (map plain_data front) ∙ plain_items front
     ∙ sym (form_of_array front) in
-    ap (λ form. form >>= accepted before) seen
+    ap (λ form. form >>= accepted_form before) seen
 
 -- what is no list reads as a step without parts
 pub reads_as_none : (d : Data) → as_array d ≡ None → ReadsAs d []
@@ -205,19 +215,21 @@ take_full zero ds d full = refl
 take_full (suc n) [] d full = absurd (omega (arith, full))
 take_full (suc n) (x ∷ ds) d full = ap (λ rest. x ∷ rest) (take_full n ds d (omega (arith, full)))
 
-module _ (parts : List Part) (front : List Data) (part : Part) (d : Data) (are : map data_of parts ≡ take 7 (map plain front))
-    (is : data_of part ≡ plain d) where
-  same_length : length parts ≡ length (take 7 (map plain front))
+module _ (parts : List Part) (front : List Data) (part : Part) (d : Data) (are : map data_of parts ≡ take 7 (map plain_data
+    front))
+    (is : data_of part ≡ plain_data d) where
+  same_length : length parts ≡ length (take 7 (map plain_data front))
   same_length = sym (length-map parts data_of) ∙ ap length are
 
-  pub part_pushed : length parts ≤ 6 → map data_of (parts ++ part ∷ []) ≡ take 7 (map plain (front ++ d ∷ []))
+  pub part_pushed : length parts ≤ 6 → map data_of (parts ++ part ∷ []) ≡ take 7 (map plain_data (front ++ d ∷ []))
   part_pushed few =
-      let less : length (take 7 (map plain front)) < 7 = omega (arith, few, same_length) in
+      let less : length (take 7 (map plain_data front)) < 7 = omega (arith, few, same_length) in
       map-append data_of parts (part ∷ []) ∙ ap (λ ds. ds ++ data_of part ∷ []) are
-      ∙ ap (λ x. take 7 (map plain front) ++ x ∷ []) is ∙ sym (take_more 7 (map plain front) (plain d) less)
-      ∙ ap (take 7) (sym (map-append plain front (d ∷ [])))
+      ∙ ap (λ x. take 7 (map plain_data front) ++ x ∷ []) is ∙ sym (take_more 7 (map plain_data front) (plain_data d) less)
+      ∙ ap (take 7) (sym (map-append plain_data front (d ∷ [])))
 
-  pub part_left : 6 < length parts → map data_of parts ≡ take 7 (map plain (front ++ d ∷ []))
+  pub part_left : 6 < length parts → map data_of parts ≡ take 7 (map plain_data (front ++ d ∷ []))
   part_left many =
-      let full : 7 ≤ length (take 7 (map plain front)) = omega (arith, many, same_length) in
-      are ∙ sym (take_full 7 (map plain front) (plain d) full) ∙ ap (take 7) (sym (map-append plain front (d ∷ [])))
+      let full : 7 ≤ length (take 7 (map plain_data front)) = omega (arith, many, same_length) in
+      are ∙ sym (take_full 7 (map plain_data front) (plain_data d) full)
+      ∙ ap (take 7) (sym (map-append plain_data front (d ∷ [])))

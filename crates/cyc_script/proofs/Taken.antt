@@ -19,12 +19,12 @@ use Rattle.cyc_script.specs.declared.step.Step.{Step}
 use Rattle.cyc_script.specs.declared.stop.Stop.{Stop}
 use Rattle.cyc_script.specs.declared.stop.Stop.TheVariants.{NoJson}
 use Rattle.cyc_script.specs.declared.stop.Stop.TheVariants as stop
-use Rattle.cyc_script.specs.Answers.{Fails, refusal_at}
+use Rattle.cyc_script.specs.Answers.{Fails, refusal_of_step}
 use Rattle.cyc_script.specs.Limits.{most_steps}
 use Rattle.cyc_script.specs.Steps.{Fits, first_context, step_of, steps_of}
 use Rattle.cyc_script.specs.Script.{formed}
-use Rattle.cyc_script.specs.Tokens.{Begins, BeginsItems, Denies, HasItems, HasNoItems, HasSteps, IsRefused, RefusesOn}
-use Rattle.cyc_script.specs.Tokens.{AreWhole, TakesStep, steps_with, values_on, values_read}
+use Rattle.cyc_script.specs.Tokens.{BeginsWith, BeginsItems, Denies, HasItems, HasNoItems, HasSteps, IsRefusedStep, RefusesOn}
+use Rattle.cyc_script.specs.Tokens.{AreWhole, ReadsStep, steps_with, values_on, values_read}
 use Rattle.cyc_script.specs.WellFormed.{IsWellFormed, names_fit, names_after_all, moments_fit, moment_after_all, name_fits}
 use Rattle.cyc_script.specs.WellFormed.{moment_fits}
 use Rattle.cyc_script.specs.Words.{list_of, ◌>>=◌}
@@ -138,14 +138,14 @@ many_on steps before values many =
 fault_on : (steps : List Step) (before : Context) (d : Data) (fault : Cause) → step_of before d ≡ Err fault
     → (values : List Data) (few : Bool) → MatchBool few (length steps + 1 + length values ≤ most_steps)
     (most_steps < length steps + 1 + length values)
-    → values_on steps before (d ∷ values) ≡ Err (if few then refusal_at (length steps + 1) fault else ScriptShape 0)
+    → values_on steps before (d ∷ values) ≡ Err (if few then refusal_of_step (length steps + 1) fault else ScriptShape 0)
 fault_on steps before d fault faulty values true fits =
     let few : nat_le (length steps + length (d ∷ values)) most_steps ≡ true = grind (arith, nat_tests) in
     rw few (step_faulty steps before d values fault faulty)
 fault_on steps before d fault faulty values false many = many_on steps before (d ∷ values) (omega (arith, many))
 
 module _ (steps : List Step) (before : Context) (d : Data) (old new : List Token) (going : after_end_array old ≡ None)
-    (begins : Begins 125 old d new) where
+    (begins : BeginsWith 125 old d new) where
   pub one_turn : (n : ℕ) → length old ≤ n → converted of_items (items (value 125) n old)
       ≡ parse_map (item d) (converted of_items (items (value 125) (n - 1) new))
   one_turn n enough = item_read (value 125) n old new d (omega (arith, enough, shorter 125 old new d begins)) going begins
@@ -165,7 +165,7 @@ module _ (steps : List Step) (before : Context) (d : Data) (old new : List Token
   none_behind none n enough = one_turn n enough ∙ ap (parse_map (item d)) (none (n - 1) (less n enough))
 
   pub many_refused : length steps ≡ most_steps → (rest : List Token) (refused : Refusal)
-      → IsRefused 0 (ScriptShape 0) new rest refused → RefusesOn steps before old rest refused
+      → IsRefusedStep 0 (ScriptShape 0) new rest refused → RefusesOn steps before old rest refused
   many_refused full rest refused (few, has, is) =
       let shape : refused ≡ ScriptShape 0 = is ∙ either few in
       behind 0 few rest refused has
@@ -177,14 +177,14 @@ module _ (steps : List Step) (before : Context) (d : Data) (old new : List Token
 
   -- the refusal of a faulty step, and that of its shape where too many stand behind it
   pub fault_refused : length steps < most_steps → (most : ℕ) → most ≡ most_steps - (length steps + 1) → (fault : Cause)
-      (refusal : Refusal) → refusal ≡ refusal_at (length steps + 1) fault → Fails cause.Memory fault (step_of before d)
-      → (rest : List Token) (refused : Refusal) → IsRefused most refusal new rest refused
+      (refusal : Refusal) → refusal ≡ refusal_of_step (length steps + 1) fault → Fails cause.Memory fault (step_of before d)
+      → (rest : List Token) (refused : Refusal) → IsRefusedStep most refusal new rest refused
       → RefusesOn steps before old rest refused
   fault_refused some most left fault refusal at fails rest refused (false, has, e) =
       behind most false rest refused has
       (λ values is. inr (many_on steps before (d ∷ values) (omega (arith, left, some, is)) ∙ ap Err (sym e)))
   fault_refused some most left fault refusal at (inl memory) rest refused (true, has, e) =
-      let same : refused ≡ Memory = e ∙ at ∙ ap (refusal_at (length steps + 1)) memory in
+      let same : refused ≡ Memory = e ∙ at ∙ ap (refusal_of_step (length steps + 1)) memory in
       behind most true rest refused has (λ values is. inl same)
   fault_refused some most left fault refusal at (inr faulty) rest refused (true, has, e) =
       behind most true rest refused has
@@ -221,7 +221,7 @@ keeps_more steps before after step fits kept =
     }
 
 module _ (old new : List Token) (steps longer : List Step) (before after : Context)
-    (is : TakesStep old new steps longer before after) where
+    (is : ReadsStep old new steps longer before after) where
   pub few_more : length longer ≤ most_steps
   few_more = rw is.pushed (omega (arith, is.few, length-append steps (is.step ∷ [])))
 
@@ -236,7 +236,7 @@ few_read values read few e = let fits : nat_le (length values) most_steps ≡ tr
 
 -- one step more
 pub step_taken : (tokens old new : List Token) (n : ℕ) (steps longer : List Step) (before after : Context) → length old ≤ n
-    → after_end_array old ≡ None → TakesStep old new steps longer before after
+    → after_end_array old ≡ None → ReadsStep old new steps longer before after
     → taken [] first_context (converted of_items (items (value 125) (length tokens) tokens))
     ≡ taken steps before (converted of_items (items (value 125) n old))
     → taken [] first_context (converted of_items (items (value 125) (length tokens) tokens))

@@ -5,15 +5,12 @@ use Rattle.std.specs.Prelude.{◌&&◌, All}
 use Rattle.std.proofs.lemmas.Bool.Decides.{nat_tests}
 use Rattle.std.proofs.lemmas.List.{at_drop_more}
 use Rattle.std.proofs.lemmas.List.Elements.{All-nil, All-cons}
+use Rattle.cyc_types.proofs.Facts.{and_first}
 use Rattle.cyc_script.specs.declared.step.Step.{Step}
 use Rattle.cyc_script.specs.declared.step.Step.TheVariants.{Add, Omni, Bind, Unbind, Reprogram, Remove, Advance, Softint, Juggle}
 use Rattle.cyc_script.specs.declared.step.Step.TheVariants.{Offline, Online, Suspend, Resume}
 use Rattle.cyc_script.specs.WellFormed.{names_after, names_after_all, name_fits, names_fit, moment_after, moment_after_all}
 use Rattle.cyc_script.specs.WellFormed.{moment_fits, moments_fit, IsWellFormed}
-
-and_first : (a b : Bool) → (a && b) ≡ true → a ≡ true
-and_first true b e = refl
-and_first false b e = e
 
 and_second : (a b : Bool) → (a && b) ≡ true → b ≡ true
 and_second true b e = e

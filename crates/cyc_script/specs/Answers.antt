@@ -8,17 +8,17 @@ use Rattle.cyc_script.specs.declared.stop.Stop.{Stop}
 use Rattle.cyc_script.specs.declared.stop.Stop.TheVariants as stop
 
 -- the refusal of the step of this number
-abbrev pub refusal_at : ℕ → Cause → Refusal
-refusal_at step cause.Memory = refusal.Memory
-refusal_at step cause.Shape = refusal.ScriptShape step
-refusal_at step cause.NameTwice = refusal.NameTwice step
-refusal_at step cause.NoName = refusal.NoName step
-refusal_at step cause.TimeBack = refusal.TimeBack step
+abbrev pub refusal_of_step : ℕ → Cause → Refusal
+refusal_of_step step cause.Memory = refusal.Memory
+refusal_of_step step cause.Shape = refusal.ScriptShape step
+refusal_of_step step cause.NameTwice = refusal.NameTwice step
+refusal_of_step step cause.NoName = refusal.NoName step
+refusal_of_step step cause.TimeBack = refusal.TimeBack step
 
 -- the refusal of a text that is read no further
-abbrev pub refusal_of : Stop → Refusal
-refusal_of stop.Memory = refusal.Memory
-refusal_of stop.NoJson = refusal.ScriptSyntax
+abbrev pub refusal_of_text : Stop → Refusal
+refusal_of_text stop.Memory = refusal.Memory
+refusal_of_text stop.NoJson = refusal.ScriptSyntax
 
 -- the error is the wanted one, or memory
 abbrev pub Fails : {E Y : Type 0} → E → E → Result Y E → Type 0

@@ -9,10 +9,6 @@ most_bytes = 16777216
 abbrev pub most_steps : ℕ
 most_steps = 65536
 
--- CPUs
-abbrev pub most_cpus : ℕ
-most_cpus = 16
-
 -- bytes of a name
 abbrev pub longest_name : ℕ
 longest_name = 32

@@ -71,13 +71,13 @@ name_of d = shaped (option_and_then name_in (as_str d))
 -- ---- levels
 
 -- the level of a word
-abbrev pub level_in : List ℕ → Option Level
-level_in word = if bytes_eq word (codes "low") then Some level.Low else if bytes_eq word (codes "lock") then Some level.Lock
+abbrev pub level_in_word : List ℕ → Option Level
+level_in_word word = if bytes_eq word (codes "low") then Some level.Low else if bytes_eq word (codes "lock") then Some level.Lock
     else if bytes_eq word (codes "high") then Some level.High else None
 
 -- the level of a cyclic
 unfoldable pub level_in_value : Data → Result Level Cause
-level_in_value d = shaped (option_and_then level_in (as_str d))
+level_in_value d = shaped (option_and_then level_in_word (as_str d))
 
 -- the soft level of a word
 abbrev pub soft_in : List ℕ → Option Soft

@@ -17,13 +17,13 @@ plain_number n (Some z) = number n
 plain_number n None = null
 
 -- a value with null in its place where it is neither a text nor a whole number
-abbrev pub plain : Data → Data
-plain null = null
-plain (boolean b) = null
-plain (number n) = plain_number n (as_i64 n)
-plain (string s) = string s
-plain (array ds) = null
-plain (object ms) = null
+abbrev pub plain_data : Data → Data
+plain_data null = null
+plain_data (boolean b) = null
+plain_data (number n) = plain_number n (as_i64 n)
+plain_data (string s) = string s
+plain_data (array ds) = null
+plain_data (object ms) = null
 
 -- the number that was read is this whole one
 abbrev pub IsWhole : ℤ → Option Num → Type 0
@@ -37,4 +37,4 @@ IsNumber (Some (Some z)) read = IsWhole z read
 
 -- the text of a number stands for this part
 abbrev pub IsNumberPart : List ℕ → Part → Type 0
-IsNumberPart text part = (n : Num) × (number_of text ≡ Some n) × (data_of part ≡ plain (number n))
+IsNumberPart text part = (n : Num) × (number_of text ≡ Some n) × (data_of part ≡ plain_data (number n))

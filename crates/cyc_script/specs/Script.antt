@@ -11,7 +11,8 @@ use Rattle.cyc_types.specs.declared.refusal.Refusal.{Refusal}
 use Rattle.cyc_types.specs.declared.refusal.Refusal.TheVariants.{ScriptSyntax, ScriptShape}
 use Rattle.cyc_script.specs.declared.script.Script.{Script}
 use Rattle.cyc_script.specs.declared.step.Step.{Step}
-use Rattle.cyc_script.specs.Limits.{most_bytes, most_cpus, most_steps}
+use Rattle.cyc_types.specs.Limits.{most_cpus, greatest_ceiling}
+use Rattle.cyc_script.specs.Limits.{most_bytes, most_steps}
 use Rattle.cyc_script.specs.Parameters.{number_in}
 use Rattle.cyc_script.specs.Steps.{first_context, steps_of}
 use Rattle.cyc_script.specs.Words.{list_of, ◌>>=◌}
@@ -48,8 +49,8 @@ cpus_of d = option_and_then cpus_in (get (codes "cpus") d)
 
 -- 1 to 2^32-1, and the greatest where there is no ceiling
 abbrev pub ceiling_in : Option Data → Option ℕ
-ceiling_in None = Some 4294967295
-ceiling_in (Some d) = number_between 1 4294967295 d
+ceiling_in None = Some greatest_ceiling
+ceiling_in (Some d) = number_between 1 greatest_ceiling d
 
 -- the ceiling of the pend
 unfoldable pub ceiling_of : Data → Option ℕ

@@ -7,7 +7,7 @@ use Rattle.cyc_script.specs.declared.cause.Cause.{Cause}
 use Rattle.cyc_script.specs.declared.cause.Cause.TheVariants.{TimeBack}
 use Rattle.cyc_script.specs.declared.step.Step.{Step}
 use Rattle.cyc_script.specs.declared.step.Step.TheVariants.{Advance}
-use Rattle.cyc_script.specs.Answers.{Gives, refusal_at}
+use Rattle.cyc_script.specs.Answers.{Gives, refusal_of_step}
 use Rattle.cyc_script.specs.Names.{introduced, referred}
 use Rattle.cyc_script.specs.WellFormed.{name_fits, names_after, moment_fits, moment_after}
 use Rattle.cyc_script.specs.Words.{Form, introduces, refers, advances, nameless, form_of_value, ◌>>=◌}
@@ -19,29 +19,29 @@ abbrev pub first_context : Context
 first_context = record { names = []; moment = 0 }
 
 -- the step of a form, and the context that it leaves to the next one
-abbrev pub accepted : Context → Form → Result (Step × Context) Cause
-accepted before (introduces text step) = do
+abbrev pub accepted_form : Context → Form → Result (Step × Context) Cause
+accepted_form before (introduces text step) = do
   new ← introduced text before.names
   Ok (step new.0, record before { names = new.1 })
-accepted before (refers text step) = do
+accepted_form before (refers text step) = do
   number ← referred text before.names
   Ok (step number, before)
-accepted before (advances moment) =
+accepted_form before (advances moment) =
     if nat_lt moment before.moment then Err TimeBack else Ok (Advance moment, record before { moment = moment })
-accepted before (nameless step) = Ok (step, before)
+accepted_form before (nameless step) = Ok (step, before)
 
 -- the step of a value: first its form is judged, then its name or its moment
 unfoldable pub step_of : Context → Data → Result (Step × Context) Cause
 step_of before d = do
   form ← form_of_value d
-  accepted before form
+  accepted_form before form
 
 -- ---- all steps
 
 -- the refusal of the step of this number
 abbrev pub numbered : {A : Type 0} → ℕ → Result A Cause → Result A Refusal
 numbered number (Ok x) = Ok x
-numbered number (Err cause) = Err (refusal_at number cause)
+numbered number (Err cause) = Err (refusal_of_step number cause)
 
 -- these steps and then those of the values, with all names; the first faulty step decides
 unfoldable pub steps_of : List Step → Context → List Data → Result (List Step × List (List ℕ)) Refusal
@@ -54,7 +54,7 @@ steps_of steps before (d ∷ ds) = do
 
 -- the answer, and the context that is left, are what the form gives, or memory ran out
 abbrev pub Reads : Result Step Cause → Context → Context → Result Form Cause → Type 0
-Reads result before after form = Gives (λ step. (step, after)) result (form >>= accepted before)
+Reads result before after form = Gives (λ step. (step, after)) result (form >>= accepted_form before)
 
 -- names are introduced before they are used, and moments don't fall
 pub record Fits (before : Context) (step : Step) (after : Context) : Type 0 where

@@ -18,7 +18,7 @@ use Rattle.cyc_script.specs.declared.step.Step.{Step}
 use Rattle.cyc_script.specs.declared.stop.Stop.{Stop}
 use Rattle.cyc_script.specs.declared.stop.Stop.TheVariants as stop
 use Rattle.cyc_script.specs.Answers.{Answers, Fails}
-use Rattle.cyc_script.specs.Parts.{data_of, plain}
+use Rattle.cyc_script.specs.Parts.{data_of, plain_data}
 use Rattle.cyc_script.specs.Script.{Content, content_of, has_keys, cpus_of, ceiling_of, values_of, within_limit, formed}
 use Rattle.cyc_script.specs.Limits.{most_steps}
 use Rattle.cyc_script.specs.Steps.{Fits, first_context, step_of, steps_of}
@@ -28,8 +28,8 @@ use Rattle.cyc_script.specs.Words.{list_of, ◌>>=◌}
 -- ---- values
 
 -- the tokens begin with this value, and then the rest comes
-abbrev pub Begins : ℕ → List Token → Data → List Token → Type 0
-Begins depth tokens d rest = converted of_json (value depth tokens) ≡ Some (d, rest)
+abbrev pub BeginsWith : ℕ → List Token → Data → List Token → Type 0
+BeginsWith depth tokens d rest = converted of_json (value depth tokens) ≡ Some (d, rest)
 
 -- the tokens begin with these items and the bracket that closes them, and then the rest comes
 abbrev pub BeginsItems : ℕ → List Token → Items → List Token → Type 0
@@ -37,11 +37,11 @@ BeginsItems depth tokens ds rest = converted of_items (items (value depth) (leng
 
 -- the tokens begin with a value, and then the rest comes
 abbrev pub HasValue : ℕ → List Token → List Token → Type 0
-HasValue depth tokens rest = (d : Data) × Begins depth tokens d rest
+HasValue depth tokens rest = (d : Data) × BeginsWith depth tokens d rest
 
 -- the tokens begin with the value of this part, and then the rest comes
 abbrev pub HasPart : ℕ → List Token → Part → List Token → Type 0
-HasPart depth tokens part rest = (d : Data) × Begins depth tokens d rest × (data_of part ≡ plain d)
+HasPart depth tokens part rest = (d : Data) × BeginsWith depth tokens d rest × (data_of part ≡ plain_data d)
 
 -- a token is a value by itself
 abbrev pub is_leaf : declared.Token → Bool
@@ -87,7 +87,7 @@ ReadsAs d parts = (before : Context) → step_of before (step_data parts) ≡ st
 
 -- the tokens begin with a value that reads as the step of these parts does, and then the rest comes
 abbrev pub HasParts : ℕ → List Token → List Part → List Token → Type 0
-HasParts depth tokens parts rest = (d : Data) × Begins depth tokens d rest × ReadsAs d parts
+HasParts depth tokens parts rest = (d : Data) × BeginsWith depth tokens d rest × ReadsAs d parts
 
 -- the same of the items of a step
 abbrev pub HasItemsOf : ℕ → List Token → List Part → List Token → Type 0
@@ -110,16 +110,16 @@ RefusesOn steps before tokens rest refusal = (n : ℕ) → length tokens ≤ n
     × Fails Memory refusal (values_on steps before (list_of ds))
 
 -- where so many steps may stand behind the present one, and another stands in its place: the refusal
-abbrev pub IsRefused : ℕ → Refusal → List Token → List Token → Refusal → Type 0
-IsRefused most refusal tokens rest refused =
+abbrev pub IsRefusedStep : ℕ → Refusal → List Token → List Token → Refusal → Type 0
+IsRefusedStep most refusal tokens rest refused =
     (few : Bool) × HasItems 125 most tokens few rest × (refused ≡ (if few then refusal else ScriptShape 0))
 
 -- the tokens begin with a step that is read behind these
-pub record TakesStep (old new : List Token) (steps longer : List Step) (before after : Context) : Type 0 where
+pub record ReadsStep (old new : List Token) (steps longer : List Step) (before after : Context) : Type 0 where
   pub written : Data
   pub step : Step
   pub few : length steps < most_steps
-  pub begins : Begins 125 old written new
+  pub begins : BeginsWith 125 old written new
   pub reads : step_of before written ≡ Ok (step, after)
   pub fits : Fits before step after
   pub pushed : longer ≡ steps ++ step ∷ []
@@ -153,7 +153,7 @@ pub record IsObject (o : Object) (ms : Members) : Type 0 where
 
 -- the tokens begin with the value of the member of this key, after which this is known, and then the rest comes
 abbrev pub HasMember : List ℕ → List Token → List Token → Object → Object → Type 0
-HasMember key tokens rest before after = (d : Data) × Begins 126 tokens d rest
+HasMember key tokens rest before after = (d : Data) × BeginsWith 126 tokens d rest
     × ((ms : Members) → IsObject before ms → IsObject after (put key d ms))
 
 -- the tokens begin with members of which this is known, and with the brace that closes them, and then the rest comes

@@ -25,8 +25,8 @@ abbrev pub ◌>>=◌ : {A B E : Type 0} → Result A E → (A → Result B E) �
 (Err e) >>= f = Err e
 
 -- what `add` and `omni` say of a cyclic: its name, its level, its start and its interval
-unfoldable pub cyclic_of : Data → Data → Data → Data → Result (List ℕ × Level × ℤ × ℤ) Cause
-cyclic_of name level start interval = do
+unfoldable pub cyclic_in_word : Data → Data → Data → Data → Result (List ℕ × Level × ℤ × ℤ) Cause
+cyclic_in_word name level start interval = do
   n ← name_of name
   l ← level_in_value level
   s ← whole_of start

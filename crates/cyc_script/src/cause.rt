@@ -2,7 +2,7 @@
 
 ghost use Rattle.std.specs.Prelude.{◌≡◌};
 ghost use Rattle.cyc_script.specs.declared.cause.Cause.TheVariants.{Memory};
-ghost use Rattle.cyc_script.specs.Answers.{refusal_at};
+ghost use Rattle.cyc_script.specs.Answers.{refusal_of_step};
 
 use cyc_types::Refusal;
 use std::alloc::{AllocError, AllocFailed};
@@ -20,7 +20,7 @@ pub(crate) enum Cause {
 impl Cause {
     /// The refusal of the step of this number.
     pub(crate) fn at(self, step: u32) -> Refusal
-        ensures { result ≡ refusal_at step self }
+        ensures { result ≡ refusal_of_step step self }
     {
         match self {
             Cause::Memory => Refusal::Memory,

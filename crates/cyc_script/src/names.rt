@@ -36,19 +36,19 @@ impl<'a> Model for Names<'a> {
     ghost use Rattle.std.specs.Ordering.{nat_cmp};
     ghost use Rattle.std.specs.Cmp.Lexicographic.{slice_cmp};
     ghost use Rattle.std.specs.BTreeMap.{get_by};
-    ghost use Rattle.cyc_script.specs.Names.{IsNumbered, number_of};
+    ghost use Rattle.cyc_script.specs.Names.{IsNumbered, number_of_name};
 
     ghost Value = { List (List ℕ) };
 
     ghost view = { λ a. map string_bytes a.texts.items };
 
     ghost invariant = { λ a. ((q : List ℕ) → get_by (λ k. slice_cmp nat_cmp q k.now) a.numbers
-        ≡ number_of q (map string_bytes a.texts.items)) × IsNumbered (map string_bytes a.texts.items) };
+        ≡ number_of_name q (map string_bytes a.texts.items)) × IsNumbered (map string_bytes a.texts.items) };
 }
 
 impl<'a> Names<'a> {
     ghost use Rattle.cyc_script.specs.Answers.{Gives};
-    ghost use Rattle.cyc_script.specs.Names.{introduced, number_of, referred};
+    ghost use Rattle.cyc_script.specs.Names.{introduced, number_of_name, referred};
 
     /// No names.
     pub(crate) fn new(alloc: Global) -> Names<'a>
@@ -71,7 +71,7 @@ impl<'a> Names<'a> {
 
     /// The number of a name, where it stands at the place of its text.
     fn recent_number(&self, text: &str) -> Option<u32>
-        ensures { IfSome result (λ number. number_of text.now self.now ≡ Some number) }
+        ensures { IfSome result (λ number. number_of_name text.now self.now ≡ Some number) }
     {
         let number = self.recent[place_of(text)];
         let at = number as usize;

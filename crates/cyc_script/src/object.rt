@@ -1,6 +1,7 @@
 //! The object of a script, from the tokens of its text.
 
 ghost use Rattle.std.specs.Prelude.{◌≡◌, ◌∷◌, [], codes, length, Some, None, MatchResult, OnOk, IfErr};
+ghost use Rattle.cyc_types.specs.Limits.{greatest_ceiling};
 ghost use Rattle.json.specs.Json.{value};
 ghost use Rattle.json.specs.Reads.{token_of};
 ghost use Rattle.serde_json.specs.Data.{Members, no_members, object as object_of};
@@ -21,12 +22,9 @@ use crate::script::Script;
 use crate::step::Step;
 use crate::stop::Stop;
 use crate::tokens::take_steps;
-use cyc_types::{Ceiling, Refusal};
+use cyc_types::{CPUS, Ceiling, GREATEST_CEILING, Refusal};
 use json::{Reader, Scratch, Token};
 use std::alloc::Global;
-
-/// The most CPUs that a script may have.
-const MOST_CPUS: u32 = 16;
 
 /// What the members of a script's object say so far: of two with the same key the last one stands.
 #[derive(Drop)]
@@ -50,7 +48,7 @@ fn no_object<'a>(alloc: Global) -> Object<'a>
     Object {
         known: true,
         cpus: None,
-        ceiling: Ceiling::new(u32::MAX),
+        ceiling: Ceiling::new(GREATEST_CEILING),
         refusal: Some(Refusal::ScriptShape(0)),
         steps: Vec::new(alloc),
         context: Context {
@@ -62,9 +60,9 @@ fn no_object<'a>(alloc: Global) -> Object<'a>
 
 /// The ceiling that a value is.
 fn ceiling_in(part: &Part<'_>) -> Option<Ceiling>
-    ensures { result ≡ number_between 1 4294967295 (data_of part.now) }
+    ensures { result ≡ number_between 1 greatest_ceiling (data_of part.now) }
 {
-    Ceiling::new(number_between(part, 1, u32::MAX)?)
+    Ceiling::new(number_between(part, 1, GREATEST_CEILING)?)
 }
 
 /// Reads the steps that the next value is, in place of those before it. `parts` is room for the parts of each.
@@ -113,7 +111,7 @@ fn member<'a>(
     match key {
         "steps" => steps(alloc, reader, parts, object),
         "cpus" => {
-            object.cpus = number_between(&next_part(reader, 126)?, 1, MOST_CPUS);
+            object.cpus = number_between(&next_part(reader, 126)?, 1, CPUS);
             Ok(())
         }
         "ceiling" => {

@@ -1,7 +1,7 @@
 //! A script that was read.
 
 ghost use Rattle.std.specs.Prelude.{◌≤◌, length, map, string_bytes};
-ghost use Rattle.cyc_script.specs.Limits.{most_cpus};
+ghost use Rattle.cyc_types.specs.Limits.{most_cpus};
 ghost use Rattle.cyc_script.specs.Names.{AreNames};
 ghost use Rattle.cyc_script.specs.WellFormed.{IsWellFormed};
 

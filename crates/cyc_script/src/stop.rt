@@ -1,7 +1,7 @@
 //! Why a text is read no further.
 
 ghost use Rattle.std.specs.Prelude.{◌≡◌};
-ghost use Rattle.cyc_script.specs.Answers.{refusal_of};
+ghost use Rattle.cyc_script.specs.Answers.{refusal_of_text};
 ghost use Rattle.cyc_script.specs.declared.stop.Stop.TheVariants.{Memory, NoJson};
 
 use cyc_types::Refusal;
@@ -18,7 +18,7 @@ pub(crate) enum Stop {
 impl Stop {
     /// The refusal of the script.
     pub(crate) fn refusal(self) -> Refusal
-        ensures { result ≡ refusal_of self }
+        ensures { result ≡ refusal_of_text self }
     {
         match self {
             Stop::Memory => Refusal::Memory,

@@ -5,8 +5,8 @@ ghost use Rattle.json.specs.Json.{after_end_array, items, value};
 ghost use Rattle.serde_json.specs.Read.{converted, of_items, of_json};
 ghost use Rattle.cyc_script.specs.Limits.{most_steps};
 ghost use Rattle.cyc_script.specs.Steps.{first_context};
-ghost use Rattle.cyc_script.specs.Tokens.{AreWhole, Denies, HasItemsOf, HasNoItems, HasParts, HasSteps, IsRefused, RefusesOn};
-ghost use Rattle.cyc_script.specs.Tokens.{TakesStep, steps_with};
+ghost use Rattle.cyc_script.specs.Tokens.{AreWhole, Denies, HasItemsOf, HasNoItems, HasParts, HasSteps, IsRefusedStep, RefusesOn};
+ghost use Rattle.cyc_script.specs.Tokens.{ReadsStep, steps_with};
 
 use crate::cause::Cause;
 use crate::context::Context;
@@ -60,7 +60,7 @@ fn step_parts<'a>(reader: &mut Reader<'a>, parts: &mut Vec<Part<'a>>) -> Result<
 
 /// Why the steps are refused at one behind which at most so many may stand: with this, or for their shape where more do.
 fn refused_here(reader: &mut Reader<'_>, most: usize, refusal: Refusal) -> Result<Refusal, Invalid>
-    ensures { MatchResult result (λ refused. IsRefused most refusal reader.old reader.new refused)
+    ensures { MatchResult result (λ refused. IsRefusedStep most refusal reader.old reader.new refused)
         (λ _. HasNoItems 125 reader.old) }
 {
     if pass_items(reader, 125, most)? {
@@ -84,7 +84,7 @@ fn next_step<'a>(
     requires few_steps { length steps.old.items ≤ most_steps }
     requires few_names { length context.old.names ≤ length steps.old.items }
     ensures value { IfOk result (λ refusal. MatchOption refusal
-        (TakesStep reader.old reader.new steps.old.items steps.new.items context.old context.new)
+        (ReadsStep reader.old reader.new steps.old.items steps.new.items context.old context.new)
         (λ refusal. RefusesOn steps.old.items context.old reader.old reader.new refusal)) }
     ensures denied { IfErr result (Denies (HasNoItems 125 reader.old)) }
 {

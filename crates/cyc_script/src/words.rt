@@ -7,7 +7,7 @@ ghost use Rattle.cyc_script.specs.Answers.{Gives};
 ghost use Rattle.cyc_script.specs.Parts.{data_of};
 ghost use Rattle.cyc_script.specs.Steps.{Fits, Reads, step_of};
 ghost use Rattle.cyc_script.specs.Words.{add_of, omni_of, bind_of, unbind_of, reprogram_of, remove_of, advance_of, softint_of};
-ghost use Rattle.cyc_script.specs.Words.{cyclic_of, form_of, form_of_items, last_form_of, later_form_of, nameless, only_cpu};
+ghost use Rattle.cyc_script.specs.Words.{cyclic_in_word, form_of, form_of_items, last_form_of, later_form_of, nameless, only_cpu};
 ghost use Rattle.cyc_script.specs.Words.{optional_cpu, reprogram_with, without_parameters};
 
 use crate::cause::Cause;
@@ -19,7 +19,7 @@ use cyc_types::Level;
 use std::alloc::Global;
 
 /// What `add` and `omni` say of a cyclic: the text of its name, its level, its start and its interval.
-#[tactic(auto, unfolding(crate::specs::Words::cyclic_of))]
+#[tactic(auto, unfolding(crate::specs::Words::cyclic_in_word))]
 #[inline(always)]
 fn cyclic<'a>(
     name: &Part<'a>,
@@ -28,7 +28,7 @@ fn cyclic<'a>(
     interval: &Part<'_>,
 ) -> Result<(&'a str, Level, i64, i64), Cause>
     ensures { Gives (λ c. (c.0.now, c.1, c.2, c.3)) result
-        (cyclic_of (data_of name.now) (data_of level.now) (data_of start.now) (data_of interval.now)) }
+        (cyclic_in_word (data_of name.now) (data_of level.now) (data_of start.now) (data_of interval.now)) }
 {
     let text = parameters::name(name)?;
     let level = parameters::level(level)?;

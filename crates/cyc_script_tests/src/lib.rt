@@ -1,5 +1,5 @@
-//! Tests of what no clause of `cyc_input`, `cyc_text` and `cyc_script` says: what a turn of reading is, which reads and writes fail,
-//! that one which is interrupted for ever is given up, that a script is read where memory is ample, and that the definition
+//! Tests of what no clause of `cyc_input`, `cyc_text` and `cyc_script` says: what a turn of reading is, which reads and writes
+//! fail, that one which is interrupted for ever is given up, that a script is read where memory is ample, and that the definition
 //! refuses what it is meant to refuse.
 #![tactic(auto)]
 

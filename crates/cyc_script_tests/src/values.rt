@@ -4,7 +4,8 @@ use crate::refusals::{refusal_of, refusal_of_steps};
 use cyc_types::Refusal;
 use cyc_types::Refusal::{NoName, ScriptShape, ScriptSyntax, TimeBack};
 
-/// Values in a step's place, each with its refusal after two good steps: none is a step, and where it is no JSON, nor is the text.
+/// Values in a step's place, each with its refusal after two good steps: none is a step, and where it is no JSON, nor is the
+/// text.
 const NO_STEPS_BEHIND_STEPS: [(&str, Refusal); 29] = [
     ("null", ScriptShape(3)),
     ("true", ScriptShape(3)),

@@ -7,7 +7,7 @@ use Rattle.cyc_types.specs.declared.moment.When.{When}
 use Rattle.cyc_types.specs.declared.refusal.Refusal.{Refusal}
 use Rattle.cyc_types.specs.declared.refusal.Refusal.TheVariants.{Memory}
 use Rattle.cyc_types.specs.Reasons.{first_refusal, bad_now}
-use Rattle.cyc_cpu_laws.specs.Calls.{Reserve}
+use Rattle.cyc_cpu.specs.Calls.{Reserve}
 use Rattle.cyc_places.specs.declared.record.Placement.TheVariants.{On}
 use Rattle.cyc_places.specs.Places.{new_record}
 use Rattle.cyc_agreement.specs.Cpus.{CpusView, on, DoesAt, Works}

@@ -11,22 +11,24 @@ use Rattle.cyc_types.specs.Runs.{Goes, lost_by}
 use Rattle.cyc_types.specs.declared.firing.Raised.TheVariants.{First, More, Lost}
 use Rattle.cyc_types.specs.declared.level.Level.{Level}
 use Rattle.cyc_types.specs.declared.level.Level.TheVariants as at
-use Rattle.cyc_cpu_laws.specs.Fired.{Fired}
-use Rattle.cyc_cpu_laws.specs.FireRefused.{FireRefused}
-use Rattle.cyc_cpu_laws.specs.Acts.{Sides, AreRaises}
-use Rattle.cyc_cpu_laws.specs.Made.{Makes, HasCounts}
-use Rattle.cyc_cpu_laws.specs.Quiet.{LoadsThenLooks}
+use Rattle.cyc_timers.specs.declared.fire.Fired.{Fired}
+use Rattle.cyc_timers.specs.declared.fire.FireRefused.{FireRefused}
+use Rattle.cyc_cpu.specs.Acts.{Sides, AreRaises}
+use Rattle.cyc_cpu.specs.Made.{Makes, HasCounts}
+use Rattle.cyc_cpu.specs.Quiet.{LoadsThenLooks}
 use Rattle.cyc_types.specs.Expirations as expire
 use Rattle.cyc_types.specs.Expirations.{Expiration, expirations, times_of, all_after}
 use Rattle.cyc_types.specs.Timers.{Timer}
 use Rattle.cyc_types.specs.Pairs.{EachTwo}
 use Rattle.cyc_agreement.specs.Rows.{Cyclic, timers}
-use Rattle.cyc_cpu_laws.specs.Cpu.{CpuView, Running, SameCpu}
-use Rattle.cyc_cpu_laws.specs.Laws.{IsLawful}
-use Rattle.cyc_cpu_laws.specs.Losses.{IsUnder, IsSpared}
-use Rattle.cyc_cpu_laws.specs.Moving.{Inquires}
-use Rattle.cyc_cpu_laws.specs.Calls.{Changes, Does, Fire, AskSettled, no_interrupts}
+use Rattle.cyc_cpu.specs.Cpu.{CpuView, Running, SameCpu}
+use Rattle.cyc_cpu.specs.Laws.{IsLawful}
+use Rattle.cyc_cpu.specs.Losses.{IsUnder, IsSpared}
+use Rattle.cyc_cpu.specs.Moving.{Inquires}
+use Rattle.cyc_cpu.specs.Calls.{CpuChanges, CpuDoes, Fire, AskSettled, no_interrupts}
 use Rattle.cyc_system.specs.Splitting.{GoesOn, IsSameEnd, ComesBack, AllComeBack}
+use Rattle.cyc_timers.specs.Acts.{acting}
+use Rattle.cyc_timers.specs.Made.{fire_state}
 
 -- ---- two lists
 
@@ -173,9 +175,9 @@ none_cons {A} {x} {xs} e = cc
 
 -- one cyclic after a fire
 fired_one : (lock low now most : ℕ) (made : List Expiration) (lost : ℕ → ℕ → ℕ) (c d : Cyclic) → ((id n : ℕ) → n ≤ lost id n)
-    → d.timer ≡ expire.after now made c.timer
+    → d.timer ≡ expire.after_expirations now made c.timer
     → d.carried ≡ c.carried → d.lost ≡ lost c.timer.id c.lost → HasCounts most c → IsSpared lock low d → GoesOn lock low c d
-unfolding expire.after
+unfolding expire.after_expirations
 fired_one lock low now most made lost c d more timer carried losses counts spared = record {
   id = ap (λ (t : Timer). t.id) timer;
   level = ap (λ (t : Timer). t.level) timer;
@@ -233,7 +235,8 @@ module _ {C R : Type 0} (handler : Calls C) (firing : Raise R) where
   back_made : (x y : CpuView R) (calling : C → ℕ → C → Type 0) (now lost : ℕ) (made : List Expiration) (a b : Sides C R)
       → IsLawful firing.view x → IsLawful firing.view y → SameCpu x y
       → a.lock ≡ x.lock → a.low ≡ x.low → b.lock ≡ y.lock → b.low ≡ y.low
-      → Makes calling handler.count firing now made x.cyclics y.cyclics a b lost → ComesBack firing.view x y
+      → Makes (acting calling handler.count firing) now made (fire_state x.cyclics a)
+      (fire_state y.cyclics b) lost → ComesBack firing.view x y
   back_made x y calling now lost made a b lawful after same al aw bl bw m = record {
     cyclics = fired_each (firing.view x.lock).ceiling (firing.view x.low).ceiling now x.most made
         (λ id n. n + lost_by id m.acts.lock_way + lost_by id m.acts.low_way) x.cyclics y.cyclics
@@ -261,7 +264,7 @@ module _ {C R : Type 0} (handler : Calls C) (firing : Raise R) where
 
   pub back_fired : (s t : Running C R) (now : ℕ) (answer : Result Fired FireRefused) → IsLawful firing.view s.cpu
       → IsLawful firing.view t.cpu
-      → Does handler firing no_interrupts s (Fire now answer) t → ComesBack firing.view s.cpu t.cpu
+      → CpuDoes handler firing no_interrupts s (Fire now answer) t → ComesBack firing.view s.cpu t.cpu
   back_fired s t now (Ok r) lawful after (nn, same, expired, next, makes) =
       back_made s.cpu t.cpu _ now r.lost _ _ _ lawful after same refl refl refl refl makes
   back_fired s t now (Err e) lawful after (inl (is, what, same)) =
@@ -281,7 +284,7 @@ module _ {C R : Type 0} (handler : Calls C) (firing : Raise R) where
     low = inquired_end firing v.low w.low i.low;
   }
 
-  pub back_settled : (v w : CpuView R) (answer : Bool) → Changes firing v (AskSettled answer) w → ComesBack firing.view v w
+  pub back_settled : (v w : CpuView R) (answer : Bool) → CpuChanges firing v (AskSettled answer) w → ComesBack firing.view v w
   back_settled v w true d = back_inquired v w d.0
   back_settled v w false d = back_inquired v w d.0
 

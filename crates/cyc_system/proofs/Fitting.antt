@@ -14,16 +14,16 @@ use Rattle.cyc_types.specs.declared.Raise.{Ghosts as Raise}
 use Rattle.cyc_types.specs.declared.firing.Sent.{Sent}
 use Rattle.cyc_types.specs.Counting.{no_counts}
 use Rattle.cyc_agreement.specs.Rows.{Cyclic}
-use Rattle.cyc_cpu_laws.specs.Made.{HasCounts}
-use Rattle.cyc_cpu_laws.specs.Taken.{Taken}
-use Rattle.cyc_cpu_laws.specs.Cpu.{CpuView, HasNoCyclic, HasRisingIds}
-use Rattle.cyc_cpu_laws.specs.Laws.{IsLawful}
-use Rattle.cyc_cpu_laws.specs.Calls.{AskPending, Reserve, TakeNow}
+use Rattle.cyc_cpu.specs.Made.{HasCounts}
+use Rattle.cyc_cpu.specs.declared.moving.Taken.{Taken}
+use Rattle.cyc_cpu.specs.Cpu.{CpuView, HasNoCyclic, HasRisingCyclics}
+use Rattle.cyc_cpu.specs.Laws.{IsLawful}
+use Rattle.cyc_cpu.specs.Calls.{AskPending, Reserve, TakeNow}
 use Rattle.cyc_cpu_laws.specs.Accounts.{expired_of, entered_by, left_by}
 use Rattle.cyc_cpu_laws.proofs.Shifts.{changes_shift, shift_sums}
 use Rattle.cyc_places.specs.declared.record.Placement.TheVariants as stands
 use Rattle.cyc_places.specs.declared.record.Record.{Record}
-use Rattle.cyc_places.specs.Places.{IsRecord, ended_on, summed, with_place, with_ended}
+use Rattle.cyc_places.specs.Places.{IsRecord, ended_on, summed, with_placement, with_ended}
 use Rattle.cyc_agreement.specs.Cpus.{CpusView, IsCpu, CallOn, on, DoesAt, Works}
 use Rattle.cyc_agreement.specs.Shifting.{moving}
 use Rattle.cyc_agreement.proofs.CpuSpots.{get_set_same, get_set_other}
@@ -52,11 +52,11 @@ expired_none id (c ∷ cs) none =
     let b = ap (λ (t : Bool). cond t c.timer.expired 0) no in
     let r = expired_none id cs (λ k d low. none (suc k) d (omega (arith, low))) in omega (arith, a, b, r)
 
-rising_tail : (c : Cyclic) (cs : List Cyclic) → HasRisingIds (c ∷ cs) → HasRisingIds cs
+rising_tail : (c : Cyclic) (cs : List Cyclic) → HasRisingCyclics (c ∷ cs) → HasRisingCyclics cs
 rising_tail c cs h i j d less low = h (suc i) (suc j) d (omega (arith, less)) (omega (arith, low))
 
 -- no more than one cyclic has the id
-expired_few : (most id : ℕ) (cs : List Cyclic) → HasRisingIds cs → All (HasCounts most) cs → expired_of id cs ≤ most
+expired_few : (most id : ℕ) (cs : List Cyclic) → HasRisingCyclics cs → All (HasCounts most) cs → expired_of id cs ≤ most
 expired_few most id [] rising counted = omega arith
 expired_few most id (c ∷ cs) rising counted = dite (ℕ_discrete c.timer.id id)
     (λ e. let yes : (c.timer.id == id) ≡ true = eq-eqb c.timer.id id e in
@@ -208,13 +208,13 @@ module _ {R : Type 0} (firing : Raise R) (n : ℕ) where
   fits_turn id Moves s t (place, d, chosen, (taken, works), (k, r, here, named, records, last)) still f =
       fits_on s t (moving id n d taken) (λ e q. refl, (λ e q. refl, (λ e q. refl, (λ e q. refl, (λ e. absurd (apart e), tt)))))
       works still.most
-      (λ j q is. by j q (was firing s.records k j r (with_place (stands.On d false) r) q here refl
+      (λ j q is. by j q (was firing s.records k j r (with_placement (stands.On d false) r) q here refl
       (subst (λ rs. IsRecord rs j q) records is))) f
     where
       apart : d ≢ n
       apart e = (destination_fits (Some n) s.cpus d chosen).1 (ap Some (sym e))
 
-      by : (j : ℕ) (q : Record) → ((j ≡ k) × (q ≡ with_place (stands.On d false) r)) ⊎ ((j ≢ k) × IsRecord s.records j q)
+      by : (j : ℕ) (q : Record) → ((j ≡ k) × (q ≡ with_placement (stands.On d false) r)) ⊎ ((j ≢ k) × IsRecord s.records j q)
           → (i : ℕ) × (p : Record) × IsRecord s.records i p × (p.id ≡ q.id) × ((m : ℕ) → ended_on m q ≡ ended_on m p)
       by j q (inl (e, same)) = (k, r, here, sym (ap (λ (x : Record). x.id) same), λ m. ap (λ p. ended_on m p) same)
       by j q (inr (ne, at)) = (j, q, at, refl, λ m. refl)

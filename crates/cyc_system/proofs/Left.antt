@@ -4,16 +4,16 @@ use Rattle.std.specs.List.{FoldsTo}
 use Rattle.cyc_types.specs.declared.Raise.{Ghosts as Raise}
 use Rattle.cyc_types.specs.declared.refusal.JuggleReport.{JuggleReport}
 use Rattle.cyc_types.specs.declared.refusal.Refusal.{Refusal}
-use Rattle.cyc_cpu_laws.specs.Cpu.{CpuView}
-use Rattle.cyc_cpu_laws.specs.Laws.{IsLawful}
-use Rattle.cyc_cpu_laws.specs.Calls.{AskPending}
+use Rattle.cyc_cpu.specs.Cpu.{CpuView}
+use Rattle.cyc_cpu.specs.Laws.{IsLawful}
+use Rattle.cyc_cpu.specs.Calls.{AskPending}
 use Rattle.cyc_places.specs.Places.{HasRisingIds}
 use Rattle.cyc_agreement.specs.Cpus.{IsCpu, on}
 use Rattle.cyc_agreement.specs.System.{SystemView, ids_on}
 use Rattle.cyc_agreement.specs.Agreement.{Agrees}
 use Rattle.cyc_agreement.specs.Holding.{Holds, EndedWithin}
 use Rattle.cyc_agreement.specs.Juggling.{Turns, Juggles, single_ids}
-use Rattle.cyc_agreement.specs.GoingOffline.{quiet, Retires, Leaves, GoesOffline, offline_at}
+use Rattle.cyc_agreement.specs.GoingOffline.{quiet, Retires, EndsOffline, GoesOffline, offline_at}
 use Rattle.cyc_system.proofs.Turned.{still_then, still_turn, still_turns, still_retired, still_asked, still_left, whole_still}
 use Rattle.cyc_system.proofs.Fitting.{Fits, fits_within, fits_first, fits_turn, fits_retired, fits_calls, puts_quiet, puts_found}
 
@@ -35,7 +35,7 @@ module _ {R : Type 0} (firing : Raise R) (n : ℕ) where
   fits_switched s t e h = subst EndedWithin (sym e) h
 
   within_left : (report : JuggleReport) (answer : Result (Unit {0}) Refusal) (s t : SystemView R)
-      → Leaves firing n report answer s t → Fits firing n s → EndedWithin t
+      → EndsOffline firing n report answer s t → Fits firing n s → EndedWithin t
   within_left report answer s t (inl (left, is, same)) f = fits_within firing n t (subst (Fits firing n) (sym same) f)
   within_left report answer s t (inr (inl (none, is, (before, id, after, found, some, only)))) f = fits_within firing n t
       (fits_calls firing n s t (quiet n before ++ on n (AskPending id (Some found)) ∷ [])

@@ -10,25 +10,25 @@ use Rattle.cyc_types.specs.declared.moment.When.{When}
 use Rattle.cyc_types.specs.declared.refusal.Refusal.{Refusal}
 use Rattle.cyc_soft.specs.declared.Ran.{Ran}
 use Rattle.cyc_soft.specs.declared.SoftRefused.{SoftRefused}
-use Rattle.cyc_cpu_laws.specs.Cpu.{Running}
+use Rattle.cyc_cpu.specs.Cpu.{Running}
 use Rattle.cyc_agreement.specs.System.{SystemView, RunningSystem}
 use Rattle.cyc_agreement.specs.Adding.{add_request, Adds}
 use Rattle.cyc_agreement.specs.Binding.{Unbinds, Binds}
 use Rattle.cyc_types.specs.declared.receipt.Receipt.{Receipt}
 use Rattle.cyc_types.specs.declared.refusal.JuggleReport.{JuggleReport}
-use Rattle.cyc_cpu_laws.specs.CpuRemoval.{Removal}
-use Rattle.cyc_cpu_laws.specs.CpuRemoval.TheVariants.{Done, Kept}
+use Rattle.cyc_cpu.specs.declared.removing.Removal.{Removal}
+use Rattle.cyc_cpu.specs.declared.removing.Removal.TheVariants.{Done, Kept}
 use Rattle.cyc_agreement.specs.System.{ids_on}
 use Rattle.cyc_agreement.specs.declared.removing.SystemRemoval.{SystemRemoval}
 use Rattle.cyc_agreement.specs.declared.removing.SystemRemoval.TheVariants as over
 use Rattle.cyc_agreement.specs.declared.totals.SystemTotals.{SystemTotals}
 use Rattle.cyc_agreement.specs.Removing.{Begun, BeginsOn, BeginsEach, Removes}
-use Rattle.cyc_agreement.specs.Polling.{Polled, PollsOn, PollsEach, Polls}
+use Rattle.cyc_agreement.specs.Polling.{Polled, PollsOn, PollsEach, PollsCpus}
 use Rattle.cyc_agreement.specs.Counting.{AsksTotals}
 use Rattle.cyc_agreement.specs.declared.turning.Turn.{Turn}
 use Rattle.cyc_agreement.specs.declared.turning.Turn.TheVariants.{StaysBound, StaysPending, StaysRefused, Moves}
 use Rattle.cyc_agreement.specs.Juggling.{TakesTurn, Turns, single_ids}
-use Rattle.cyc_agreement.specs.GoingOffline.{Retires, Leaves}
+use Rattle.cyc_agreement.specs.GoingOffline.{Retires, EndsOffline}
 use Rattle.cyc_agreement.specs.Omni.{AddsOmni}
 use Rattle.cyc_agreement.specs.Online.{GoesOnline}
 use Rattle.cyc_system.specs.Calls.{SystemCall, Changes, Does, Add, AddOmni, Bind, BeginRemove, PollRemove, AskTotals, Reprogram}
@@ -99,7 +99,7 @@ module _ {R : Type 0} (firing : Raise R) where
   polls_each id [] s t e = ap (λ (x : SystemView R). x.last) (sym e)
   polls_each id (p ∷ way) s t (u, first, rest) = polls_each id way u t rest ∙ polls_on id p.cpu p.answer s u first
 
-  polls : (id : ℕ) (answer : Result (Option Receipt) Refusal) (s t : SystemView R) → Polls firing id answer s t
+  polls : (id : ℕ) (answer : Result (Option Receipt) Refusal) (s t : SystemView R) → PollsCpus firing id answer s t
       → t.last ≡ s.last
   polls id (Ok (Some receipt)) s t (way, u, cpus, each, answers) = answers.last ∙ polls_each id way s u each
   polls id (Ok None) s t (way, cpus, each, some) = polls_each id way s t each
@@ -120,7 +120,7 @@ module _ {R : Type 0} (firing : Raise R) where
   retires n (id ∷ ids) s t (u, (taken, does, k, r, here, named, records, last), rest) = retires n ids u t rest ∙ last
 
   leaves : (n : ℕ) (report : JuggleReport) (answer : Result (Unit {0}) Refusal) (s t : SystemView R)
-      → Leaves firing n report answer s t → t.last ≡ s.last
+      → EndsOffline firing n report answer s t → t.last ≡ s.last
   leaves n report answer s t (inl (left, is, same)) = ap (λ (x : SystemView R). x.last) same
   leaves n report answer s t (inr (inl (none, is, (before, id, after, found, some, (works, records, last))))) = last
   leaves n report answer s t (inr (inr (none, is, (asked, (works, records, last), empty, each, off)))) =

@@ -5,7 +5,7 @@ use Rattle.std.specs.Option.{option_map_or, option_and_then}
 use Rattle.cyc_types.specs.Firing.{FiringView}
 use Rattle.cyc_types.specs.Pairs.{EachTwo}
 use Rattle.cyc_agreement.specs.Rows.{Cyclic}
-use Rattle.cyc_cpu_laws.specs.Cpu.{CpuView}
+use Rattle.cyc_cpu.specs.Cpu.{CpuView}
 use Rattle.cyc_agreement.specs.Cpus.{CpusView}
 use Rattle.cyc_agreement.specs.System.{ids_of}
 use Rattle.cyc_agreement.proofs.Who.{SameWho, id_in}

@@ -9,15 +9,15 @@ use native.Mathlib.Decide.{ℕ_discrete}
 use Rattle.cyc_types.specs.declared.Raise.{Ghosts as Raise}
 use Rattle.cyc_types.specs.declared.refusal.JuggleReport.{JuggleReport}
 use Rattle.cyc_agreement.specs.Rows.{Cyclic}
-use Rattle.cyc_cpu_laws.specs.Cpu.{CpuView}
-use Rattle.cyc_cpu_laws.specs.Gone.{PutsNot}
-use Rattle.cyc_cpu_laws.specs.Laws.{IsLawful}
-use Rattle.cyc_cpu_laws.specs.Calls.{CpuCall, Changes, Fire, SoftInterrupt, Add, Place, Reprogram, AskPending, AskTotals, AskRoom}
-use Rattle.cyc_cpu_laws.specs.Calls.{Suspend, Resume}
-use Rattle.cyc_cpu_laws.specs.Calls.{Reserve, Widen, BeginRemove, PollRemove, TakeNow, AskSettled}
+use Rattle.cyc_cpu.specs.Cpu.{CpuView}
+use Rattle.cyc_cpu.specs.Gone.{PutsNot}
+use Rattle.cyc_cpu.specs.Laws.{IsLawful}
+use Rattle.cyc_cpu.specs.Calls.{CpuCall, CpuChanges, Fire, SoftInterrupt, Add, Place, Reprogram, AskPending, AskTotals, AskRoom}
+use Rattle.cyc_cpu.specs.Calls.{Suspend, Resume}
+use Rattle.cyc_cpu.specs.Calls.{Reserve, Widen, BeginRemove, PollRemove, TakeNow, AskSettled}
 use Rattle.cyc_places.specs.declared.record.Placement.TheVariants as stands
 use Rattle.cyc_places.specs.declared.record.Record.{Record}
-use Rattle.cyc_places.specs.Places.{IsRecord, HasRisingIds, ended_on, summed, with_ended, with_place}
+use Rattle.cyc_places.specs.Places.{IsRecord, HasRisingIds, ended_on, summed, with_ended, with_placement}
 use Rattle.cyc_agreement.specs.Cpus.{CpusView, IsCpu, CallOn, on, DoesAt, Works, with_cpu}
 use Rattle.cyc_agreement.specs.Shifting.{moving}
 use Rattle.cyc_agreement.proofs.Calling.{LeavesMark, changes_most, changes_suspended}
@@ -35,7 +35,7 @@ use Rattle.cyc_agreement.proofs.Recording.{one_record}
 use Rattle.cyc_agreement.proofs.Removals.{IsSteady, AreSteady, steady_on, removals_kept, leaving_here}
 use Rattle.cyc_agreement.specs.declared.turning.Turn.{Turn}
 use Rattle.cyc_agreement.specs.declared.turning.Turn.TheVariants.{StaysBound, StaysPending, StaysRefused, Moves}
-use Rattle.cyc_agreement.specs.GoingOffline.{quiet, Retires, Leaves, offline_at}
+use Rattle.cyc_agreement.specs.GoingOffline.{quiet, Retires, EndsOffline, offline_at}
 use Rattle.cyc_agreement.specs.Juggling.{TakesTurn, Turns}
 
 -- ---- calls that put in no cyclic of an id
@@ -73,11 +73,11 @@ module _ {R : Type 0} (firing : Raise R) where
       ∙ any_less (λ (c : Cyclic). c.timer.id == id) x.cyclics k (sym (any_map id_in (λ own. own == id) (remove x.cyclics k))
       ∙ ap (λ cs. among id (map id_in cs)) (sym e) ∙ h)
 
-  back_one : (x y : CpuView R) (call : CpuCall) (id : ℕ) → IsSteady call → PutsNot id call → Changes firing x call y
+  back_one : (x y : CpuView R) (call : CpuCall) (id : ℕ) → IsSteady call → PutsNot id call → CpuChanges firing x call y
       → among id (ids_of y) ≡ true → among id (ids_of x) ≡ true
   back_one x y (Place own level interval moment carried) id s p d h = any_map id_in (λ q. q == id) x.cyclics
       ∙ or_back (own == id) (list_any (λ (c : Cyclic). c.timer.id == id) x.cyclics) (false_ne own id p)
-      (sym (any_insert (λ (c : Cyclic). c.timer.id == id) x.cyclics d.1.place _)
+      (sym (any_insert (λ (c : Cyclic). c.timer.id == id) x.cyclics d.1.position _)
       ∙ (ap (λ cs. list_any (λ (c : Cyclic). c.timer.id == id) cs) (sym d.1.cyclics)
       ∙ (sym (any_map id_in (λ q. q == id) y.cyclics) ∙ h)))
   back_one x y (Reprogram own moment (Ok done)) id s p (k, c, is, named, still, e) h =
@@ -93,7 +93,7 @@ module _ {R : Type 0} (firing : Raise R) where
   back_one x y (Reserve more (Err e)) id s p d h = same_ids x y id d.0.cyclics h
   back_one x y (Widen more) id s p d h = same_ids x y id d.1.cyclics h
   back_one x y (TakeNow own (Ok taken)) id s p (none, (c, counts, is, polled, leaves)) h =
-      less_ids x y id leaves.place leaves.cyclics h
+      less_ids x y id leaves.position leaves.cyclics h
   back_one x y (TakeNow own (Err e)) id s p d h = absurd s
   back_one x y (AskSettled true) id s p d h = same_ids x y id d.0.cyclics h
   back_one x y (AskSettled false) id s p d h = same_ids x y id d.0.cyclics h
@@ -148,8 +148,8 @@ module _ {R : Type 0} (firing : Raise R) where
     pub suspended : (n : ℕ) → suspended_on n t.cpus ≡ suspended_on n s.cpus
     pub rising : HasRisingIds s.records → HasRisingIds t.records
     -- an omnipresent cyclic was one, and has no CPU that it had not
-    pub omni : HasRisingIds s.records → (k : ℕ) (r : Record) → IsRecord t.records k r → is_everywhere r.place ≡ true
-        → (j : ℕ) × (q : Record) × IsRecord s.records j q × (q.id ≡ r.id) × (is_everywhere q.place ≡ true)
+    pub omni : HasRisingIds s.records → (k : ℕ) (r : Record) → IsRecord t.records k r → is_everywhere r.placement ≡ true
+        → (j : ℕ) × (q : Record) × IsRecord s.records j q × (q.id ≡ r.id) × (is_everywhere q.placement ≡ true)
         × ((n : ℕ) → has n r.id t.cpus ≡ true → has n r.id s.cpus ≡ true)
 
   pub still_then : (s t u : SystemView R) → StillHolds s t → StillHolds t u → StillHolds s u
@@ -220,19 +220,19 @@ module _ {R : Type 0} (firing : Raise R) where
     removals = removals_kept firing s.cpus t.cpus (moving id source d taken) steady works;
     most = mosts_kept s.cpus t.cpus (moving id source d taken) steady works;
     suspended = suspensions_kept s.cpus t.cpus (moving id source d taken) steady works;
-    rising = λ h. subst HasRisingIds (sym records) (rising_set s.records k r (with_place (stands.On d false) r) here refl h);
+    rising = λ h. subst HasRisingIds (sym records) (rising_set s.records k r (with_placement (stands.On d false) r) here refl h);
     omni = λ h j q is every. omni h j q every
-        (was s.records k j r (with_place (stands.On d false) r) q here refl (subst (λ rs. IsRecord rs j q) records is));
+        (was s.records k j r (with_placement (stands.On d false) r) q here refl (subst (λ rs. IsRecord rs j q) records is));
   }
     where
       steady : AreSteady (moving id source d taken)
       steady = (tt, (tt, (tt, (tt, (tt, tt)))))
 
-      omni : HasRisingIds s.records → (j : ℕ) (q : Record) → is_everywhere q.place ≡ true
-          → ((j ≡ k) × (q ≡ with_place (stands.On d false) r)) ⊎ ((j ≢ k) × IsRecord s.records j q)
-          → (i : ℕ) × (p : Record) × IsRecord s.records i p × (p.id ≡ q.id) × (is_everywhere p.place ≡ true)
+      omni : HasRisingIds s.records → (j : ℕ) (q : Record) → is_everywhere q.placement ≡ true
+          → ((j ≡ k) × (q ≡ with_placement (stands.On d false) r)) ⊎ ((j ≢ k) × IsRecord s.records j q)
+          → (i : ℕ) × (p : Record) × IsRecord s.records i p × (p.id ≡ q.id) × (is_everywhere p.placement ≡ true)
           × ((n : ℕ) → has n q.id t.cpus ≡ true → has n q.id s.cpus ≡ true)
-      omni h j q every (inl (e, f)) = absurd (false_true (sym (ap (λ (p : Record). is_everywhere p.place) f) ∙ every))
+      omni h j q every (inl (e, f)) = absurd (false_true (sym (ap (λ (p : Record). is_everywhere p.placement) f) ∙ every))
       omni h j q every (inr (ne, at)) =
           let other : id ≢ q.id = λ same. ne (one_record s.records k j r q h here at (sym (named ∙ same))) in (
             j,
@@ -262,16 +262,19 @@ module _ {R : Type 0} (firing : Raise R) where
   pub whole_still : (s t : SystemView R) → StillHolds s t → Agrees t → HasRisingIds s.records → HasRisingIds t.records
       → ((n : ℕ) (cpu : CpuView R) → IsCpu n cpu t.cpus → IsLawful firing.view cpu) → LeaveWhole s.cpus → LeaveWhole t.cpus
   whole_still s t h agrees rising now lawful whole m n id e here =
-      let (k, r, is, named, there, on) = agrees.known n id here in by k r is named there (is_everywhere r.place) refl
+      let (k, r, is, named, there, on) = agrees.known n id here in by k r is named there (is_everywhere r.placement) refl
     where
-      same_place : (a b : ℕ) (r q : Record) → Stands a r.place → Stands b q.place → r ≡ q → is_everywhere r.place ≡ false → a ≡ b
-      same_place a b r q p x same single = alike r.place p (subst (λ (z : Record). Stands b z.place) (sym same) x) single
+      same_placement : (a b : ℕ) (r q : Record) → Stands a r.placement → Stands b q.placement → r ≡ q
+          → is_everywhere r.placement ≡ false → a ≡ b
+      same_placement a b r q p x same single = alike r.placement p (subst (λ (z : Record). Stands b z.placement) (sym same) x)
+          single
         where
           alike : (place : _) → Stands a place → Stands b place → is_everywhere place ≡ false → a ≡ b
           alike (stands.On c bound) p x single = sym p ∙ x
           alike (stands.Everywhere first skew) p x single = absurd (false_true (sym single))
 
-      by : (k : ℕ) (r : Record) → IsRecord t.records k r → r.id ≡ id → Stands n r.place → (b : Bool) → is_everywhere r.place ≡ b
+      by : (k : ℕ) (r : Record) → IsRecord t.records k r → r.id ≡ id → Stands n r.placement → (b : Bool)
+          → is_everywhere r.placement ≡ b
           → removal_on n t.cpus ≡ Some id
       by k r is named there true every =
           let (j, q, at, same, whole_before, back) = h.omni rising k r is every in
@@ -281,7 +284,7 @@ module _ {R : Type 0} (firing : Raise R) where
           let (j, q, at, known, stands_m, up) = agrees.known m id (leaving_here firing.view t.cpus m id lawful e) in
           let place = one_record t.records k j r q now is at (known ∙ sym named) in
           let same : r ≡ q = same_some (sym (subst (λ i. IsRecord t.records i r) (sym place) is) ∙ at) in
-          ap (λ i. removal_on i t.cpus) (same_place n m r q there stands_m same single) ∙ e
+          ap (λ i. removal_on i t.cpus) (same_placement n m r q there stands_m same single) ∙ e
 
   pub still_retired : (n id : ℕ) (s t : SystemView R) → Retires firing n s id t → StillHolds s t
   still_retired n id s t (taken, does, k, r, here, named, records, last) = record {
@@ -295,16 +298,16 @@ module _ {R : Type 0} (firing : Raise R) where
       back : (i m : ℕ) → has m i t.cpus ≡ true → has m i s.cpus ≡ true
       back i m now = has_back s.cpus t.cpus (on n (TakeNow id (Ok taken)) ∷ []) i m (tt, tt) (tt, tt) (t.cpus, does, refl) now
 
-      by : (j : ℕ) (q : Record) → is_everywhere q.place ≡ true
+      by : (j : ℕ) (q : Record) → is_everywhere q.placement ≡ true
           → ((j ≡ k) × (q ≡ with_ended n (summed (ended_on n r) taken.sent) r)) ⊎ ((j ≢ k) × IsRecord s.records j q)
-          → (i : ℕ) × (p : Record) × IsRecord s.records i p × (p.id ≡ q.id) × (is_everywhere p.place ≡ true)
+          → (i : ℕ) × (p : Record) × IsRecord s.records i p × (p.id ≡ q.id) × (is_everywhere p.placement ≡ true)
           × ((m : ℕ) → has m q.id t.cpus ≡ true → has m q.id s.cpus ≡ true)
       by j q every (inl (e, f)) = (
         k,
         r,
         here,
         sym (ap (λ (p : Record). p.id) f),
-        sym (ap (λ (p : Record). is_everywhere p.place) f) ∙ every,
+        sym (ap (λ (p : Record). is_everywhere p.placement) f) ∙ every,
         λ m now. back q.id m now,
       )
       by j q every (inr (ne, at)) = (j, q, at, refl, every, λ m now. back q.id m now)
@@ -347,7 +350,7 @@ module _ {R : Type 0} (firing : Raise R) where
       (λ id. outs_quiet id n (ids_on n s.cpus)) only
 
   pub still_left : (n : ℕ) (report : JuggleReport) (answer : Result (Unit {0}) Refusal) (s t : SystemView R)
-      → Leaves firing n report answer s t → StillHolds s t
+      → EndsOffline firing n report answer s t → StillHolds s t
   still_left n report answer s t (inl (left, is, same)) = still_same s t same
   still_left n report answer s t (inr (inl (none, is, (before, id, after, found, some, only)))) =
       still_calls s t (quiet n before ++ on n (AskPending id (Some found)) ∷ [])

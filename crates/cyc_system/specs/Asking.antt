@@ -14,4 +14,4 @@ whereabouts (Everywhere first skew) = Omni
 
 -- where the cyclic of an id is
 abbrev pub place_of : {R : Type 0} → ℕ → SystemView R → Option CpuOrOmni
-place_of id s = option_map (λ r. whereabouts r.place) (record_of id s)
+place_of id s = option_map (λ r. whereabouts r.placement) (record_of id s)

@@ -11,15 +11,15 @@ use Rattle.cyc_types.specs.declared.refusal.Refusal.{Refusal}
 use Rattle.cyc_soft.specs.declared.Ran.{Ran}
 use Rattle.cyc_soft.specs.declared.SoftRefused.{SoftRefused}
 use Rattle.cyc_types.specs.Reasons.{bad_now}
-use Rattle.cyc_cpu_laws.specs.Fired.{Fired}
-use Rattle.cyc_cpu_laws.specs.FireRefused.{FireRefused}
-use Rattle.cyc_cpu_laws.specs.Cpu.{Running}
-use Rattle.cyc_cpu_laws.specs.Calls.{Reprogram as CpuReprogram, Fire, SoftInterrupt as CpuSoftInterrupt}
-use Rattle.cyc_cpu_laws.specs.Calls.{Suspend as CpuSuspend, Resume as CpuResume}
+use Rattle.cyc_timers.specs.declared.fire.Fired.{Fired}
+use Rattle.cyc_timers.specs.declared.fire.FireRefused.{FireRefused}
+use Rattle.cyc_cpu.specs.Cpu.{Running}
+use Rattle.cyc_cpu.specs.Calls.{Reprogram as CpuReprogram, Fire, SoftInterrupt as CpuSoftInterrupt}
+use Rattle.cyc_cpu.specs.Calls.{Suspend as CpuSuspend, Resume as CpuResume}
 use Rattle.cyc_agreement.specs.Cpus.{CallOn, on, running_cpus, RunsAt}
-use Rattle.cyc_system.specs.declared.interrupting.SoftFault.{SoftFault}
-use Rattle.cyc_system.specs.declared.interrupting.SoftFault.TheVariants.{Refused}
-use Rattle.cyc_system.specs.declared.interrupting.SoftFault.TheVariants as fault
+use Rattle.cyc_system.specs.declared.system.SoftFault.{SoftFault}
+use Rattle.cyc_system.specs.declared.system.SoftFault.TheVariants.{Refused}
+use Rattle.cyc_system.specs.declared.system.SoftFault.TheVariants as fault
 use Rattle.cyc_agreement.specs.System.{SystemView, RunningSystem}
 use Rattle.cyc_agreement.specs.Refusals.{Unless, ids_spent, no_cyclic, omnipresent, no_cpu, offline_cpu, no_component}
 use Rattle.cyc_agreement.specs.Adding.{OnlyWorks, add_request, Adds}

@@ -4,8 +4,8 @@ use Rattle.std.specs.Option.{option_map}
 use Rattle.cyc_types.specs.Firing.{FiringView}
 use Rattle.cyc_types.specs.Pairs.{EachTwo}
 use Rattle.cyc_agreement.specs.Rows.{Cyclic}
-use Rattle.cyc_cpu_laws.specs.Cpu.{CpuView}
-use Rattle.cyc_cpu_laws.specs.Losses.{IsUnder}
+use Rattle.cyc_cpu.specs.Cpu.{CpuView}
+use Rattle.cyc_cpu.specs.Losses.{IsUnder}
 
 -- The cyclic has its id, its level and its interval, and its counts are no smaller. One that had lost nothing has lost nothing
 -- yet where its expirations are at most the ceiling of its level.
@@ -18,13 +18,13 @@ pub record GoesOn (lock_ceiling low_ceiling : ℕ) (c d : Cyclic) : Type 0 where
   pub spared : c.lost ≡ 0 → IsUnder lock_ceiling low_ceiling d.timer.level d.timer.expired → d.lost ≡ 0
 
 -- the index of an id that is admitted at an end
-abbrev pub index_of : ℕ → FiringView → Option ℕ
-index_of id v = option_map (λ s. s.index) (v.stays id)
+abbrev pub index_admitted : ℕ → FiringView → Option ℕ
+index_admitted id v = option_map (λ s. s.index) (v.stays id)
 
 -- the end has its ceiling, and the same ids are admitted, each at its index
 pub record IsSameEnd (v w : FiringView) : Type 0 where
   pub ceiling : w.ceiling ≡ v.ceiling
-  pub indexes : (id : ℕ) → index_of id w ≡ index_of id v
+  pub indexes : (id : ℕ) → index_admitted id w ≡ index_admitted id v
 
 -- the firing side of a CPU came back: it has its cyclics, each of which went on, its open removal, its size and its limits
 pub record ComesBack {R : Type 0} (view : R → FiringView) (x y : CpuView R) : Type 0 where

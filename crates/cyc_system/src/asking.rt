@@ -38,8 +38,8 @@ impl<R: Raise> System<R> {
         ensures { result ≡ place_of id self.now }
     {
         self.records.law();
-        let place = self.records.find(id)?;
-        match self.records.at(place).place {
+        let position = self.records.find(id)?;
+        match self.records.at(position).placement {
             Placement::On { cpu, bound: _ } => Some(CpuOrOmni::Cpu(cpu)),
             Placement::Everywhere { when: _, skew: _ } => Some(CpuOrOmni::Omni),
         }

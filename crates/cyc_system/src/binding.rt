@@ -1,8 +1,8 @@
 //! A cyclic is bound to a CPU, or no more.
 
 ghost use Rattle.std.specs.Prelude.{◌≡◌, ◌≢◌, ◌<◌, ◌≤◌, length};
-ghost use Rattle.cyc_cpu_laws.specs.Cpu.{HasNoCyclic};
-ghost use Rattle.cyc_cpu_laws.specs.Removal.{HasCyclic};
+ghost use Rattle.cyc_cpu.specs.Cpu.{HasNoCyclic};
+ghost use Rattle.cyc_cpu.specs.Removal.{HasCyclic};
 ghost use Rattle.cyc_agreement.specs.Cpus.{OfCpu};
 ghost use Rattle.cyc_agreement.specs.Binding.{GoesTo};
 ghost use Rattle.cyc_agreement.specs.Shifting.{move_of};
@@ -40,7 +40,7 @@ impl<R: Raise> System<R> {
     pub fn bind(&mut self, id: CyclicId, cpu: Option<u32>) -> Result<(), Refusal>
         ensures { Changes R.Raise self.old (Bind id cpu result) self.new }
     {
-        let Some(place) = self.present(id) else {
+        let Some(position) = self.present(id) else {
             return Err(Refusal::NoCyclic);
         };
         self.cpus.law();
@@ -48,7 +48,7 @@ impl<R: Raise> System<R> {
         let Placement::On {
             cpu: home,
             bound: _,
-        } = self.records.at(place).place
+        } = self.records.at(position).placement
         else {
             return Err(Refusal::Omnipresent);
         };
@@ -57,7 +57,7 @@ impl<R: Raise> System<R> {
                 cpu: home,
                 bound: false,
             };
-            self.records.set_place(place, there);
+            self.records.set_placement(position, there);
             return Ok(());
         };
         if target >= self.cpus.count() {
@@ -71,7 +71,7 @@ impl<R: Raise> System<R> {
             cpu: target,
             bound: true,
         };
-        self.records.set_place(place, there);
+        self.records.set_placement(position, there);
         Ok(())
     }
 }

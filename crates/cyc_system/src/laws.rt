@@ -4,11 +4,11 @@ ghost use Rattle.std.specs.Prelude.{◌≡◌, ◌<◌, ◌≤◌, ℕ, Bool, Li
 ghost use Rattle.std.specs.List.{FoldsTo, slice_get};
 ghost use Rattle.cyc_types.specs.declared.level.Level.{Level as CyclicLevel};
 ghost use Rattle.cyc_types.specs.declared.moment.When.{When as Series};
-ghost use Rattle.cyc_cpu_laws.specs.Fired.{Fired};
-ghost use Rattle.cyc_cpu_laws.specs.FireRefused.{FireRefused};
-ghost use Rattle.cyc_cpu_laws.specs.Cpu.{CpuView, Running};
-ghost use Rattle.cyc_cpu_laws.specs.Laws.{IsLawful};
-ghost use Rattle.cyc_cpu_laws.specs.Calls.{no_interrupts, Fire, AskSettled, Does as CpuDoes, Changes as CpuChanges};
+ghost use Rattle.cyc_timers.specs.declared.fire.Fired.{Fired};
+ghost use Rattle.cyc_timers.specs.declared.fire.FireRefused.{FireRefused};
+ghost use Rattle.cyc_cpu.specs.Cpu.{CpuView, Running};
+ghost use Rattle.cyc_cpu.specs.Laws.{IsLawful};
+ghost use Rattle.cyc_cpu.specs.Calls.{no_interrupts, Fire, AskSettled, CpuDoes as CpuDoes, CpuChanges as CpuChanges};
 ghost use Rattle.cyc_agreement.specs.System.{RunningSystem};
 ghost use Rattle.cyc_system.specs.Calls.{SystemCall, Does, Add, AddOmni};
 ghost use Rattle.cyc_system.specs.Splitting.{ComesBack, AllComeBack};

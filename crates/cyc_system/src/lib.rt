@@ -4,16 +4,11 @@
 //! relation, in words of what it does to each CPU.
 #![tactic(auto)]
 
-mod adding;
 mod asking;
 mod binding;
-mod everywhere;
 mod finding;
-mod firing;
-mod interrupting;
 mod laws;
-mod moving;
-mod removing;
+mod over_cpus;
 mod reprogramming;
 mod splitting;
 mod suspending;
@@ -21,8 +16,7 @@ mod system;
 
 pub use asking::CpuOrOmni;
 pub use cyc_agreement::{SystemRemoval, SystemTotals, others_law};
-pub use cyc_cpu_laws::{FireRefused, Fired};
-pub use interrupting::SoftFault;
+pub use cyc_timers::{FireRefused, Fired};
 pub use laws::{away_law, ids_law};
 pub use splitting::Desk;
-pub use system::System;
+pub use system::{SoftFault, System};

@@ -1,8 +1,8 @@
 //! A cyclic, or a component, gets another next expiration.
 
 ghost use Rattle.std.specs.Prelude.{◌≡◌, ◌≢◌, ◌<◌, ◌&&◌, length, Ok, Some};
-ghost use Rattle.cyc_cpu_laws.specs.Removal.{HasCyclic};
-ghost use Rattle.cyc_cpu_laws.specs.Calls.{Reprogram as CpuReprogram};
+ghost use Rattle.cyc_cpu.specs.Removal.{HasCyclic};
+ghost use Rattle.cyc_cpu.specs.Calls.{Reprogram as CpuReprogram};
 ghost use Rattle.cyc_agreement.specs.Cpus.{OfCpu, on, DoesAt};
 
 use crate::system::System;
@@ -36,8 +36,8 @@ impl<R: Raise> System<R> {
     pub fn reprogram(&mut self, id: CyclicId, moment: Moment) -> Result<(), Refusal>
         ensures { Changes R.Raise self.old (Reprogram id moment result) self.new }
     {
-        if let Some(place) = self.records.soon(id) {
-            return self.reprogram_found(id, place, moment);
+        if let Some(position) = self.records.soon(id) {
+            return self.reprogram_found(id, position, moment);
         }
         self.reprogram_anew(id, moment)
     }
@@ -48,22 +48,27 @@ impl<R: Raise> System<R> {
     fn reprogram_anew(&mut self, id: CyclicId, moment: Moment) -> Result<(), Refusal>
         ensures { Changes R.Raise self.old (Reprogram id moment result) self.new }
     {
-        let Some(place) = self.seek(id) else {
+        let Some(position) = self.seek(id) else {
             return Err(Refusal::NoCyclic);
         };
-        self.reprogram_found(id, place, moment)
+        self.reprogram_found(id, position, moment)
     }
 
-    /// As `reprogram`, of the cyclic of the record at this place.
+    /// As `reprogram`, of the cyclic of the record at this position.
     #[inline(always)]
-    fn reprogram_found(&mut self, id: CyclicId, place: usize, moment: Moment) -> Result<(), Refusal>
-        requires { (r : TheRecord) × IsRecord self.old.records place r × (r.id ≡ id) }
+    fn reprogram_found(
+        &mut self,
+        id: CyclicId,
+        position: usize,
+        moment: Moment,
+    ) -> Result<(), Refusal>
+        requires { (r : TheRecord) × IsRecord self.old.records position r × (r.id ≡ id) }
         ensures { Changes R.Raise self.old (Reprogram id moment result) self.new }
     {
-        if !self.stays(id, place) {
+        if !self.stays(id, position) {
             return Err(Refusal::NoCyclic);
         }
-        match self.records.at(place).place {
+        match self.records.at(position).placement {
             Placement::On { cpu, bound: _ } => {
                 reprogram_at(&mut self.cpus, cpu, id, moment);
                 Ok(())
@@ -80,7 +85,7 @@ impl<R: Raise> System<R> {
     pub fn reprogram_on(&mut self, id: CyclicId, cpu: u32, moment: Moment) -> Result<(), Refusal>
         ensures { Changes R.Raise self.old (ReprogramOn id cpu moment result) self.new }
     {
-        let Some(place) = self.present(id) else {
+        let Some(position) = self.present(id) else {
             return Err(Refusal::NoCyclic);
         };
         if cpu >= self.cpus.count() {
@@ -89,20 +94,20 @@ impl<R: Raise> System<R> {
         if !self.cpus.is_online(cpu) {
             return Err(Refusal::Offline);
         }
-        if !self.has_component(place, id, cpu) {
+        if !self.has_component(position, id, cpu) {
             return Err(Refusal::NoCyclic);
         }
         reprogram_at(&mut self.cpus, cpu, id, moment);
         Ok(())
     }
 
-    /// Whether the cyclic, of which this is the place, is omnipresent and has a component on the CPU.
-    fn has_component(&self, place: usize, id: CyclicId, cpu: u32) -> bool
+    /// Whether the cyclic, of which this is the position, is omnipresent and has a component on the CPU.
+    fn has_component(&self, position: usize, id: CyclicId, cpu: u32) -> bool
         requires number { cpu < length self.now.cpus.cpus }
-        requires present { (r : TheRecord) × IsPresent id place r self.now }
+        requires present { (r : TheRecord) × IsPresent id position r self.now }
         ensures { result ≡ (is_omnipresent id self.now && has cpu id self.now.cpus) }
     {
-        if !self.records.at(place).place.is_everywhere() {
+        if !self.records.at(position).placement.is_everywhere() {
             return false;
         }
         self.cpus.cpu(cpu).has(id)

@@ -4,7 +4,7 @@ ghost use Rattle.std.specs.Prelude.{◌≡◌};
 
 use crate::system::System;
 use cyc_agreement::Cpus;
-use cyc_cpu_laws::Hard;
+use cyc_cpu::Hard;
 use cyc_places::Records;
 use cyc_types::Raise;
 use std::marker::Model;

@@ -9,8 +9,8 @@ impl<R: Raise> System<R> {
     ghost use Rattle.cyc_agreement.specs.Suspending.{is_suspended};
     ghost use Rattle.cyc_system.specs.Calls.{Changes, Suspend, Resume};
 
-    /// From now on no CPU makes a fire, offline ones included, until `resume` (`cyclic_suspend`). Every other call goes on as before,
-    /// and a CPU that comes online is suspended.
+    /// From now on no CPU makes a fire, offline ones included, until `resume` (`cyclic_suspend`). Every other call goes on as
+    /// before, and a CPU that comes online is suspended.
     ///
     /// Refuses with Suspended where the system is suspended. Takes no memory.
     pub fn suspend(&mut self) -> Result<(), Refusal>

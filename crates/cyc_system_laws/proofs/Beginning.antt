@@ -13,7 +13,7 @@ use Rattle.cyc_cpu.specs.declared.removing.Removal.TheVariants.{Done, Kept}
 use Rattle.cyc_cpu.specs.Cpu.{CpuView, running}
 use Rattle.cyc_cpu.specs.Laws.{IsLawful}
 use Rattle.cyc_cpu.specs.Moving.{IsSettled}
-use Rattle.cyc_cpu.specs.Calls.{Changes as CpuChanges, no_interrupts, BeginRemove as CpuBegin}
+use Rattle.cyc_cpu.specs.Calls.{CpuChanges as CpuChanges, no_interrupts, BeginRemove as CpuBegin}
 use Rattle.cyc_cpu_laws.proofs.Staying.{settled_one, never_put_off}
 use Rattle.cyc_agreement.specs.Cpus.{CpusView, IsCpu, on, DoesAt, numbers_from}
 use Rattle.cyc_agreement.proofs.CpuSpots.{get_set_same, get_set_other}

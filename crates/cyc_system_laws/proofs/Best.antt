@@ -8,7 +8,7 @@ use Rattle.std.proofs.lemmas.Bool.Decides.{nat_tests}
 use Rattle.std.proofs.lemmas.Option.{same_Some}
 use Rattle.cyc_agreement.specs.Cpus.{CpusView, numbers_from}
 use Rattle.cyc_agreement.specs.Destination.{len_of, fewer, fewest, is_not, destination}
-use Rattle.cyc_system_laws.specs.Destinations.{IsFit, IsDestination}
+use Rattle.cyc_system_laws.specs.Destinations.{IsFitTarget, IsDestination}
 
 less_or_same : (a b i j : ℕ) → a ≤ b → i ≤ j → (a < b) ⊎ ((a ≡ b) × (i ≤ j))
 less_or_same a b i j h g = dite (ℕ_discrete a b) (λ e. inr (e, g)) (λ ne. inl (omega arith))
@@ -113,10 +113,10 @@ module _ {R : Type 0} (source : Option ℕ) (v : CpusView R) where
   not_fits (Some m) n ne = (let other : n ≢ m = (λ e. ne (ap Some (sym e))) in
       let unlike : (n == m) ≡ false = grind (arith, nat_tests) in ap not unlike)
 
-  fits_at : (n : ℕ) → IsFit source n v → Fits 0 v.online n
+  fits_at : (n : ℕ) → IsFitTarget source n v → Fits 0 v.online n
   fits_at n (on, ne) = (on, subst (λ m. is_not source m ≡ true) (let e : n ≡ 0 + n = omega arith in e) (not_fits source n ne))
 
-  pub none_fits : (n : ℕ) → destination source v ≡ None → IsFit source n v → ⊥
+  pub none_fits : (n : ℕ) → destination source v ≡ None → IsFitTarget source n v → ⊥
   none_fits n is fit = subst (λ o. IsBest 0 v.online o) is (best_from 0 v.online) n (fits_at n fit)
 
   pub is_destination : (d : ℕ) → destination source v ≡ Some d → IsDestination source d v
@@ -125,7 +125,7 @@ module _ {R : Type 0} (source : Option ℕ) (v : CpusView R) where
       let (k, at, h) = best.0 in
       let same : k ≡ d = omega (arith, at) in
       record {
-        fit = subst (λ n. IsFit source n v) same (
+        fit = subst (λ n. IsFitTarget source n v) same (
           h.0,
           fits_not source k
               (subst (λ m. is_not source m ≡ true) (let e : 0 + k ≡ k = omega arith in e) h.1),

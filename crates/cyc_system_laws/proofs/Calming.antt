@@ -11,7 +11,7 @@ use Rattle.cyc_soft.specs.declared.SoftRefused.{SoftRefused}
 use Rattle.cyc_cpu.specs.Cpu.{CpuView, Running, running}
 use Rattle.cyc_cpu.specs.Moving.{IsSettled}
 use Rattle.cyc_cpu.specs.Calls.{Suspend, Resume}
-use Rattle.cyc_cpu.specs.Calls.{CpuCall, Changes as CpuChanges, Does as CpuDoes, no_interrupts, Fire}
+use Rattle.cyc_cpu.specs.Calls.{CpuCall, CpuChanges as CpuChanges, CpuDoes as CpuDoes, no_interrupts, Fire}
 use Rattle.cyc_cpu.specs.Calls.{SoftInterrupt as CpuSoftInterrupt, Add as CpuAdd, Place, Reprogram as CpuReprogram, AskPending}
 use Rattle.cyc_cpu.specs.Calls.{AskTotals as CpuAskTotals, AskRoom, Reserve, Widen, BeginRemove as CpuBegin}
 use Rattle.cyc_cpu.specs.Calls.{PollRemove as CpuPoll, TakeNow, AskSettled}

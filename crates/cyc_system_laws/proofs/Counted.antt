@@ -23,7 +23,7 @@ use Rattle.cyc_cpu.specs.Calls.{TakeNow, Reserve, Widen, AskPending, Reprogram a
 use Rattle.cyc_places.specs.declared.record.Placement.{Placement}
 use Rattle.cyc_places.specs.declared.record.Placement.TheVariants as stands
 use Rattle.cyc_places.specs.declared.record.Record.{Record}
-use Rattle.cyc_places.specs.Places.{IsRecord, summed, new_record, with_place, with_ended, ended_on, is_everywhere}
+use Rattle.cyc_places.specs.Places.{IsRecord, summed, new_record, with_placement, with_ended, ended_on, is_everywhere}
 use Rattle.cyc_system.specs.Cpus.{CpusView, CallOn, on, Works, online_cpus}
 use Rattle.cyc_system.specs.Shifting.{moving}
 use Rattle.cyc_system.proofs.CpusSpots.{get_set_same, get_set_other}
@@ -34,7 +34,7 @@ use Rattle.cyc_system.proofs.Spots.{same_some}
 use Rattle.cyc_system.specs.Turn.{Turn}
 use Rattle.cyc_system.specs.Turn.TheVariants.{StaysBound, StaysPending, StaysRefused, Moves}
 use Rattle.cyc_system.specs.Juggling.{TakesTurn, Turns}
-use Rattle.cyc_system.specs.GoingOffline.{quiet, Retires, Leaves}
+use Rattle.cyc_system.specs.GoingOffline.{quiet, Retires, EndsOffline}
 use Rattle.cyc_system.specs.Omni.{AddsOmni, entering_each}
 use Rattle.cyc_system.specs.Online.{GoesOnline, staying, is_staying, returns, return_at, after_return}
 use Rattle.cyc_system_laws.proofs.Flow.{AllFixed, all_brought, all_taken, on_cpus, flows, flow_at, sum_set}
@@ -89,8 +89,8 @@ module _ {R : Type 0} (firing : Raise R) (g : Sent
   placed_same : (own : ℕ) (place : Placement) (s t : SystemView R) → Records own place s t
       → in_records t.records ≡ in_records s.records
   placed_same own place s t (k, r, here, named, records, last) =
-      let a = sum_set of_record s.records k r (with_place place r) here in let b = ap in_records records in
-      let e : of_record (with_place place r) ≡ of_record r = refl in omega (arith, a, b, e)
+      let a = sum_set of_record s.records k r (with_placement place r) here in let b = ap in_records records in
+      let e : of_record (with_placement place r) ≡ of_record r = refl in omega (arith, a, b, e)
 
   moved_same : (own source target : ℕ) (taken : Taken) (s t : SystemView R)
       → Works firing (moving own source target taken) s.cpus t.cpus → in_records t.records ≡ in_records s.records
@@ -230,7 +230,7 @@ module _ {R : Type 0} (firing : Raise R) (g : Sent
       (sixteen_set s.records k r x here (length-set r.ended n (summed (ended_on n r) taken.sent)) many)) rest ∙ one
 
   pub leaves_same : (n : ℕ) (report : JuggleReport) (answer : Result (Unit {0}) Refusal) (s t : SystemView R) → n < 16
-      → Sixteen s.records → Leaves firing n report answer s t → all_of t ≡ all_of s
+      → Sixteen s.records → EndsOffline firing n report answer s t → all_of t ≡ all_of s
   leaves_same n report answer s t low many (inl (left, is, same)) = same_all s t same
   leaves_same n report answer s t low many (inr (inl (none, is, (before, own, after, found, some, only)))) =
       idly (quiet n before ++ on n (AskPending own (Some found)) ∷ []) s t
@@ -257,7 +257,7 @@ module _ {R : Type 0} (firing : Raise R) (g : Sent
 
   returns_fixed : (n now : ℕ) (rs : List Record) → AllFixed f id (returns n now rs)
   returns_fixed n now [] = tt
-  returns_fixed n now (r ∷ rs) = return_fixed n now r.id r.level (ended_on n r) r.place (returns n now rs)
+  returns_fixed n now (r ∷ rs) = return_fixed n now r.id r.level (ended_on n r) r.placement (returns n now rs)
       (returns_fixed n now rs)
 
   -- the counts of a CPU's ended stays have gone
@@ -288,8 +288,8 @@ module _ {R : Type 0} (firing : Raise R) (g : Sent
           + in_records (cond b (with_ended n no_counts r) r ∷ map (after_return n v) rs) ≡ in_records (r ∷ rs))
           × (all_taken f id (returns n now (cond b (r ∷ filter (is_staying v) rs) (filter (is_staying v) rs))) ≡ 0)
       by true is rest none =
-          (let (a, b) = return_brings n now r.id r.level (ended_on n r) r.place (returns n now (filter (is_staying v) rs))
-          (and_parts (is_everywhere r.place) _ is).0 in
+          (let (a, b) = return_brings n now r.id r.level (ended_on n r) r.placement (returns n now (filter (is_staying v) rs))
+          (and_parts (is_everywhere r.placement) _ is).0 in
           let long = many 0 r refl in let c = ended_less n r (omega (arith, low, long)) in
           let d = sum_by-cons of_record (with_ended n no_counts r) (map (after_return n v) rs) in
           let e = sum_by-cons of_record r rs in

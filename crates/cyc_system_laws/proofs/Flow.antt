@@ -10,11 +10,11 @@ use Rattle.cyc_cpu.specs.declared.moving.Taken.{Taken}
 use Rattle.cyc_cpu.specs.Cpu.{CpuView, with_moment, cyclic_with}
 use Rattle.cyc_cpu.specs.Moving.{IsTaken}
 use Rattle.cyc_cpu.specs.Calls.{Suspend, Resume}
-use Rattle.cyc_cpu.specs.Calls.{CpuCall, Changes, Place, TakeNow, Reprogram, AskPending, AskTotals, AskRoom, Reserve, Widen}
+use Rattle.cyc_cpu.specs.Calls.{CpuCall, CpuChanges, Place, TakeNow, Reprogram, AskPending, AskTotals, AskRoom, Reserve, Widen}
 use Rattle.cyc_system.specs.Cpus.{CpusView, CallOn, DoesAt, Works}
 use Rattle.cyc_system.proofs.Lists.{eq_true}
 use Rattle.cyc_system.proofs.Spots.{same_some, none_some}
-use Rattle.cyc_system_laws.specs.Keeping.{stay_of}
+use Rattle.cyc_system_laws.specs.Keeping.{stay_on}
 
 pub sum_set : {A : Type 0} (h : A → ℕ) (xs : List A) (n : ℕ) (x y : A) → slice_get xs n ≡ Some x
     → sum_by h (slice_set xs n y) + h x ≡ sum_by h xs + h y
@@ -27,7 +27,7 @@ sum_set h (z ∷ xs) (suc n) x y is = let a = sum_by-cons h z (slice_set xs n y)
 module _ (f : Taken → ℕ) (id : ℕ) where
   -- the measure of a cyclic, where it has the id
   abbrev pub weigh : Cyclic → ℕ
-  weigh c = cond (c.timer.id == id) (f (stay_of c)) 0
+  weigh c = cond (c.timer.id == id) (f (stay_on c)) 0
 
   abbrev pub on_cpu : {R : Type 0} → CpuView R → ℕ
   on_cpu cpu = sum_by weigh cpu.cyclics
@@ -70,14 +70,14 @@ module _ (f : Taken → ℕ) (id : ℕ) where
   all_taken [] = 0
   all_taken (c ∷ way) = taken_off c.call + all_taken way
 
-  same_weigh : (c d : Cyclic) → d.timer.id ≡ c.timer.id → (c.timer.id ≡ id → f (stay_of d) ≡ f (stay_of c)) → weigh d ≡ weigh c
-  same_weigh c d named same = ap (λ (j : ℕ). cond (j == id) (f (stay_of d)) 0) named ∙ by (c.timer.id == id) refl
+  same_weigh : (c d : Cyclic) → d.timer.id ≡ c.timer.id → (c.timer.id ≡ id → f (stay_on d) ≡ f (stay_on c)) → weigh d ≡ weigh c
+  same_weigh c d named same = ap (λ (j : ℕ). cond (j == id) (f (stay_on d)) 0) named ∙ by (c.timer.id == id) refl
     where
-      by : (b : Bool) → (c.timer.id == id) ≡ b → cond b (f (stay_of d)) 0 ≡ cond b (f (stay_of c)) 0
+      by : (b : Bool) → (c.timer.id == id) ≡ b → cond b (f (stay_on d)) 0 ≡ cond b (f (stay_on c)) 0
       by true is = same (eq_true c.timer.id id is)
       by false is = refl
 
-  taken_is : (taken : Taken) (c : Cyclic) → IsTaken taken c → taken ≡ stay_of c
+  taken_is : (taken : Taken) (c : Cyclic) → IsTaken taken c → taken ≡ stay_on c
   taken_is taken c is = (λ i. record
       { level = is.0 i; interval = is.1 i; moment = is.2 i; sent = record { sent = is.3 i; lost = is.4 i } })
 
@@ -85,16 +85,16 @@ module _ (f : Taken → ℕ) (id : ℕ) where
     stay_here : (x y : CpuView R) → y.cyclics ≡ x.cyclics → on_cpu y + 0 ≡ on_cpu x + 0
     stay_here x y same = let e = ap (λ cs. sum_by weigh cs) same in omega (arith, e)
 
-    flow : (x y : CpuView R) (call : CpuCall) → Fixed call → Changes firing x call y
+    flow : (x y : CpuView R) (call : CpuCall) → Fixed call → CpuChanges firing x call y
         → on_cpu y + taken_off call ≡ on_cpu x + brought call
     flow x y (Place own level interval moment carried) fixed (may, p) =
         let c = cyclic_with own level interval moment carried.sent carried.lost in
-        let a = ap (λ cs. sum_by weigh cs) p.cyclics in let b = sum_by-insert weigh x.cyclics p.place c in
+        let a = ap (λ cs. sum_by weigh cs) p.cyclics in let b = sum_by-insert weigh x.cyclics p.position c in
         let e : weigh c ≡ cond (own == id)
         (f (record { level = level; interval = interval; moment = moment; sent = carried })) 0 = refl in
         omega (arith, a, b, e)
     flow x y (TakeNow own (Ok taken)) fixed (still, (c, counts, is, polled, l)) =
-        let a = ap (λ cs. sum_by weigh cs) l.cyclics in let b = sum_by-remove weigh x.cyclics l.place c l.here.0 in
+        let a = ap (λ cs. sum_by weigh cs) l.cyclics in let b = sum_by-remove weigh x.cyclics l.position c l.here.0 in
         let d = ap weigh l.here.1 in
         let e : cond (own == id) (f taken) 0 ≡ weigh c = (λ i. cond (sym l.named i == id) (f (taken_is taken c is i)) 0) in
         omega (arith, a, b, d, e)
@@ -103,7 +103,7 @@ module _ (f : Taken → ℕ) (id : ℕ) where
         let a = ap (λ (z : CpuView R). sum_by weigh z.cyclics) is in
         let b = sum_by-set weigh x.cyclics k (with_moment moment c) c here.0 in
         let d = ap weigh here.1 in
-        let e = same_weigh c (with_moment moment c) refl (λ q. fixed (sym named ∙ q) (stay_of c) moment) in
+        let e = same_weigh c (with_moment moment c) refl (λ q. fixed (sym named ∙ q) (stay_on c) moment) in
         omega (arith, a, b, d, e)
     flow x y (Reprogram own moment (Err e)) fixed d = stay_here x y (ap (λ (z : CpuView R). z.cyclics) d.2)
     flow x y (AskPending own (Some n)) fixed d = stay_here x y d.0.cyclics

@@ -9,7 +9,7 @@ use Rattle.std.proofs.lemmas.Option.{get_or_from_slice_get, slice_get_within}
 use Rattle.cyc_types.specs.Firing.{FiringView}
 use Rattle.cyc_timers.specs.Rows.{Cyclic}
 use Rattle.cyc_cpu.specs.declared.moving.Taken.{Taken}
-use Rattle.cyc_cpu.specs.Cpu.{CpuView, HasRisingIds as HaveRisingIds}
+use Rattle.cyc_cpu.specs.Cpu.{CpuView, HasRisingCyclics as HaveRisingIds}
 use Rattle.cyc_places.specs.declared.record.Record.{Record}
 use Rattle.cyc_places.specs.Places.{HasRisingIds}
 use Rattle.cyc_system.specs.System.{SystemView}
@@ -18,7 +18,7 @@ use Rattle.cyc_system.proofs.Recording.{found}
 use Rattle.cyc_system.specs.Counts.{AreLawful}
 use Rattle.cyc_system.specs.RemovalLaws.{cyclic_in, IsUntouched}
 use Rattle.cyc_system.proofs.Sums.{sum_none}
-use Rattle.cyc_system_laws.specs.Keeping.{stay_of, over_stays}
+use Rattle.cyc_system_laws.specs.Keeping.{stay_on, over_stays}
 use Rattle.cyc_system_laws.proofs.Flow.{on_cpu, on_cpus}
 
 sum_as : {A : Type 0} (h k : A → ℕ) (xs : List A) → ((n : ℕ) (x : A) → slice_get xs n ≡ Some x → h x ≡ k x)
@@ -61,7 +61,7 @@ cyclics_rise cs rising i j x y less p q =
 module _ {R : Type 0} (view : R → FiringView) (id : ℕ) where
   pub stays_found : (f : Taken → ℕ) (s : SystemView R) → AreLawful view s → on_cpus f id s.cpus ≡ over_stays f id s
   stays_found f s lawful = sum_as (on_cpu f id) _ s.cpus.cpus
-      (λ n cpu at. sum_found (λ (c : Cyclic). c.timer.id) (λ c. f (stay_of c)) id cpu.cyclics
+      (λ n cpu at. sum_found (λ (c : Cyclic). c.timer.id) (λ c. f (stay_on c)) id cpu.cyclics
       (cyclics_rise cpu.cyclics (lawful n cpu at).rising))
 
   pub records_found : (h : Record → ℕ) (s : SystemView R) → HasRisingIds s.records
@@ -92,4 +92,4 @@ module _ {R : Type 0} (id : ℕ) (h : Cyclic → ℕ) where
 
 pub untouched_stays : {R : Type 0} (id : ℕ) (f : Taken → ℕ) (s t : SystemView R) → IsUntouched id s t
     → over_stays f id t ≡ over_stays f id s
-untouched_stays id f s t u = same_here id (λ c. f (stay_of c)) t.cpus.cpus s.cpus.cpus u.cyclics
+untouched_stays id f s t u = same_here id (λ c. f (stay_on c)) t.cpus.cpus s.cpus.cpus u.cyclics

@@ -33,7 +33,7 @@ use Rattle.cyc_system.proofs.Others.{begins_others, polls_others, asks_others}
 use Rattle.cyc_system.specs.Turn.{Turn}
 use Rattle.cyc_system.specs.Turn.TheVariants.{StaysBound, StaysPending, StaysRefused, Moves}
 use Rattle.cyc_system.specs.Juggling.{TakesTurn, Turns, single_ids}
-use Rattle.cyc_system.specs.GoingOffline.{quiet, Retires, Leaves}
+use Rattle.cyc_system.specs.GoingOffline.{quiet, Retires, EndsOffline}
 use Rattle.cyc_system.specs.Omni.{AddsOmni, entering_each}
 use Rattle.cyc_system.specs.Online.{GoesOnline, staying, is_staying, returns, return_at}
 use Rattle.cyc_system.specs.Calls.{SystemCall, Changes, Add, AddOmni, Bind, BeginRemove, PollRemove, AskTotals, Reprogram}
@@ -143,7 +143,7 @@ module _ {R : Type 0} (firing : Raise R) (f : Taken → ℕ) (id : ℕ) where
       let one : all_on u ≡ all_on s = omega (arith, a, z) in retires_stay n ids u t (λ p q at. ne (suc p) q at) rest ∙ one
 
   leaves_stay : (n : ℕ) (report : JuggleReport) (answer : Result (Unit {0}) Refusal) (s t : SystemView R)
-      → (is_omnipresent id s ≡ true → ⊥) → Leaves firing n report answer s t → all_on t ≡ all_on s
+      → (is_omnipresent id s ≡ true → ⊥) → EndsOffline firing n report answer s t → all_on t ≡ all_on s
   leaves_stay n report answer s t single (inl (left, is, same)) = ap all_on same
   leaves_stay n report answer s t single (inr (inl (none, is, (before, own, after, found, some, only)))) =
       idle_same f id firing (quiet n before ++ on n (AskPending own (Some found)) ∷ []) s.cpus t.cpus
@@ -157,8 +157,8 @@ module _ {R : Type 0} (firing : Raise R) (f : Taken → ℕ) (id : ℕ) where
 
   -- an id whose record is read
   omni_read : (s : SystemView R) (k : ℕ) (r : Record) → HasRisingIds s.records → IsRecord s.records k r → r.id ≡ id
-      → is_omnipresent id s ≡ is_everywhere r.place
-  omni_read s k r rising is named = ap (λ o. option_map_or (λ (x : Record). is_everywhere x.place) o false)
+      → is_omnipresent id s ≡ is_everywhere r.placement
+  omni_read s k r rising is named = ap (λ o. option_map_or (λ (x : Record). is_everywhere x.placement) o false)
       (record_here id k r s.records rising is named)
 
   return_stays : (n now own : ℕ) (level : Level) (counts : Sent) (place : Placement) (way : List CallOn) → own ≢ id
@@ -185,7 +185,7 @@ module _ {R : Type 0} (firing : Raise R) (f : Taken → ℕ) (id : ℕ) where
           → AllFixed f id (returns n now (cond b (r ∷ filter (is_staying v) rs) (filter (is_staying v) rs)))
           × (all_brought f id (returns n now (cond b (r ∷ filter (is_staying v) rs) (filter (is_staying v) rs))) ≡ 0)
           × (all_taken f id (returns n now (cond b (r ∷ filter (is_staying v) rs) (filter (is_staying v) rs))) ≡ 0)
-      by true is fixed a b = return_stays n now r.id r.level (ended_on n r) r.place
+      by true is fixed a b = return_stays n now r.id r.level (ended_on n r) r.placement
           (returns n now (filter (is_staying v) rs)) (ne 0 r refl is) fixed a b
       by false is fixed a b = (fixed, a, b)
 
@@ -193,7 +193,7 @@ module _ {R : Type 0} (firing : Raise R) (f : Taken → ℕ) (id : ℕ) where
       → (is_omnipresent id s ≡ true → ⊥) → GoesOnline firing n now answer s t → all_on t ≡ all_on s
   online_stays n now (Ok done) s t rising single ((w, works, switched), records, last) =
       let (fixed, z, y) = returns_stay n now s.cpus s.records
-      (λ k r at is named. single (omni_read s k r rising at named ∙ (and_parts (is_everywhere r.place) _ is).0)) in
+      (λ k r at is named. single (omni_read s k r rising at named ∙ (and_parts (is_everywhere r.placement) _ is).0)) in
       let a = flows f id firing (on n (Reserve (length (staying s)) (Ok tt)) ∷ on n
       (Widen (length (staying s))) ∷ returns n now (staying s)) s.cpus w (tt, (tt, fixed)) works in
       let d = ap (on_cpus f id) switched in omega (arith, a, z, y, d)
@@ -214,7 +214,7 @@ module _ {R : Type 0} (firing : Raise R) (f : Taken → ℕ) (id : ℕ) where
   still_single : (n : ℕ) (report : JuggleReport) (s t : SystemView R) → HasRisingIds s.records
       → Turns firing n (single_ids n s) report s t → (is_omnipresent id s ≡ true → ⊥) → is_omnipresent id t ≡ true → ⊥
   still_single n report s t rising turns single now =
-      single (sym (turns_look firing (λ (r : Record). is_everywhere r.place) false (λ r n bound e. sym e)
+      single (sym (turns_look firing (λ (r : Record). is_everywhere r.placement) false (λ r n bound e. sym e)
       (λ r n c. refl) id n (single_ids n s) report s t rising turns) ∙ now)
 
   pub moments_kept : (s t : SystemView R) (own n moment : ℕ) → IsSound firing.view s → IsSound firing.view t

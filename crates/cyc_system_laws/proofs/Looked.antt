@@ -16,11 +16,11 @@ use Rattle.cyc_cpu.specs.declared.removing.Removal.TheVariants.{Done, Kept}
 use Rattle.cyc_places.specs.declared.record.Placement.{Placement}
 use Rattle.cyc_places.specs.declared.record.Placement.TheVariants as stands
 use Rattle.cyc_places.specs.declared.record.Record.{Record}
-use Rattle.cyc_places.specs.Places.{IsRecord, HasRisingIds, new_record, with_place, with_ended, is_everywhere}
+use Rattle.cyc_places.specs.Places.{IsRecord, HasRisingIds, new_record, with_placement, with_ended, is_everywhere}
 use Rattle.cyc_system.specs.Cpus.{CpusView}
 use Rattle.cyc_system.specs.System.{SystemView, ids_on}
 use Rattle.cyc_system.specs.Adding.{add_request, Adds}
-use Rattle.cyc_system.specs.Binding.{Records, HasPlace, Binds}
+use Rattle.cyc_system.specs.Binding.{Records, HasPlacement, Binds}
 use Rattle.cyc_system.proofs.Lists.{false_ne}
 use Rattle.cyc_system.proofs.Spots.{same_some}
 use Rattle.cyc_system.proofs.Recording.{found, one_record}
@@ -35,7 +35,7 @@ use Rattle.cyc_system.proofs.Folds.{folds_keep}
 use Rattle.cyc_system.specs.Turn.{Turn}
 use Rattle.cyc_system.specs.Turn.TheVariants.{StaysBound, StaysPending, StaysRefused, Moves}
 use Rattle.cyc_system.specs.Juggling.{TakesTurn, Turns, single_ids}
-use Rattle.cyc_system.specs.GoingOffline.{Retires, Leaves}
+use Rattle.cyc_system.specs.GoingOffline.{Retires, EndsOffline}
 use Rattle.cyc_system.specs.Omni.{AddsOmni}
 use Rattle.cyc_system.specs.Online.{GoesOnline, is_staying, after_return}
 use Rattle.cyc_system.specs.Calls.{SystemCall, Changes, Add, AddOmni, Bind, BeginRemove, PollRemove, AskTotals, Reprogram}
@@ -43,7 +43,7 @@ use Rattle.cyc_system.specs.Calls.{ReprogramOn, Juggle, Offline, Online, FireOne
 use Rattle.cyc_system_laws.specs.Keeping.{TouchesRecord}
 
 -- a change that neither the test nor the measure sees
-look_set : {A B : Type 0} (p : A → Bool) (h : A → B) (d : B) (xs : List A) (k : ℕ) (x y : A) → slice_get xs k ≡ Some x
+pub look_set : {A B : Type 0} (p : A → Bool) (h : A → B) (d : B) (xs : List A) (k : ℕ) (x y : A) → slice_get xs k ≡ Some x
     → p y ≡ p x → h y ≡ h x
     → option_map_or h (find p (slice_set xs k y)) d ≡ option_map_or h (find p xs) d
 look_set p h d [] k x y is a b = refl
@@ -60,7 +60,7 @@ look_set p h d (z ∷ xs) (suc k) x y is a b = by (p z) (look_set p h d xs k x y
     by true rest = refl
     by false rest = rest
 
-look_map : {A B : Type 0} (p : A → Bool) (h : A → B) (d : B) (f : A → A) → ((x : A) → p (f x) ≡ p x)
+pub look_map : {A B : Type 0} (p : A → Bool) (h : A → B) (d : B) (f : A → A) → ((x : A) → p (f x) ≡ p x)
     → ((x : A) → h (f x) ≡ h x) → (xs : List A)
     → option_map_or h (find p (map f xs)) d ≡ option_map_or h (find p xs) d
 look_map p h d f a b [] = refl
@@ -72,12 +72,13 @@ look_map p h d f a b (x ∷ xs) = ap (λ t. option_map_or h (cond t (Some (f x))
     by true rest = b x
     by false rest = rest
 
-find_more : {A : Type 0} (p : A → Bool) (xs : List A) (x : A) → p x ≡ false → find p (xs ++ x ∷ []) ≡ find p xs
+pub find_more : {A : Type 0} (p : A → Bool) (xs : List A) (x : A) → p x ≡ false → find p (xs ++ x ∷ []) ≡ find p xs
 find_more p [] x fails = ap (λ t. cond t (Some x) None) fails
 find_more p (z ∷ xs) x fails = ap (λ o. cond (p z) (Some z) o) (find_more p xs x fails)
 
 module _ {R B : Type 0} (firing : Raise R) (h : Record → B) (none : B)
-    (placed : (r : Record) (n : ℕ) (bound : Bool) → is_everywhere r.place ≡ false → h (with_place (stands.On n bound) r) ≡ h r)
+    (placed : (r : Record) (n : ℕ) (bound : Bool) → is_everywhere r.placement ≡ false
+    → h (with_placement (stands.On n bound) r) ≡ h r)
     (ended : (r : Record) (n : ℕ) (c : Sent) → h (with_ended n c r) ≡ h r) (id : ℕ) where
   -- what is read in the record of the id
   abbrev pub look : SystemView R → B
@@ -88,23 +89,23 @@ module _ {R B : Type 0} (firing : Raise R) (h : Record → B) (none : B)
 
   -- the record of one that is on a single CPU
   single_here : (s : SystemView R) (own n k : ℕ) (bound : Bool) (r : Record) → HasRisingIds s.records
-      → HasPlace own n bound s → IsRecord s.records k r → r.id ≡ own → is_everywhere r.place ≡ false
+      → HasPlacement own n bound s → IsRecord s.records k r → r.id ≡ own → is_everywhere r.placement ≡ false
   single_here s own n k bound r rising (j, q, is, named, place) here same =
       let at = one_record s.records k j r q rising here is (named ∙ sym same) in
-      ap (λ (x : Record). is_everywhere x.place) (same_some (sym here ∙ ap (λ i. slice_get s.records i) (sym at) ∙ is))
+      ap (λ (x : Record). is_everywhere x.placement) (same_some (sym here ∙ ap (λ i. slice_get s.records i) (sym at) ∙ is))
       ∙ ap is_everywhere place
 
-  replaced_look : (own n m : ℕ) (bound was : Bool) (s t : SystemView R) → HasRisingIds s.records → HasPlace own n was s
+  replaced_look : (own n m : ℕ) (bound was : Bool) (s t : SystemView R) → HasRisingIds s.records → HasPlacement own n was s
       → Records own (stands.On m bound) s t → look t ≡ look s
   replaced_look own n m bound was s t rising has (k, r, here, named, records, last) = ap
       (λ rs. option_map_or h (found id rs) none) records
-      ∙ look_set (λ (x : Record). x.id == id) h none s.records k r (with_place (stands.On m bound) r) here refl
+      ∙ look_set (λ (x : Record). x.id == id) h none s.records k r (with_placement (stands.On m bound) r) here refl
       (placed r m bound (single_here s own n k was r rising has here named))
 
   replaced_rising : (own : ℕ) (place : Placement) (s t : SystemView R) → HasRisingIds s.records → Records own place s t
       → HasRisingIds t.records
   replaced_rising own place s t rising (k, r, here, named, records, last) = subst HasRisingIds (sym records)
-      (rising_set s.records k r (with_place place r) rising here refl)
+      (rising_set s.records k r (with_placement place r) rising here refl)
 
   ended_look : (s t : SystemView R) (k n : ℕ) (r : Record) (c : Sent) → IsRecord s.records k r
       → t.records ≡ slice_set s.records k (with_ended n c r) → look t ≡ look s
@@ -158,7 +159,7 @@ module _ {R B : Type 0} (firing : Raise R) (h : Record → B) (none : B)
       ∙ ended_look s u k n r _ here records
 
   leaves_look : (n : ℕ) (report : JuggleReport) (answer : Result (Unit {0}) Refusal) (s t : SystemView R)
-      → Leaves firing n report answer s t → look t ≡ look s
+      → EndsOffline firing n report answer s t → look t ≡ look s
   leaves_look n report answer s t (inl (left, is, same)) = ap look same
   leaves_look n report answer s t (inr (inl (nothing, is, (before, own, after, found, some, only)))) = looked_same s t only.1
   leaves_look n report answer s t (inr (inr (nothing, is, (u, only, empty, each, off)))) = ap look off

@@ -16,7 +16,18 @@ use Rattle.cyc_cpu.specs.Rows.{timers}
 use Rattle.cyc_types.specs.Expirations.{expirations, times_of}
 use Rattle.cyc_types.specs.Timers.{HasDistinctIds}
 use Rattle.cyc_cpu.specs.Losses.{IsSpared}
-use Rattle.cyc_cpu.specs.Cpu.{CpuView, AreAdmitted, HasCounts, HasRisingIds, IsRemoved, Asks, Looked, Reserves, MayWiden, Widens}
+use Rattle.cyc_cpu.specs.Cpu.{
+  CpuView,
+  AreAdmitted,
+  HasCounts,
+  HasRisingCyclics,
+  IsRemoved,
+  Asks,
+  Looked,
+  Reserves,
+  MayWiden,
+  Widens,
+}
 use Rattle.cyc_cpu.specs.Cpu.{bank_for, least_bank}
 use Rattle.cyc_cpu.specs.Laws.{IsLawful}
 
@@ -139,7 +150,7 @@ lawful_from : {R : Type 0} (view : R → FiringView) (v w : CpuView R) → IsLaw
     w.size ≡ 2 ^ (view w.lock).bank → w.size ≡ 2 ^ (view w.low).bank → v.size ≤ w.size → w.size ≤ most_cyclics → w.size ≤ w.room →
     IsLawful view w
 lawful_from view v w h lock low cyclics removal most lock_bank low_bank wider few room = record {
-  rising = subst (λ cs. HasRisingIds cs) (sym cyclics) h.rising;
+  rising = subst (λ cs. HasRisingCyclics cs) (sym cyclics) h.rising;
   distinct = subst (λ cs. HasDistinctIds (timers cs)) (sym cyclics) h.distinct;
   counted = subst (λ cs. All (HasCounts w.most) cs) (sym cyclics) (subst (λ m. All (HasCounts m) v.cyclics) (sym most) h.counted);
   lock = subst (λ cs. AreAdmitted Lock (view w.lock) cs) (sym cyclics)

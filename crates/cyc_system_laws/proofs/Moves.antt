@@ -79,13 +79,13 @@ module _ {R : Type 0} (firing : Raise R) (id source target : ℕ) (taken : Taken
         (after_there source _ v2 v3 d3));
     to_is = before_beside source target _ d2.before v v1 apart d1 d2.here;
     joined_is = after_there target _ v4 w d5;
-    place = l.place;
-    here = subst (λ cs. IsCyclic cs l.place c) asked l.here;
-    gone = l.cyclics ∙ ap (λ cs. remove cs l.place) asked;
-    new_place = d5.change.1.place;
-    there = d5.change.1.cyclics ∙ ap (λ cs. insert cs d5.change.1.place
+    position = l.position;
+    here = subst (λ cs. IsCyclic cs l.position c) asked l.here;
+    gone = l.cyclics ∙ ap (λ cs. remove cs l.position) asked;
+    new_position = d5.change.1.position;
+    there = d5.change.1.cyclics ∙ ap (λ cs. insert cs d5.change.1.position
         (cyclic_with id taken.level taken.interval taken.moment taken.sent.sent taken.sent.lost)) reserved
-        ∙ ap (λ x. insert d2.before.cyclics d5.change.1.place x) (same_cyclic id taken c l.named is);
+        ∙ ap (λ x. insert d2.before.cyclics d5.change.1.position x) (same_cyclic id taken c l.named is);
     still = (sym d1.change.0.kept.removal ∙ ap (λ (x : CpuView R). x.removal) (sym source_kept) ∙ still, l.removal);
     removal = d5.change.1.kept.removal ∙ ap (λ (x : CpuView R). x.removal) target_widened ∙ d4.change.1.removal
         ∙ ap (λ (x : CpuView R). x.removal) target_kept ∙ d2.change.0.removal;

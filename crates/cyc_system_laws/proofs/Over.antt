@@ -15,7 +15,7 @@ use Rattle.cyc_cpu.specs.declared.removing.Removal.{Removal}
 use Rattle.cyc_cpu.specs.declared.removing.Removal.TheVariants.{Done, Kept}
 use Rattle.cyc_cpu.specs.Cpu.{CpuView, Running, running}
 use Rattle.cyc_cpu.specs.Gone.{PutsNot}
-use Rattle.cyc_cpu.specs.Calls.{CpuCall, Changes as CpuChanges, Does as CpuDoes, Fire}
+use Rattle.cyc_cpu.specs.Calls.{CpuCall, CpuChanges as CpuChanges, CpuDoes as CpuDoes, Fire}
 use Rattle.cyc_places.specs.declared.record.Record.{Record}
 use Rattle.cyc_places.specs.Places.{IsRecord, HasNoRecord, HasRisingIds, ended_on, summed, with_ended}
 use Rattle.cyc_agreement.specs.Cpus.{CpusView, IsCpu, OfCpu, ChangesAt, with_cpu}
@@ -27,7 +27,7 @@ use Rattle.cyc_system.proofs.Spots.{none_some}
 use Rattle.cyc_system.proofs.Presence.{has_here}
 use Rattle.cyc_system.proofs.Recording.{found}
 use Rattle.cyc_system.specs.SystemRemoval.TheVariants as over
-use Rattle.cyc_system.specs.Removing.{Begun, BeginsOn, BeginsRemoval, Answers, counts_of}
+use Rattle.cyc_system.specs.Removing.{Begun, BeginsOn, BeginsRemoval, AnswersRemoval, counts_of_receipt}
 use Rattle.cyc_system.specs.Polling.{Polled, PollsOn, PollsRemoval}
 use Rattle.cyc_system.specs.RemovalLaws.{IsForgotten}
 use Rattle.cyc_system.proofs.Forgetting.{was_there, begins_forgotten, polls_forgotten}
@@ -156,10 +156,11 @@ AllGiven s = (k : ℕ) (r : Record) → IsRecord s.records k r → r.id ≤ s.la
 
 module _ {R : Type 0} (firing : Raise R) (id : ℕ) where
   kept_given : (n : ℕ) (receipt : Receipt) (s t : SystemView R) (k : ℕ) (r : Record) → IsRecord s.records k r
-      → t.records ≡ slice_set s.records k (with_ended n (summed (ended_on n r) (counts_of receipt)) r) → t.last ≡ s.last
+      → t.records ≡ slice_set s.records k (with_ended n (summed (ended_on n r) (counts_of_receipt receipt)) r) → t.last ≡ s.last
       → AllGiven s → AllGiven t
   kept_given n receipt s t k r is records last h j q at =
-      let (p, was, same) = was_there s.records k j r (with_ended n (summed (ended_on n r) (counts_of receipt)) r) q is refl
+      let (p, was, same) = was_there s.records k j r (with_ended n (summed (ended_on n r) (counts_of_receipt receipt)) r) q is
+      refl
       (subst (λ rs. IsRecord rs j q) records at) in
       let low = h j p was in omega (arith, low, same, last)
 
@@ -175,9 +176,9 @@ module _ {R : Type 0} (firing : Raise R) (id : ℕ) where
   polls_given n (Some receipt) s t (does, k, r, is, named, records, last) h = kept_given n receipt s t k r is records last h
   polls_given n None s t (does, records, last) h = same_given s t records last h
 
-  is_over : (receipt : Receipt) (u t : SystemView R) → Answers id receipt u t → AllGiven u → IsForgotten id t → IsOver id t
+  is_over : (receipt : Receipt) (u t : SystemView R) → AnswersRemoval id receipt u t → AllGiven u → IsForgotten id t → IsOver id t
   is_over receipt u t a h f = record {
-    given = (let low = h a.place a.own a.here in let named = a.named in let last = a.last in omega (arith, low, named, last));
+    given = (let low = h a.position a.own a.here in let named = a.named in let last = a.last in omega (arith, low, named, last));
     unknown = none_of id t.records f.unknown;
     nowhere = λ n cpu at k d low same. false_true
         (sym (f.nowhere n) ∙ has_here t.cpus n id cpu at

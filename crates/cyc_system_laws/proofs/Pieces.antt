@@ -37,13 +37,13 @@ use Rattle.cyc_system.specs.Binding.{Records, GoesTo, Unbinds, Binds}
 use Rattle.cyc_system.specs.SystemRemoval.{SystemRemoval}
 use Rattle.cyc_system.specs.SystemRemoval.TheVariants as over
 use Rattle.cyc_system.specs.SystemTotals.{SystemTotals}
-use Rattle.cyc_system.specs.Removing.{Begun, BeginsOn, BeginsEach, Removes, Answers}
-use Rattle.cyc_system.specs.Polling.{Polled, PollsOn, PollsEach, Polls}
+use Rattle.cyc_system.specs.Removing.{Begun, BeginsOn, BeginsEach, Removes, AnswersRemoval}
+use Rattle.cyc_system.specs.Polling.{Polled, PollsOn, PollsEach, PollsCpus}
 use Rattle.cyc_system.specs.Counting.{Counted, asked, AsksTotals}
 use Rattle.cyc_system.specs.Turn.{Turn}
 use Rattle.cyc_system.specs.Turn.TheVariants.{StaysBound, StaysPending, StaysRefused, Moves}
 use Rattle.cyc_system.specs.Juggling.{TakesTurn, Turns, single_ids}
-use Rattle.cyc_system.specs.GoingOffline.{quiet, Retires, Leaves}
+use Rattle.cyc_system.specs.GoingOffline.{quiet, Retires, EndsOffline}
 use Rattle.cyc_system.specs.Omni.{AddsOmni, entering_each}
 use Rattle.cyc_system.specs.Online.{GoesOnline, staying, is_staying, returns, return_at, after_return}
 use Rattle.cyc_system.specs.Calls.{SystemCall, Changes, Add, AddOmni, Bind, BeginRemove, PollRemove, AskTotals, Reprogram}
@@ -93,8 +93,8 @@ outs_return id n now own level counts (stands.Everywhere first skew) ne = (ne, t
 outs_returns : (id n now : ℕ) (rs : List Record) → Unnamed id rs → Outs id (returns n now rs)
 outs_returns id n now [] none = tt
 outs_returns id n now (r ∷ rs) none =
-    outs_on id (return_at n now r.id r.level _ r.place) (returns n now rs)
-    (outs_return id n now r.id r.level _ r.place (none zero r refl)) (outs_returns id n now rs (unnamed_tail id r rs none))
+    outs_on id (return_at n now r.id r.level _ r.placement) (returns n now rs)
+    (outs_return id n now r.id r.level _ r.placement (none zero r refl)) (outs_returns id n now rs (unnamed_tail id r rs none))
 
 withouts : (id : ℕ) (way : List CallOn) → Outs id way → All (IsWithout id) (map OnCpu way)
 withouts id [] outs k d low = absurd (omega (arith, low))
@@ -321,9 +321,9 @@ module _ {R : Type 0} (firing : Raise R) where
   begins_each id (b ∷ way) s t (u, first, rest) =
       made_then s u t (begins_on id b.cpu b.found s u first) (begins_each id way u t rest)
 
-  answers : (id : ℕ) (receipt : Receipt) (s t : SystemView R) → Answers id receipt s t → IsPlainlyMadeOf s t
+  answers : (id : ℕ) (receipt : Receipt) (s t : SystemView R) → AnswersRemoval id receipt s t → IsPlainlyMadeOf s t
   answers id receipt s t a = made_calls s t [] tt (sym a.cpus) (same_low s.last t.last a.last) (λ q low none. tt)
-      (λ q low none. subst (λ rs. Unnamed q rs) (sym a.records) (unnamed_remove q s.records a.place none))
+      (λ q low none. subst (λ rs. Unnamed q rs) (sym a.records) (unnamed_remove q s.records a.position none))
 
   begins : (id : ℕ) (answer : Result SystemRemoval Refusal) (s t : SystemView R) → Removes firing id answer s t
       → IsPlainlyMadeOf s t
@@ -344,7 +344,7 @@ module _ {R : Type 0} (firing : Raise R) where
   polls_each id (p ∷ way) s t (u, first, rest) =
       made_then s u t (polls_on id p.cpu p.answer s u first) (polls_each id way u t rest)
 
-  polls : (id : ℕ) (answer : Result (Option Receipt) Refusal) (s t : SystemView R) → Polls firing id answer s t
+  polls : (id : ℕ) (answer : Result (Option Receipt) Refusal) (s t : SystemView R) → PollsCpus firing id answer s t
       → IsPlainlyMadeOf s t
   polls id (Ok (Some receipt)) s t (way, u, cpus, each, done) =
       made_then s u t (polls_each id way s u each) (answers id receipt u t done)
@@ -402,7 +402,7 @@ module _ {R : Type 0} (firing : Raise R) where
   }
 
   leaves : (n : ℕ) (report : JuggleReport) (answer : Result (Unit {0}) Refusal) (s t : SystemView R)
-      → Leaves firing n report answer s t → IsPlainlyMadeOf s t
+      → EndsOffline firing n report answer s t → IsPlainlyMadeOf s t
   leaves n report answer s t (inl (left, is, same)) = made_same s t same
   leaves n report answer s t (inr (inl (none, is, (before, id, after, found, some, only)))) =
       made_only s t (quiet n before ++ on n (AskPending id (Some found)) ∷ [])

@@ -9,7 +9,7 @@ use Rattle.cyc_soft.specs.declared.Ran.{Ran}
 use Rattle.cyc_soft.specs.declared.SoftRefused.{SoftRefused}
 use Rattle.cyc_cpu.specs.Cpu.{CpuView, Running, running}
 use Rattle.cyc_cpu.specs.Calls.{Suspend, Resume}
-use Rattle.cyc_cpu.specs.Calls.{CpuCall, Changes, Does, Fire, SoftInterrupt, Add, Place, Reprogram, AskPending, AskTotals}
+use Rattle.cyc_cpu.specs.Calls.{CpuCall, CpuChanges, CpuDoes, Fire, SoftInterrupt, Add, Place, Reprogram, AskPending, AskTotals}
 use Rattle.cyc_cpu.specs.Calls.{AskRoom, Reserve, Widen, BeginRemove, PollRemove, TakeNow, AskSettled}
 use Rattle.cyc_system_laws.specs.Runs.{calls_on, DoesWithSome}
 use Rattle.cyc_system_laws.proofs.Seen.{sees}
@@ -18,8 +18,8 @@ use Rattle.cyc_agreement.specs.Cpus.{CpusView, IsCpu, CallOn, ChangesAt, DoesAt,
 module _ {C R : Type 0} (handler : Calls C)
     (firing : Raise R) (interrupts : Soft → ℕ → Result Ran SoftRefused →
     Running C R → Running C R → Type 0) (calls : C) where
-  quiet_does : (x y : CpuView R) (call : CpuCall) → Changes firing x call y →
-      Does handler firing interrupts (running calls x) call (running calls y)
+  quiet_does : (x y : CpuView R) (call : CpuCall) → CpuChanges firing x call y →
+      CpuDoes handler firing interrupts (running calls x) call (running calls y)
   quiet_does x y (Fire now answer) d = absurd d
   quiet_does x y (SoftInterrupt soft budget answer) d = absurd d
   quiet_does x y (Add own level when now answer) d = (d, refl)

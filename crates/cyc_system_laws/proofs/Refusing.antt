@@ -8,7 +8,7 @@ use Rattle.cyc_cpu.specs.Cpu.{CpuView, SameCpu}
 use Rattle.cyc_agreement.specs.Cpus.{CpusView, IsCpu, ChangesAt}
 use Rattle.cyc_agreement.specs.Shifting.{move_of, WhyNotShifted}
 use Rattle.cyc_agreement.proofs.CpuSpots.{one_cpu, cpu_there, cpu_after}
-use Rattle.cyc_system_laws.specs.Moved.{OnlyAsked}
+use Rattle.cyc_system_laws.specs.Moved.{OnlyAskedCpus}
 
 module _ {R : Type 0} where
   same_cpu : (x : CpuView R) → SameCpu x x
@@ -25,7 +25,7 @@ module _ {R : Type 0} where
         ∙ a.suspended;
   }
 
-  not_asked : (v : CpusView R) → OnlyAsked v v
+  not_asked : (v : CpusView R) → OnlyAskedCpus v v
   not_asked v = record {
     cyclics = λ n x y a b. ap (λ (z : CpuView R). z.cyclics) (one_cpu n y x v b a);
     kept = λ n x y a b. subst (λ z. SameCpu x z) (one_cpu n x y v a b) (same_cpu x);
@@ -35,7 +35,7 @@ module _ {R : Type 0} where
   -- a call that at most asks, and then others
   asked_then : (n : ℕ) (D : CpuView R → CpuView R → Type 0) (u v w : CpusView R) (d : ChangesAt n D u v) →
       d.after.cyclics ≡ d.before.cyclics → SameCpu d.before d.after →
-      OnlyAsked v w → OnlyAsked u w
+      OnlyAskedCpus v w → OnlyAskedCpus u w
   asked_then n D u v w d cyclics kept rest = record {
     cyclics = λ m x y a b. dite (ℕ_discrete m n)
         (λ e. rest.cyclics m d.after y (there m e) b ∙ cyclics ∙ ap (λ (z : CpuView R). z.cyclics) (first m x e a))
@@ -55,11 +55,11 @@ module _ {R : Type 0} where
 
   pub not_shifted : (firing : Raise R) (id source target : ℕ) (e : Refusal)
       (v w : CpusView R) →
-      WhyNotShifted firing (move_of id source target) e v w → OnlyAsked v w
+      WhyNotShifted firing (move_of id source target) e v w → OnlyAskedCpus v w
   not_shifted firing id source target e v w (inl (removed, has, why, same)) =
-      subst (λ u. OnlyAsked v u) (sym same) (not_asked v)
+      subst (λ u. OnlyAskedCpus v u) (sym same) (not_asked v)
   not_shifted firing id source target e v w (inr (inl (none, n, some, why, (v1, d1, last)))) =
-      asked_then source _ v v1 w d1 d1.change.0.cyclics d1.change.0.kept (subst (λ u. OnlyAsked v1 u) last (not_asked v1))
+      asked_then source _ v v1 w d1 d1.change.0.cyclics d1.change.0.kept (subst (λ u. OnlyAskedCpus v1 u) last (not_asked v1))
   not_shifted firing id source target e v w (inr (inr (none, (v1, d1, (v2, d2, last))))) =
       asked_then source _ v v1 w d1 d1.change.0.cyclics d1.change.0.kept
-      (asked_then target _ v1 v2 w d2 d2.change.0.cyclics d2.change.0.kept (subst (λ u. OnlyAsked v2 u) last (not_asked v2)))
+      (asked_then target _ v1 v2 w d2 d2.change.0.cyclics d2.change.0.kept (subst (λ u. OnlyAskedCpus v2 u) last (not_asked v2)))

@@ -16,7 +16,7 @@ use Rattle.cyc_types.specs.declared.refusal.Refusal.TheVariants as why
 use Rattle.cyc_types.specs.Reasons.{first_refusal, when, busy, bad_now}
 use Rattle.cyc_cpu.specs.Cpu.{CpuView, running}
 use Rattle.cyc_cpu.specs.Moving.{IsSettled}
-use Rattle.cyc_cpu.specs.Calls.{Changes as CpuChanges, no_interrupts, AskPending, AskRoom, Reserve, TakeNow}
+use Rattle.cyc_cpu.specs.Calls.{CpuChanges as CpuChanges, no_interrupts, AskPending, AskRoom, Reserve, TakeNow}
 use Rattle.cyc_cpu_laws.specs.Settled.{IsUntil}
 use Rattle.cyc_cpu_laws.proofs.Staying.{settled_one, never_put_off}
 use Rattle.cyc_agreement.specs.Cpus.{CpusView, IsCpu, CallOn, on, ChangesAt, Works, online_cpus}
@@ -32,10 +32,10 @@ use Rattle.cyc_system.specs.Removing.{unknown_cyclic, cpus_with}
 use Rattle.cyc_system.specs.Turn.{Turn}
 use Rattle.cyc_system.specs.Turn.TheVariants.{StaysBound, StaysPending, StaysRefused, Moves}
 use Rattle.cyc_system.specs.Juggling.{TakesTurn, Turns, single_ids, last_cpu}
-use Rattle.cyc_system.specs.GoingOffline.{quiet, Leaves}
+use Rattle.cyc_system.specs.GoingOffline.{quiet, EndsOffline}
 use Rattle.cyc_system.specs.Online.{online_cpu, staying}
 use Rattle.cyc_system.specs.Calls.{SystemCall, Changes, Add, AddOmni, Bind, BeginRemove, Juggle, Offline, Online}
-use Rattle.cyc_system_laws.specs.Settling.{IsRefusedUntil, IsAmong, Asks}
+use Rattle.cyc_system_laws.specs.Settling.{IsRefusedUntil, IsAmong, AsksCpu}
 
 -- the number of CPUs stays
 pub as_many : {R : Type 0} (firing : Raise R) (way : List CallOn) (v w : CpusView R)
@@ -276,7 +276,7 @@ module _ {R : Type 0} (firing : Raise R) where
       one (inl own) = absurd (plain (nat_le (length s.cpus.cpus) n) why.NoCpu e own (λ u. u) until)
       one (inr others) = two (first_of (offline_cpu n s) (last_cpu s ∷ busy (removal_on n s.cpus) ∷ []) e others)
 
-  leaves_pending : (n : ℕ) (report : JuggleReport) (e : Refusal) (s t : SystemView R) → Leaves firing n report (Err e) s t
+  leaves_pending : (n : ℕ) (report : JuggleReport) (e : Refusal) (s t : SystemView R) → EndsOffline firing n report (Err e) s t
       → IsUntil e → NotSettled n s.cpus
   leaves_pending n report e s t (inl (left, is, same)) until = absurd (subst IsUntil (err_same is) until)
   leaves_pending n report e s t (inr (inl (none, is, (before, own, after, found, some, (works, records, last))))) until =
@@ -287,7 +287,8 @@ module _ {R : Type 0} (firing : Raise R) where
   leaves_pending n report e s t (inr (inr (none, is, rest))) until = absurd (let odd : Err e ≡ Ok tt = is in cc)
 
   binds_stop : (own m : ℕ) (e : Refusal) (s t : SystemView R) → Binds firing own m (Err e) s t → IsUntil e
-      → (n : ℕ) × (cpu : CpuView R) × IsCpu n cpu s.cpus × Asks n (Bind own (Some m) (Err e)) s × (IsSettled firing.view cpu → ⊥)
+      → (n : ℕ) × (cpu : CpuView R) × IsCpu n cpu s.cpus × AsksCpu n (Bind own (Some m) (Err e)) s
+      × (IsSettled firing.view cpu → ⊥)
   binds_stop own m e s t (home, has, inl (at, is, same), records, last) until = absurd (let odd : Err e ≡ Ok tt = is in cc)
   binds_stop own m e s t (home, has, inr (ne, inl (removed, (cpu, at, is_open), is, same)), records, last) until =
       (home, cpu, at, inl has, λ h. none_some (sym h.still ∙ is_open))
@@ -300,7 +301,7 @@ module _ {R : Type 0} (firing : Raise R) where
       (b.before, b.here, refused_here m 1 e b.before b.after b.change until) in (m, cpu, at, inr refl, not))
 
   abbrev Found : SystemCall → SystemView R → Type 0
-  Found call s = (n : ℕ) × (cpu : CpuView R) × IsCpu n cpu s.cpus × Asks n call s × (IsSettled firing.view cpu → ⊥)
+  Found call s = (n : ℕ) × (cpu : CpuView R) × IsCpu n cpu s.cpus × AsksCpu n call s × (IsSettled firing.view cpu → ⊥)
 
   pub refused_until : (s t : SystemView R) (call : SystemCall) → Changes firing s call t → IsRefusedUntil call → Found call s
   refused_until s t (Add level when now (Err e)) (inl (x, first, is, same)) until =

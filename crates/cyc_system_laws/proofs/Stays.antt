@@ -14,7 +14,7 @@ use Rattle.cyc_cpu.specs.Cpu.{CpuView, Running, running, HasNoCyclic}
 use Rattle.cyc_cpu.specs.Gone.{IsGone, PutsNot}
 use Rattle.cyc_cpu.specs.Soft.{raise_tables, Interrupts}
 use Rattle.cyc_cpu.specs.Calls.{Suspend, Resume}
-use Rattle.cyc_cpu.specs.Calls.{CpuCall, Changes, Does, no_interrupts, Fire, SoftInterrupt, Add, Place, Reprogram, AskPending}
+use Rattle.cyc_cpu.specs.Calls.{CpuCall, CpuChanges, CpuDoes, no_interrupts, Fire, SoftInterrupt, Add, Place, Reprogram, AskPending}
 use Rattle.cyc_cpu.specs.Calls.{AskTotals, AskRoom, Reserve, Widen, BeginRemove, PollRemove, TakeNow, AskSettled}
 use Rattle.cyc_cpu.proofs.Following.{stays_gone}
 use Rattle.cyc_cpu_laws.proofs.Shifts.{changes_shift, shift_away}
@@ -26,12 +26,12 @@ use Rattle.cyc_system_laws.specs.Gone.{IsOver, StaysOver, IsOverWhole, StaysOver
 use Rattle.cyc_system_laws.proofs.Over.{run_away}
 
 module _ {C R : Type 0} (handler : Calls C) (firing : Raise R) (id : ℕ) where
-  quiet : (x y : CpuView R) (call : CpuCall) → PutsNot id call → Changes firing x call y → HasNoCyclic id x.cyclics
+  quiet : (x y : CpuView R) (call : CpuCall) → PutsNot id call → CpuChanges firing x call y → HasNoCyclic id x.cyclics
       → HasNoCyclic id y.cyclics
   quiet x y call not d none = shift_away call x.cyclics y.cyclics id (changes_shift firing x y call d) not none
 
   fire : (s t : Running C R) (now : ℕ) (answer : Result Fired FireRefused)
-      → Does handler firing no_interrupts s (Fire now answer) t → HasNoCyclic id s.cpu.cyclics
+      → CpuDoes handler firing no_interrupts s (Fire now answer) t → HasNoCyclic id s.cpu.cyclics
       → HasNoCyclic id t.cpu.cyclics × (handler.count t.calls id ≡ handler.count s.calls id)
   fire s t now (Ok r) (early, kept, expired, next, makes) none = (
     fired_away id now _ s.cpu.cyclics t.cpu.cyclics makes.timers_are none,
@@ -69,10 +69,10 @@ is_whole id s is whole = record {
 
 module _ {C : Type 0} (handler : Calls C) (id : ℕ) where
   abbrev Core : Running C Tables → CpuCall → Running C Tables → Type 0
-  Core = Does handler raise_tables (Interrupts handler)
+  Core = CpuDoes handler raise_tables (Interrupts handler)
 
   -- a call that reaches no handler, with any handlers
-  with_calls : (calls : C) (x y : CpuView Tables) (call : CpuCall) → Changes raise_tables x call y
+  with_calls : (calls : C) (x y : CpuView Tables) (call : CpuCall) → CpuChanges raise_tables x call y
       → Core (running calls x) call (running calls y)
   with_calls calls x y (Fire now answer) d = absurd d
   with_calls calls x y (SoftInterrupt level budget answer) d = absurd d

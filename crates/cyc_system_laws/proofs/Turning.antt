@@ -18,7 +18,7 @@ use Rattle.cyc_types.specs.Reasons.{first_refusal, when, busy}
 use Rattle.cyc_types.proofs.Runs.{folds_on}
 use Rattle.cyc_cpu.specs.Cpu.{CpuView}
 use Rattle.cyc_cpu.specs.Moving.{IsSettled}
-use Rattle.cyc_cpu.specs.Calls.{CpuCall, Changes as CpuChanges, AskPending, Reserve, TakeNow, Widen, Place}
+use Rattle.cyc_cpu.specs.Calls.{CpuCall, CpuChanges as CpuChanges, AskPending, Reserve, TakeNow, Widen, Place}
 use Rattle.cyc_cpu_laws.specs.Settled.{IsUntil}
 use Rattle.cyc_agreement.specs.Cpus.{CpusView, IsCpu, OfCpu, CallOn, on, DoesAt, Works, online_cpus}
 use Rattle.cyc_agreement.specs.Destination.{destination}

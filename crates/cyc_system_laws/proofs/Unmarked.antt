@@ -57,8 +57,8 @@ unmarked_return n now own level counts (stands.Everywhere first skew) = (tt, tt)
 
 pub unmarked_returns : (n now : ℕ) (rs : List Record) → Unmarked (returns n now rs)
 unmarked_returns n now [] = tt
-unmarked_returns n now (r ∷ rs) = unmarked_on (return_at n now r.id r.level _ r.place) (returns n now rs)
-    (unmarked_return n now r.id r.level _ r.place) (unmarked_returns n now rs)
+unmarked_returns n now (r ∷ rs) = unmarked_on (return_at n now r.id r.level _ r.placement) (returns n now rs)
+    (unmarked_return n now r.id r.level _ r.placement) (unmarked_returns n now rs)
 
 module _ {R : Type 0} (firing : Raise R) where
   -- each CPU is suspended where it was

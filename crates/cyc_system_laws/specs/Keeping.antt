@@ -11,8 +11,8 @@ use Rattle.cyc_system.specs.Counts.{all_expired, all_lost}
 use Rattle.cyc_system.specs.Calls.{SystemCall, Add, AddOmni, BeginRemove, PollRemove, Reprogram, ReprogramOn, Offline, Online}
 
 -- the stay of a cyclic on its CPU, with all that a move takes of it: level, interval, next expiration and counts
-abbrev pub stay_of : Cyclic → Taken
-stay_of c = record {
+abbrev pub stay_on : Cyclic → Taken
+stay_on c = record {
   level = c.timer.level;
   interval = c.timer.interval;
   moment = c.timer.moment;
@@ -21,7 +21,7 @@ stay_of c = record {
 
 -- a measure of the stays of an id that go on, summed over all CPUs
 abbrev pub over_stays : {R : Type 0} → (Taken → ℕ) → ℕ → SystemView R → ℕ
-over_stays f id s = sum_by (λ cpu. option_map_or (λ c. f (stay_of c)) (cyclic_in id cpu) 0) s.cpus.cpus
+over_stays f id s = sum_by (λ cpu. option_map_or (λ c. f (stay_on c)) (cyclic_in id cpu) 0) s.cpus.cpus
 
 -- The id has the same stays, wherever they are: whatever is measured of them comes to the same sum. A measure that is 1 for stays
 -- of one kind and 0 for all others counts those of that kind.

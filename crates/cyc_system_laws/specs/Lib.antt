@@ -8,6 +8,11 @@ pub mod Parts
 pub mod Gone
 pub mod Numbering
 pub mod Settling
+pub mod Totalling
+pub mod Suspension
+pub mod Sparing
+pub mod Kinds
+pub mod Pending
 pub use Rattle.cyc_cpu_laws.specs.Accounts
 pub use Rattle.cyc_cpu_laws.specs.Cores
 pub use Rattle.cyc_cpu_laws.specs.Settled
@@ -22,5 +27,5 @@ pub use Rattle.cyc_system.specs.Counts
 pub use Rattle.cyc_system.specs.Removing
 pub use Rattle.cyc_system.specs.Polling
 pub use Rattle.cyc_system.specs.Counting
-pub use Rattle.cyc_system.specs.declared.interrupting.SoftFault
+pub use Rattle.cyc_system.specs.declared.system.SoftFault
 pub use Rattle.cyc_system.specs.SystemTotals

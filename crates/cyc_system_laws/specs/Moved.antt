@@ -26,12 +26,12 @@ pub record Moved {R : Type 0} (id source target : ℕ) (v w : CpusView R) : Type
   pub left_is : IsCpu source left w
   pub to_is : IsCpu target to v
   pub joined_is : IsCpu target joined w
-  -- it left its place at the source, and has one at the target
-  pub place : ℕ
-  pub here : IsCyclic from.cyclics place cyclic
-  pub gone : left.cyclics ≡ remove from.cyclics place
-  pub new_place : ℕ
-  pub there : joined.cyclics ≡ insert to.cyclics new_place (carried_over cyclic)
+  -- it left its position at the source, and has one at the target
+  pub position : ℕ
+  pub here : IsCyclic from.cyclics position cyclic
+  pub gone : left.cyclics ≡ remove from.cyclics position
+  pub new_position : ℕ
+  pub there : joined.cyclics ≡ insert to.cyclics new_position (carried_over cyclic)
   -- no removal was open at the source, and none begins or ends
   pub still : (from.removal ≡ None) × (left.removal ≡ None)
   pub removal : joined.removal ≡ to.removal
@@ -41,7 +41,7 @@ pub record Moved {R : Type 0} (id source target : ℕ) (v w : CpusView R) : Type
   pub online : w.online ≡ v.online
 
 -- each CPU has the cyclics, the removal, the size and the room that it had: at most its ends were asked
-pub record OnlyAsked {R : Type 0} (v w : CpusView R) : Type 0 where
+pub record OnlyAskedCpus {R : Type 0} (v w : CpusView R) : Type 0 where
   pub cyclics : (n : ℕ) (x y : CpuView R) → IsCpu n x v → IsCpu n y w → y.cyclics ≡ x.cyclics
   pub kept : (n : ℕ) (x y : CpuView R) → IsCpu n x v → IsCpu n y w → SameCpu x y
   pub online : w.online ≡ v.online

@@ -6,7 +6,7 @@ use Rattle.cyc_types.specs.declared.level.Soft.{Soft}
 use Rattle.cyc_soft.specs.declared.Ran.{Ran}
 use Rattle.cyc_soft.specs.declared.SoftRefused.{SoftRefused}
 use Rattle.cyc_cpu.specs.Cpu.{CpuView, Running, running}
-use Rattle.cyc_cpu.specs.Calls.{CpuCall, Does}
+use Rattle.cyc_cpu.specs.Calls.{CpuCall, CpuDoes}
 use Rattle.cyc_agreement.specs.Cpus.{CallOn}
 
 -- the calls that were made on the CPU of this number, in order
@@ -19,4 +19,4 @@ abbrev pub DoesWithSome : {C R : Type 0} → Calls C
     → Raise R → (Soft → ℕ → Result Ran SoftRefused → Running C R → Running C R → Type 0)
     → CpuView R → CpuCall → CpuView R → Type 0
 DoesWithSome {C} handler firing interrupts x call y =
-    (a b : C) × Does handler firing interrupts (running a x) call (running b y)
+    (a b : C) × CpuDoes handler firing interrupts (running a x) call (running b y)

@@ -38,15 +38,15 @@ IsAmong n ns = (before : List ℕ) × StandsAfter before n ns
 
 -- the call asks this CPU: the one that gets a new cyclic, or all that are online; where a cyclic is and where it is to go; those
 -- that have it; or the one that is named
-abbrev pub Asks : {R : Type 0} → ℕ → SystemCall → SystemView R → Type 0
-Asks n (Add level when now answer) s = destination None s.cpus ≡ Some n
-Asks n (AddOmni level when skew now answer) s = IsAmong n (online_cpus s.cpus)
-Asks n (Bind id (Some m) answer) s = HasHome id n s ⊎ (n ≡ m)
-Asks n (BeginRemove id answer) s = IsAmong n (cpus_with id s.cpus)
-Asks n (Juggle m answer) s = n ≡ m
-Asks n (Offline m answer) s = n ≡ m
-Asks n (Online m now answer) s = n ≡ m
-Asks n call s = ⊥
+abbrev pub AsksCpu : {R : Type 0} → ℕ → SystemCall → SystemView R → Type 0
+AsksCpu n (Add level when now answer) s = destination None s.cpus ≡ Some n
+AsksCpu n (AddOmni level when skew now answer) s = IsAmong n (online_cpus s.cpus)
+AsksCpu n (Bind id (Some m) answer) s = HasHome id n s ⊎ (n ≡ m)
+AsksCpu n (BeginRemove id answer) s = IsAmong n (cpus_with id s.cpus)
+AsksCpu n (Juggle m answer) s = n ≡ m
+AsksCpu n (Offline m answer) s = n ≡ m
+AsksCpu n (Online m now answer) s = n ≡ m
+AsksCpu n call s = ⊥
 
 -- the call doesn't fire this CPU
 abbrev pub FiresNot : ℕ → SystemCall → Type 0
@@ -66,7 +66,7 @@ pub record RefusedTurn (R : Type 0) : Type 0 where
 module _ {R : Type 0} (firing : Raise R) (n : ℕ) where
   -- the turn, if it was refused
   abbrev pub refused_in : (id : ℕ) (turn : Turn) (s t : SystemView R) → TakesTurn firing n id turn s t → List (RefusedTurn R)
-  refused_in id StaysRefused s t (place, d, chosen, e, only) =
+  refused_in id StaysRefused s t (position, d, chosen, e, only) =
       record { id = id; target = d; why = e; before = s; after = t } ∷ []
   refused_in id turn s t takes = []
 

@@ -3,7 +3,7 @@
 ghost use Rattle.std.specs.Prelude.{◌≡◌, ℕ, Option, Some, None};
 ghost use Rattle.cyc_agreement.specs.Cpus.{CpusView};
 ghost use Rattle.cyc_agreement.specs.Destination.{destination};
-ghost use Rattle.cyc_system_laws.specs.Destinations.{IsFit, IsDestination};
+ghost use Rattle.cyc_system_laws.specs.Destinations.{IsFitTarget, IsDestination};
 
 use cyc_types::Raise;
 
@@ -14,5 +14,5 @@ use cyc_types::Raise;
 pub fn destination_law<R: Raise>()
     ensures some { (source : Option ℕ) (d : ℕ) (v : CpusView R) → destination source v ≡ Some d → IsDestination source d v }
     ensures only { (source : Option ℕ) (d : ℕ) (v : CpusView R) → IsDestination source d v → destination source v ≡ Some d }
-    ensures none { (source : Option ℕ) (n : ℕ) (v : CpusView R) → destination source v ≡ None → IsFit source n v → ⊥ }
+    ensures none { (source : Option ℕ) (n : ℕ) (v : CpusView R) → destination source v ≡ None → IsFitTarget source n v → ⊥ }
 {}

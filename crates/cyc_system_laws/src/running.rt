@@ -5,7 +5,7 @@ ghost use Rattle.std.specs.List.{FoldsTo};
 ghost use Rattle.cyc_core.specs.Tables.{Tables};
 ghost use Rattle.cyc_cpu.specs.Cpu.{CpuView};
 ghost use Rattle.cyc_cpu.specs.Soft.{raise_tables, Interrupts};
-ghost use Rattle.cyc_cpu.specs.Calls.{Changes, no_interrupts};
+ghost use Rattle.cyc_cpu.specs.Calls.{CpuChanges, no_interrupts};
 ghost use Rattle.cyc_agreement.specs.Cpus.{CpusView, IsCpu, CallOn, Works, RunningCpus, running_cpus, RunsAt};
 ghost use Rattle.cyc_system_laws.specs.Runs.{calls_on, DoesWithSome};
 
@@ -19,7 +19,7 @@ pub fn calls_law<R: Raise>()
     ensures joined { (a b : List CallOn) (u v w : CpusView R) → Works R.Raise a u v → Works R.Raise b v w
         → Works R.Raise (a ++ b) u w }
     ensures each { (n : ℕ) (x : CpuView R) (way : List CallOn) (v w : CpusView R) → Works R.Raise way v w → IsCpu n x v
-        → (y : CpuView R) × IsCpu n y w × FoldsTo (Changes R.Raise) x (calls_on n way) y }
+        → (y : CpuView R) × IsCpu n y w × FoldsTo (CpuChanges R.Raise) x (calls_on n way) y }
     ensures beside { (n : ℕ) (x : CpuView R) (way : List CallOn) (v w : CpusView R) → Works R.Raise way v w
         → All (λ c. c.cpu ≢ n) way → IsCpu n x v → IsCpu n x w }
     ensures online { (way : List CallOn) (v w : CpusView R) → Works R.Raise way v w

@@ -17,7 +17,7 @@ ghost use Rattle.cyc_system.specs.Removing.{cpus_with};
 ghost use Rattle.cyc_system.specs.Counts.{AreLawful};
 ghost use Rattle.cyc_system.specs.Juggling.{MovesAway, single_ids};
 ghost use Rattle.cyc_system.specs.Calls.{SystemCall, Changes, Does, BeginRemove, Juggle, Offline};
-ghost use Rattle.cyc_system_laws.specs.Settling.{IsRefusedUntil, IsAmong, Asks, FiresNot, refused_turns, IsRefusedTurn};
+ghost use Rattle.cyc_system_laws.specs.Settling.{IsRefusedUntil, IsAmong, AsksCpu, FiresNot, refused_turns, IsRefusedTurn};
 ghost use Rattle.cyc_system_laws.specs.Settling.{IsUnsettledOrGrown, AreSettledBeside};
 
 use cyc_types::{Calls, Raise};
@@ -30,7 +30,7 @@ use cyc_types::{Calls, Raise};
 /// It does nothing when it runs: its clauses are the law.
 pub fn settled_law<R: Raise>()
     ensures refused { (s t : SystemView R) (call : SystemCall) → Changes R.Raise s call t → IsRefusedUntil call
-        → (n : ℕ) × (cpu : CpuView R) × IsCpu n cpu s.cpus × Asks n call s × (IsSettled R.view cpu → ⊥) }
+        → (n : ℕ) × (cpu : CpuView R) × IsCpu n cpu s.cpus × AsksCpu n call s × (IsSettled R.view cpu → ⊥) }
     // A cyclic all of whose CPUs have settled is removed at once.
     ensures kept { (id calls : ℕ) (s t : SystemView R) → AreLawful R.view s
         → Changes R.Raise s (BeginRemove id (Ok (Kept calls))) t
@@ -44,8 +44,8 @@ pub fn settled_law<R: Raise>()
     ensures counted { (n : ℕ) (report : Report) (s t : SystemView R) → (moves : MovesAway R.Raise n report s t)
         → (length (refused_turns R.Raise n (single_ids n s) report s t moves) ≡ report.refused)
         × All (IsRefusedTurn R.Raise n) (refused_turns R.Raise n (single_ids n s) report s t moves) }
-    // It refuses with Busy or Pending only where it had not settled when the step began, and with Expanding only there or where an
-    // earlier turn of the same step has made it grow.
+    // It refuses with Busy or Pending only where it had not settled when the step began, and with Expanding only there or where
+    // an earlier turn of the same step has made it grow.
     ensures stopped { (n : ℕ) (report : Report) (s t : SystemView R) → (moves : MovesAway R.Raise n report s t)
         → All (λ turn. IsUntil turn.why → IsUnsettledOrGrown R.view s turn)
         (refused_turns R.Raise n (single_ids n s) report s t moves) }

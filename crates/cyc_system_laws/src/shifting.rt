@@ -6,7 +6,7 @@ ghost use Rattle.cyc_core.specs.Tables.{Tables};
 ghost use Rattle.cyc_cpu.specs.Soft.{raise_tables};
 ghost use Rattle.cyc_agreement.specs.Cpus.{CpusView};
 ghost use Rattle.cyc_agreement.specs.Shifting.{move_of, Shifts};
-ghost use Rattle.cyc_system_laws.specs.Moved.{Moved, OnlyAsked, outstanding};
+ghost use Rattle.cyc_system_laws.specs.Moved.{Moved, OnlyAskedCpus, outstanding};
 
 use cyc_types::Raise;
 
@@ -18,7 +18,7 @@ pub fn shift_law<R: Raise>()
     ensures moved { (id source target : ℕ) (v w : CpusView R) → target ≢ source
         → Shifts R.Raise (move_of id source target) (Ok tt) v w → Moved id source target v w }
     ensures refused { (id source target : ℕ) (e : Reason) (v w : CpusView R) → target ≢ source
-        → Shifts R.Raise (move_of id source target) (Err e) v w → OnlyAsked v w }
+        → Shifts R.Raise (move_of id source target) (Err e) v w → OnlyAskedCpus v w }
 {}
 
 /// Where no other thread uses the levels, no call of a cyclic is outstanding where it was, and none where it came: a move takes

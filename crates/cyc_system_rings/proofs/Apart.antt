@@ -14,16 +14,16 @@ use Rattle.cyc_types.specs.declared.level.Level.{Level}
 use Rattle.cyc_types.specs.declared.level.Level.TheVariants.{Low, Lock, High}
 use Rattle.cyc_types.specs.declared.level.Soft.{Soft}
 use Rattle.cyc_types.specs.declared.level.Soft.TheVariants as soft
-use Rattle.cyc_types.specs.Expirations.{Expiration, times_of, after, all_after}
+use Rattle.cyc_types.specs.Expirations.{Expiration, times_of, after_expirations, all_after}
 use Rattle.cyc_types.specs.Timers.{Timer}
 use Rattle.cyc_timers.specs.Rows.{Cyclic, timers}
 use Rattle.cyc_timers.specs.declared.fire.Fired.{Fired}
 use Rattle.cyc_timers.specs.declared.fire.FireRefused.{FireRefused}
-use Rattle.cyc_timers.specs.Acts.{timer_of, is_of, same_level}
+use Rattle.cyc_timers.specs.Acts.{timer_of, is_of_level, same_level}
 use Rattle.cyc_timers.specs.Shares.{share}
 use Rattle.cyc_cpu.specs.Cpu.{CpuView, Running, running}
 use Rattle.cyc_cpu.specs.Laws.{IsLawful}
-use Rattle.cyc_cpu.specs.Calls.{Does as CpuDoes, Fire, no_interrupts}
+use Rattle.cyc_cpu.specs.Calls.{CpuDoes as CpuDoes, Fire, no_interrupts}
 use Rattle.cyc_system_laws.specs.Accounts.{made_by, account_of, Proceeds}
 use Rattle.cyc_system_laws.proofs.Accounting.{proceeds_one}
 use Rattle.cyc_system_laws.proofs.Ways.{passes_few}
@@ -40,7 +40,7 @@ use Rattle.cyc_system_workers.specs.declared.advancing.Advanced.{Advanced}
 use Rattle.cyc_system_workers.specs.Advancing.{AllFire, moment_asked, FiresIf}
 use Rattle.cyc_system_workers.specs.Settling.{OnlyAsked}
 use Rattle.cyc_system_rings.specs.Leading.{LeadCall, Make, FireAll, AskAll, Leads, LeadSteps}
-use Rattle.cyc_system_rings.specs.Rings.{first_of, counted_by}
+use Rattle.cyc_system_rings.specs.Rings.{first_ring, counted_by}
 use Rattle.cyc_system_rings.specs.ByLevel.{level_given, level_in, is_own}
 use Rattle.cyc_system_rings.proofs.Raising.{sums_same, stands, asked_cyclics, raised_end, dropped_end, SameEnds, changes_end}
 use Rattle.cyc_system_rings.proofs.Raising.{asked_end, leads_long, maps_same}
@@ -66,13 +66,14 @@ module _ (level : Level) (id : ℕ) where
       let r = here_timers cs in omega (arith, a, b, r)
 
   timers_after : (now : ℕ) (made : List Expiration) (ts : List Timer)
-      → sum_by timer_here (map (after now made) ts) ≡ sum_by timer_here ts
-  unfolding after
+      → sum_by timer_here (map (after_expirations now made) ts) ≡ sum_by timer_here ts
+  unfolding after_expirations
   timers_after now made [] = refl
   timers_after now made (t ∷ ts) =
-      let a = sum_by-cons timer_here (after now made t) (map (after now made) ts) in let b = sum_by-cons timer_here t ts in
+      let a = sum_by-cons timer_here (after_expirations now made t) (map (after_expirations now made) ts) in let b =
+      sum_by-cons timer_here t ts in
       let r = timers_after now made ts in
-      let e : timer_here (after now made t) ≡ timer_here t = refl in omega (arith, a, b, r, e)
+      let e : timer_here (after_expirations now made t) ≡ timer_here t = refl in omega (arith, a, b, r, e)
 
   -- a fire changes the level of no cyclic
   fired_here : (now : ℕ) (made : List Expiration) (cs cs' : List Cyclic) → timers cs' ≡ all_after now made (timers cs)
@@ -90,13 +91,14 @@ module _ (level : Level) (id : ℕ) where
       by false e = refl
 
   -- the cyclic of the id is of another level, or there is none
-  other_timer : (cs : List Cyclic) → sum_by (weigh (at_it level id) id) cs ≡ 0 → is_of level (timer_of id (timers cs)) ≡ false
+  other_timer : (cs : List Cyclic) → sum_by (weigh (at_it level id) id) cs ≡ 0
+      → is_of_level level (timer_of id (timers cs)) ≡ false
   other_timer [] none = refl
   other_timer (c ∷ cs) none = let a = sum_by-cons (weigh (at_it level id) id) c cs in
       by (c.timer.id == id) (omega (arith, a, none)) (other_timer cs (omega (arith, a, none)))
     where
-      by : (b : Bool) → cond b (one_at level id c.timer.level) 0 ≡ 0 → is_of level (timer_of id (timers cs)) ≡ false
-          → is_of level (cond b (Some c.timer) (timer_of id (timers cs))) ≡ false
+      by : (b : Bool) → cond b (one_at level id c.timer.level) 0 ≡ 0 → is_of_level level (timer_of id (timers cs)) ≡ false
+          → is_of_level level (cond b (Some c.timer) (timer_of id (timers cs))) ≡ false
       by true e rest = no_own c.timer.level e
       by false e rest = rest
 
@@ -322,8 +324,8 @@ module _ {C R : Type 0} (handler : Calls C)
         → IsSound firing.view s.system → IsSound firing.view t.system → length s.leads.items ≡ length s.system.cpus.cpus
         → is_own level (level_given id call) ≡ false → IsElsewhere level id s.system → IsApart s t
     leads_apart s t (Make call) (d, same) a b ready not o = makes_apart s t call a b d same not o
-    leads_apart s t (FireAll now) (after, f, same) a b ready not o =
-        subst (λ (x : SystemSide R C). IsApart s x) (sym same) (fires_apart now s after a ready f o)
+    leads_apart s t (FireAll now) (after_expirations, f, same) a b ready not o =
+        subst (λ (x : SystemSide R C). IsApart s x) (sym same) (fires_apart now s after_expirations a ready f o)
     leads_apart s t AskAll d a b ready not o = asks_apart s t d o
 
     -- an id that was given is not given again
@@ -341,7 +343,7 @@ module _ {C R : Type 0} (handler : Calls C)
 
     last_grows : (s t : SystemSide R C) (call : LeadCall) → Leads handler firing s call t → s.system.last ≤ t.system.last
     last_grows s t (Make call) (d, same) = (made_of firing s.system t.system call d).last
-    last_grows s t (FireAll now) (after, f, same) =
+    last_grows s t (FireAll now) (after_expirations, f, same) =
         let a = f.last in let b = ap (λ (x : SystemSide R C). x.system.last) same in omega (arith, a, b)
     last_grows s t AskAll a = let e = a.last in omega (arith, e)
 
@@ -368,7 +370,7 @@ module _ {C R : Type 0} (handler : Calls C)
         let g = last_grows s u call d in (not_again s u call d low, inl (omega (arith, g, low)))
     barred_on s u call way d (inr e) = by (level_given id call) refl e
       where
-        by : (o : Option Level) → level_given id call ≡ o → is_own level (first_of o (level_in id way)) ≡ false
+        by : (o : Option Level) → level_given id call ≡ o → is_own level (first_ring o (level_in id way)) ≡ false
             → (is_own level (level_given id call) ≡ false) × IsBarred u way
         by None is e = (ap (is_own level) is, inr e)
         by (Some own) is e = (ap (is_own level) is ∙ e, inl (now_given s u call own d is))

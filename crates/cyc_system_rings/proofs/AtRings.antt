@@ -11,7 +11,7 @@ use Rattle.cyc_types.specs.declared.level.Level.TheVariants.{Low, Lock, High}
 use Rattle.cyc_types.specs.declared.level.Soft.{Soft}
 use Rattle.cyc_types.specs.declared.level.Soft.TheVariants as soft
 use Rattle.cyc_types.specs.Counting.{no_counts}
-use Rattle.ring_rule.specs.Trail.{raises_of, losses_of}
+use Rattle.ring_rule.specs.Trail.{raises_of, losses_on_trail}
 use Rattle.cyc_ring.specs.declared.ends.RaiseEnd.{RaiseEnd}
 use Rattle.cyc_ring.specs.declared.closed.Closed.{Closed}
 use Rattle.cyc_ring.specs.Ends.{raise_trail, raise_end}
@@ -21,7 +21,7 @@ use Rattle.cyc_system_laws.proofs.Sums.{sum_none}
 use Rattle.cyc_system_laws.specs.System.{SystemView}
 use Rattle.cyc_system_workers.specs.declared.side.SystemSide.{SystemSide}
 use Rattle.cyc_system_rings.specs.Leading.{LeadCall}
-use Rattle.cyc_system_rings.specs.Rings.{counted_by, counts_in, AreClosed}
+use Rattle.cyc_system_rings.specs.Rings.{counted_by, counts_in, AreSettledAndClosed}
 use Rattle.cyc_system_rings.specs.ByLevel.{level_in, is_own, counts_at, rings_of, made_at, AreServed, LeadsFromNew, HasNewEnds}
 use Rattle.cyc_system_rings.specs.ByLevel as by
 use Rattle.cyc_system_rings.proofs.Closing.{raised_on_end, dropped_on_end, level_closed, level_served, none_served}
@@ -31,7 +31,7 @@ abbrev raised : ℕ → RaiseEnd → ℕ
 raised id e = raises_of id (raise_trail e.seat)
 
 abbrev dropped : ℕ → RaiseEnd → ℕ
-dropped id e = losses_of id (raise_trail e.seat)
+dropped id e = losses_on_trail id (raise_trail e.seat)
 
 ends_add : (e f : RaiseEnd) (way : List FiringCall) → Goes raise_end e way f → (id : ℕ)
     → (raised id f ≡ raised id e + raised_by id way) × (dropped id f ≡ dropped id e + lost_by id way)
@@ -74,12 +74,12 @@ module _ (id : ℕ) (s : SystemView RaiseEnd) (new : HasNewEnds s) where
   none_raised soft.Low = sum_none (raised_on_end soft.Low id) s.cpus.cpus (λ n x at. ap (raises_of id) (new n x at).1)
 
   none_dropped : (own : Soft) → by.dropped_at own id s ≡ 0
-  none_dropped soft.Lock = sum_none (dropped_on_end soft.Lock id) s.cpus.cpus (λ n x at. ap (losses_of id) (new n x at).0)
-  none_dropped soft.Low = sum_none (dropped_on_end soft.Low id) s.cpus.cpus (λ n x at. ap (losses_of id) (new n x at).1)
+  none_dropped soft.Lock = sum_none (dropped_on_end soft.Lock id) s.cpus.cpus (λ n x at. ap (losses_on_trail id) (new n x at).0)
+  none_dropped soft.Low = sum_none (dropped_on_end soft.Low id) s.cpus.cpus (λ n x at. ap (losses_on_trail id) (new n x at).1)
 
 module _ {C : Type 0} (handler : Calls C) (id : ℕ)
     (s t : SystemSide RaiseEnd C) (way : List LeadCall) (l : LeadsFromNew handler s way t)
-    (new : HasNewEnds s.system) (rings : List Closed) (closed : AreClosed t.system.cpus.cpus rings) where
+    (new : HasNewEnds s.system) (rings : List Closed) (closed : AreSettledAndClosed t.system.cpus.cpus rings) where
   pub made_of : (own : Soft) → made_at own id rings + (counts_at (as_level own) id way t.system).lost
       ≡ (counts_at (as_level own) id way t.system).sent
   made_of soft.Lock =

@@ -17,7 +17,7 @@ use Rattle.cyc_timers.specs.declared.fire.FireRefused.{FireRefused}
 use Rattle.cyc_timers.specs.Rows.{Cyclic, timers}
 use Rattle.cyc_cpu.specs.Cpu.{CpuView, Running, running, HasNoCyclic}
 use Rattle.cyc_cpu.specs.Laws.{IsLawful}
-use Rattle.cyc_cpu.specs.Calls.{Does as CpuDoes, Fire, no_interrupts}
+use Rattle.cyc_cpu.specs.Calls.{CpuDoes as CpuDoes, Fire, no_interrupts}
 use Rattle.cyc_system_laws.specs.Accounts.{account_of, made_by, Proceeds, expired_of, lost_of}
 use Rattle.cyc_system_laws.proofs.Accounting.{proceeds_one}
 use Rattle.cyc_system_laws.proofs.Fires.{no_share, no_cyclic, fired_away}
@@ -49,7 +49,7 @@ use Rattle.cyc_system_workers.specs.declared.advancing.Advanced.{Advanced}
 use Rattle.cyc_system_workers.specs.Advancing.{AllFire, moment_asked, FiresIf}
 use Rattle.cyc_system_workers.specs.Settling.{OnlyAsked}
 use Rattle.cyc_system_rings.specs.Leading.{LeadCall, Make, FireAll, AskAll, Leads, LeadSteps}
-use Rattle.cyc_system_rings.specs.Rings.{counted_by, receipt_of, receipt_in, first_of}
+use Rattle.cyc_system_rings.specs.Rings.{counted_by, receipt_of, receipt_in, first_ring}
 use Rattle.cyc_system_rings.proofs.Raising.{sums_same, sums_even, stands, raised_at, dropped_at, Same, changes_raise}
 use Rattle.cyc_system_rings.proofs.Raising.{leads_long, asked_cyclics, asked_raise}
 
@@ -460,7 +460,7 @@ module _ {C R : Type 0} (handler : Calls C)
       (run_even u t way rest sound (leads_long handler firing s u call d ready))
     where
       by : (o : Option Receipt) → receipt_of id call ≡ o → Even u t (counts way t.system) → Even s t (option_map_or
-          (λ r. record { sent = r.sent; lost = r.lost }) (first_of o (receipt_in id way)) (totals t.system))
+          (λ r. record { sent = r.sent; lost = r.lost }) (first_ring o (receipt_in id way)) (totals t.system))
       by None e y = let x = step_even s u call d a sound ready e in
           let p = x.expired in let q = y.expired in let l = x.losses in let m = y.losses in
           record { expired = omega (arith, p, q); losses = omega (arith, l, m) }

@@ -15,7 +15,7 @@ use Rattle.cyc_timers.specs.Rows.{Cyclic}
 use Rattle.cyc_cpu.specs.declared.removing.Removal.{Removal}
 use Rattle.cyc_cpu.specs.declared.removing.Removal.TheVariants.{Done, Kept}
 use Rattle.cyc_cpu.specs.Cpu.{CpuView, with_moment, cyclic_with}
-use Rattle.cyc_cpu.specs.Calls.{CpuCall, Changes as CpuChanges, Place, TakeNow, Reprogram as CpuReprogram, AskPending}
+use Rattle.cyc_cpu.specs.Calls.{CpuCall, CpuChanges as CpuChanges, Place, TakeNow, Reprogram as CpuReprogram, AskPending}
 use Rattle.cyc_cpu.specs.Calls.{AskTotals as CpuAskTotals, AskRoom, Reserve, Widen}
 use Rattle.cyc_places.specs.declared.record.Record.{Record}
 use Rattle.cyc_places.specs.Places.{IsRecord}
@@ -39,7 +39,7 @@ use Rattle.cyc_system_laws.specs.SystemCalls.{SystemCall, Changes, Add, AddOmni,
 use Rattle.cyc_system_laws.specs.SystemCalls.{Suspend, Resume, Reprogram, ReprogramOn, Juggle, Offline, Online, FireOne}
 use Rattle.cyc_system_laws.specs.SystemCalls.{SoftInterrupt}
 use Rattle.cyc_system_laws.proofs.Idle.{IsIdle}
-use Rattle.cyc_system_sums.proofs.Components.{find_insert}
+use Rattle.cyc_system_laws.proofs.Components.{find_insert}
 use Rattle.cyc_system_rings.proofs.Walks.{May, Needs, Keeps, kept}
 
 -- ---- lists
@@ -320,11 +320,11 @@ module _ {R : Type 0} (firing : Raise R) where
         → cyclic_in id y ≡ cyclic_in id x
     other_kept x y (Place own level interval moment carried) ne (may, p) =
         ap (λ cs. find (λ (c : Cyclic). c.timer.id == id) cs) p.cyclics
-        ∙ find_insert (λ (c : Cyclic). c.timer.id == id) x.cyclics p.place
+        ∙ find_insert (λ (c : Cyclic). c.timer.id == id) x.cyclics p.position
         (cyclic_with own level interval moment carried.sent carried.lost) (false_ne own id ne)
     other_kept x y (TakeNow own (Ok taken)) ne (still, (c, counts, is, polled, l)) =
         ap (λ cs. find (λ (c : Cyclic). c.timer.id == id) cs) l.cyclics
-        ∙ find_remove (λ (c : Cyclic). c.timer.id == id) x.cyclics l.place c (at_place x.cyclics l.place c l.here)
+        ∙ find_remove (λ (c : Cyclic). c.timer.id == id) x.cyclics l.position c (at_place x.cyclics l.position c l.here)
         (false_ne c.timer.id id (λ e. ne (sym l.named ∙ e)))
     other_kept x y (CpuReprogram own moment (Ok done)) ne (k, c, here, named, still, is) =
         ap (λ (z : CpuView R). cyclic_in id z) is

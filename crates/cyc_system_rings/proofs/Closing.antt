@@ -6,7 +6,7 @@ use Rattle.cyc_types.specs.Firing.{seen_of, seen_in}
 use Rattle.cyc_types.specs.declared.level.Soft.{Soft}
 use Rattle.cyc_types.specs.declared.level.Soft.TheVariants.{Low, Lock}
 use Rattle.cyc_level.specs.Runs.{StayCounts}
-use Rattle.ring_rule.specs.Trail.{open_stay, seen_pend, raises_of, losses_of}
+use Rattle.ring_rule.specs.Trail.{open_stay, seen_pend, raises_of, losses_on_trail}
 use Rattle.ring_rule.specs.Conservation.{IsPending}
 use Rattle.cyc_ring.specs.declared.ends.RaiseEnd.{RaiseEnd}
 use Rattle.cyc_ring.specs.declared.closed.Closed.{Closed}
@@ -14,7 +14,7 @@ use Rattle.cyc_ring.specs.Views.{stay_with}
 use Rattle.cyc_ring.specs.Ends.{raise_trail, end_view}
 use Rattle.cyc_ring.specs.Books.{closed_raises, closed_made}
 use Rattle.cyc_cpu.specs.Cpu.{CpuView}
-use Rattle.cyc_system_rings.specs.Rings.{raised_on, dropped_on, IsClosedOver, AreClosed, all_made}
+use Rattle.cyc_system_rings.specs.Rings.{raised_at_ends, dropped_on, IsClosedOver, AreSettledAndClosed, all_made}
 use Rattle.cyc_system_rings.specs.ByLevel.{end_of, rings_of, made_at, AreServed}
 use Rattle.cyc_system_rings.proofs.Raising.{sum_both}
 
@@ -24,13 +24,13 @@ none_pending pend seen None p z = p
 none_pending pend seen (Some s) p z = omega (arith, p, z)
 
 one_ring : (id : ℕ) (e : RaiseEnd) (c : Closed) → IsClosedOver e c → seen_of id (end_view e) ≡ 0
-    → closed_made c id + losses_of id (raise_trail e.seat) ≡ raises_of id (raise_trail e.seat)
+    → closed_made c id + losses_on_trail id (raise_trail e.seat) ≡ raises_of id (raise_trail e.seat)
 one_ring id e c (same, books) z =
     let trail = closed_raises c in
     let seen : seen_in (stay_with (seen_pend id trail) (open_stay id trail)) ≡ 0 =
     ap (λ l. seen_in (stay_with (seen_pend id l) (open_stay id l))) same ∙ z in
     let none = none_pending (books id).0 (seen_pend id trail) (open_stay id trail) (books id).1 seen in
-    let a = (books id).2 in let b = ap (raises_of id) same in let d = ap (losses_of id) same in
+    let a = (books id).2 in let b = ap (raises_of id) same in let d = ap (losses_on_trail id) same in
     omega (arith, none, a, b, d)
 
 -- ---- at one soft level
@@ -39,12 +39,12 @@ abbrev pub raised_on_end : Soft → ℕ → CpuView RaiseEnd → ℕ
 raised_on_end soft id cpu = raises_of id (raise_trail (end_of {R = RaiseEnd} soft cpu).seat)
 
 abbrev pub dropped_on_end : Soft → ℕ → CpuView RaiseEnd → ℕ
-dropped_on_end soft id cpu = losses_of id (raise_trail (end_of {R = RaiseEnd} soft cpu).seat)
+dropped_on_end soft id cpu = losses_on_trail id (raise_trail (end_of {R = RaiseEnd} soft cpu).seat)
 
 abbrev made_by : ℕ → Closed → ℕ
 made_by id c = closed_made c id
 
-pub level_closed : (soft : Soft) (id : ℕ) (xs : List (CpuView RaiseEnd)) (rings : List Closed) → AreClosed xs rings
+pub level_closed : (soft : Soft) (id : ℕ) (xs : List (CpuView RaiseEnd)) (rings : List Closed) → AreSettledAndClosed xs rings
     → made_at soft id rings + sum_by (dropped_on_end soft id) xs ≡ sum_by (raised_on_end soft id) xs
 level_closed Lock id [] [] c = refl
 level_closed Low id [] [] c = refl
@@ -64,7 +64,7 @@ level_closed Low id (x ∷ xs) (lock ∷ low ∷ rings) (settled, a, b, rest) =
 
 -- ---- at both
 
-made_both : (id : ℕ) (xs : List (CpuView RaiseEnd)) (rings : List Closed) → AreClosed xs rings
+made_both : (id : ℕ) (xs : List (CpuView RaiseEnd)) (rings : List Closed) → AreSettledAndClosed xs rings
     → all_made id rings ≡ made_at Lock id rings + made_at Low id rings
 made_both id [] [] c = refl
 made_both id [] (ring ∷ rings) c = absurd c
@@ -75,8 +75,8 @@ made_both id (x ∷ xs) (lock ∷ low ∷ rings) (settled, a, b, rest) =
     let n = sum_by-cons (made_by id) low rings in let p = sum_by-cons (made_by id) lock (rings_of Lock rings) in
     let q = sum_by-cons (made_by id) low (rings_of Low rings) in omega (arith, r, m, n, p, q)
 
-pub all_closed : (id : ℕ) (xs : List (CpuView RaiseEnd)) (rings : List Closed) → AreClosed xs rings
-    → all_made id rings + sum_by (dropped_on id) xs ≡ sum_by (raised_on id) xs
+pub all_closed : (id : ℕ) (xs : List (CpuView RaiseEnd)) (rings : List Closed) → AreSettledAndClosed xs rings
+    → all_made id rings + sum_by (dropped_on id) xs ≡ sum_by (raised_at_ends id) xs
 all_closed id xs rings c =
     let a = level_closed Lock id xs rings c in let b = level_closed Low id xs rings c in let m = made_both id xs rings c in
     let d = sum_both (dropped_on_end Lock id) (dropped_on_end Low id) xs in

@@ -41,7 +41,16 @@ use Rattle.cyc_system_workers.specs.declared.advancing.Advanced.{Advanced}
 use Rattle.cyc_system_workers.specs.Advancing.{AllFire}
 use Rattle.cyc_system_workers.specs.Settling.{OnlyAsked}
 use Rattle.cyc_system_laws.proofs.Pieces.{made_of}
-use Rattle.cyc_expected.specs.Course.{component_first, components_from, due_of, next_of, Event, Begins, BeginsOnAll, IsSet}
+use Rattle.cyc_expected.specs.Course.{
+  component_begins_at,
+  components_from,
+  due_everywhere,
+  course_after,
+  Event,
+  Begins,
+  BeginsOnAll,
+  IsSet,
+}
 use Rattle.cyc_expected.specs.Course.{IsSetOn, Ends, Fires, Course, OnEach, Told, told_after, told_by}
 use Rattle.cyc_system_laws.specs.Sound.{IsSound}
 use Rattle.cyc_system_laws.specs.Keeping.{over_stays, EndsRemoval, TouchesStays, TouchesRecord}
@@ -51,7 +60,7 @@ use Rattle.cyc_system_laws.proofs.Found.{stays_found}
 use Rattle.cyc_system_laws.proofs.Counts.{counts_same}
 use Rattle.cyc_system_laws.proofs.Kept.{stays_kept}
 use Rattle.cyc_system_laws.proofs.Looked.{look_kept}
-use Rattle.cyc_system_sums.proofs.Given.{no_counts_yet}
+use Rattle.cyc_system_laws.proofs.Given.{no_counts_yet}
 use Rattle.cyc_system_rings.specs.Leading.{LeadCall, Make, FireAll, AskAll}
 use Rattle.cyc_system_rings.specs.Events.{given_everywhere, if_own, event_in, events_in, AllAccepted, AcceptedSteps}
 use Rattle.cyc_system_rings.specs.Events.{KeepsComponents}
@@ -87,7 +96,7 @@ each_online : (k : ℕ → ℕ → ℕ) (level : Level) (when : When) (skew now 
 each_online k level when skew now from [] = refl
 each_online k level when skew now from (true ∷ ups) =
     let e = given_everywhere level when skew in
-    let a = sum_by-cons (λ m. option_map_or (λ x. k x when.interval) m 0) (Some (component_first from e now))
+    let a = sum_by-cons (λ m. option_map_or (λ x. k x when.interval) m 0) (Some (component_begins_at from e now))
     (components_from (from + 1) e now ups) in
     let b = sum_by-cons (λ n. k (cpu_first n when skew now) when.interval) from (numbers_from (from + 1) ups) in
     let c = each_online k level when skew now (from + 1) ups in omega (arith, a, b, c)
@@ -111,7 +120,7 @@ module _ {R : Type 0} (firing : Raise R) (id : ℕ) where
     stays = λ k. stays_kept firing (of_stay (blind k)) id s t call a b d touch ∙ h.stays k;
     all = counts_same firing (λ (c : Sent). c.sent) refl (λ x y. refl) id s t call a b d ends ∙ h.all;
     given = (let l = (made_of firing s t call d).last in let g = h.given in omega (arith, l, g));
-    omni = look_kept firing (λ (r : Record). is_everywhere r.place) false (λ r n bound e. sym e) (λ r n c. refl) id s t call
+    omni = look_kept firing (λ (r : Record). is_everywhere r.placement) false (λ r n bound e. sym e) (λ r n c. refl) id s t call
         a.fit.rising d record' ∙ h.omni;
   }
 
@@ -155,7 +164,7 @@ module _ {R : Type 0} (firing : Raise R) (id : ℕ) where
             (inr (clear, (own, (u, reserved, works), records, last))) (λ x. x) ∙ no_counts_yet firing.view id s a new;
         given = omega (arith, last);
         omni =
-            let h = λ (r : Record). is_everywhere r.place in let x = new_record id level (stands.Everywhere when skew) in
+            let h = λ (r : Record). is_everywhere r.placement in let x = new_record id level (stands.Everywhere when skew) in
             let none = record_none id s.records (λ k q low same. (let g = a.agrees.given k (get_or s.records k q)
             (slice_get-get_or s.records k q low) in omega (arith, g, same, new))) in
             ap (λ rs. option_map_or h (found id rs) false) records
@@ -202,7 +211,7 @@ module _ {C R : Type 0} (handler : Calls C) (firing : Raise R) (id : ℕ) where
         let r = ap (λ rs. option_map_or (λ r. sum_by (λ e. e.sent) r.ended) (found id rs) 0) f.records in
         omega (arith, x, y, z, w, r));
     given = (let g = h.given in let l = f.last in omega (arith, g, l));
-    omni = ap (λ rs. option_map_or (λ (r : Record). is_everywhere r.place) (found id rs) false) f.records ∙ h.omni;
+    omni = ap (λ rs. option_map_or (λ (r : Record). is_everywhere r.placement) (found id rs) false) f.records ∙ h.omni;
   }
 
   asks_each : (i : ℕ) (ms : List (Option ℕ)) (e : ℕ) (s t : SystemSide R C) → IsSound firing.view s.system
@@ -215,7 +224,7 @@ module _ {C R : Type 0} (handler : Calls C) (firing : Raise R) (id : ℕ) where
         let r = ap (λ rs. option_map_or (λ r. sum_by (λ e. e.sent) r.ended) (found id rs) 0) a.records in
         omega (arith, x, z, r));
     given = (let g = h.given in let l = a.last in omega (arith, g, l));
-    omni = ap (λ rs. option_map_or (λ (r : Record). is_everywhere r.place) (found id rs) false) a.records ∙ h.omni;
+    omni = ap (λ rs. option_map_or (λ (r : Record). is_everywhere r.placement) (found id rs) false) a.records ∙ h.omni;
   }
 
   as_told : (t u : Told) (s s' : SystemView R) → u ≡ t
@@ -261,7 +270,7 @@ module _ {C R : Type 0} (handler : Calls C) (firing : Raise R) (id : ℕ) where
     all = counts_same firing (λ (c : Sent). c.sent) refl (λ x y. refl) id s t (Online n now (Err why)) a b
         (inr (clear, (reason, (works, records, last)))) (λ x. x) ∙ h.all;
     given = (let g = h.given in omega (arith, g, last));
-    omni = ap (λ rs. option_map_or (λ (r : Record). is_everywhere r.place) (found id rs) false) records ∙ h.omni;
+    omni = ap (λ rs. option_map_or (λ (r : Record). is_everywhere r.placement) (found id rs) false) records ∙ h.omni;
   }
 
   make_each : (s t : SystemView R) (call : SystemCall) (told : Told) → IsSound firing.view s → IsSound firing.view t
@@ -331,10 +340,10 @@ module _ {C R : Type 0} (handler : Calls C) (firing : Raise R) (id : ℕ) where
       subst (λ (x : SystemSide R C). IsToldEach (told_after (Fires now) told) x.system) (sym same) (record {
         everywhere = h.everywhere;
         moments = map (λ m. option_map (λ x. next x h.everywhere.interval now) m) h.moments;
-        course = ap (next_of now) h.course;
+        course = ap (course_after now) h.course;
         so = subst (λ (e : ℕ). IsOnEach firing id h.everywhere.interval
             (map (λ m. option_map (λ x. next x h.everywhere.interval now) m) h.moments) e after.side.system)
-            (ap (λ (c : Course). told.expired + due_of now c) (sym h.course))
+            (ap (λ (c : Course). told.expired + due_everywhere now c) (sym h.course))
             (fires_each now h.everywhere.interval h.moments told.expired s after a
             (subst (λ (x : SystemSide R C). IsSound firing.view x.system) same b) ready fires accepted h.so);
       })

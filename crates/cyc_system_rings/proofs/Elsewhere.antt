@@ -40,7 +40,7 @@ use Rattle.cyc_system_laws.specs.Polling.{Polled, PollsOn, PollsRemoval}
 use Rattle.cyc_agreement.specs.declared.turning.Turn.{Turn}
 use Rattle.cyc_agreement.specs.declared.turning.Turn.TheVariants.{StaysBound, StaysPending, StaysRefused, Moves}
 use Rattle.cyc_agreement.specs.Juggling.{TakesTurn, Turns, single_ids}
-use Rattle.cyc_agreement.specs.GoingOffline.{quiet, Retires, Leaves}
+use Rattle.cyc_agreement.specs.GoingOffline.{quiet, Retires, EndsOffline}
 use Rattle.cyc_agreement.specs.Omni.{entering_each}
 use Rattle.cyc_agreement.specs.Online.{GoesOnline, staying, is_staying, returns, return_at}
 use Rattle.cyc_system_laws.specs.SystemCalls.{SystemCall, Changes, Add, AddOmni, Bind, BeginRemove, PollRemove}
@@ -50,7 +50,7 @@ use Rattle.cyc_system_laws.proofs.Lists.{eq_true, false_ne}
 use Rattle.cyc_system_laws.proofs.Recording.{found, record_here, record_none}
 use Rattle.cyc_system_laws.proofs.Folds.{folds_keep}
 use Rattle.cyc_system_laws.proofs.Over.{begun_over, polled_over}
-use Rattle.cyc_system_laws.specs.Keeping.{TouchesStays, TouchesRecord, stay_of}
+use Rattle.cyc_system_laws.specs.Keeping.{TouchesStays, TouchesRecord, stay_on}
 use Rattle.cyc_system_laws.specs.Sound.{IsSound}
 use Rattle.cyc_system_laws.proofs.Flow.{weigh, on_cpu, on_cpus, AllFixed, all_brought, all_taken, flows, sum_set}
 use Rattle.cyc_system_laws.proofs.Idle.{idle_on, idle_quiet, idle_same, reserved_same}
@@ -136,7 +136,7 @@ module _ (level : Level) (id : ℕ) where
       let z : weigh at_it id (with_moment m c) ≡ weigh at_it id c = refl in omega (arith, a, x, y, z)
   shift_fewer call cs cs' (inr (inr (inl (k, c, within, is, puts)))) not =
       let a = ap (λ xs. sum_by (weigh at_it id) xs) is in let x = sum_by-insert (weigh at_it id) cs k c in
-      let y = ap (λ (b : Bool). cond b (at_it (stay_of c)) 0) (false_ne c.timer.id id ((puts id).3 not)) in omega (arith, a, x, y)
+      let y = ap (λ (b : Bool). cond b (at_it (stay_on c)) 0) (false_ne c.timer.id id ((puts id).3 not)) in omega (arith, a, x, y)
   shift_fewer call cs cs' (inr (inr (inr (k, c, (low, at), is, out)))) not =
       let a = ap (λ xs. sum_by (weigh at_it id) xs) is in let x = sum_by-remove (weigh at_it id) cs k c low in omega (arith, a, x)
 
@@ -293,7 +293,7 @@ module _ (level : Level) (id : ℕ) where
         (λ x own y d. fewer_at x.cpus y.cpus (on n (TakeNow own (Ok d.0))) tt d.1) ids s t each
 
     leaves_here : (n : ℕ) (report : JuggleReport) (answer : Result (Unit {0}) Refusal) (s t : SystemView R)
-        → Leaves firing n report answer s t → all_here t ≤ all_here s
+        → EndsOffline firing n report answer s t → all_here t ≤ all_here s
     leaves_here n report answer s t (inl (left, is, same)) = let x = ap (λ (u : SystemView R). all_here u) same in
         omega (arith, x)
     leaves_here n report answer s t (inr (inl (none, is, (before, own, after, found, some, only)))) =
@@ -326,7 +326,7 @@ module _ (level : Level) (id : ℕ) where
             → all_brought at_it id (returns n now (filter (is_staying v) rs)) ≡ 0
             → AllFixed at_it id (returns n now (cond b (r ∷ filter (is_staying v) rs) (filter (is_staying v) rs)))
             × (all_brought at_it id (returns n now (cond b (r ∷ filter (is_staying v) rs) (filter (is_staying v) rs))) ≡ 0)
-        by true fixed none = return_none n now r.id r.level (ended_on n r) r.place
+        by true fixed none = return_none n now r.id r.level (ended_on n r) r.placement
             (returns n now (filter (is_staying v) rs)) (z 0 r refl) fixed none
         by false fixed none = (fixed, none)
 

@@ -6,7 +6,7 @@ use Rattle.std.specs.List.{slice_get}
 use Rattle.std.proofs.lemmas.List.Sums.{sum_by-cons}
 use Rattle.cyc_types.specs.Series.{due, next}
 use Rattle.cyc_types.specs.Timers.{Timer, HasDistinctIds}
-use Rattle.cyc_types.specs.Expirations.{Expiration, expirations, times_of, after, all_after}
+use Rattle.cyc_types.specs.Expirations.{Expiration, expirations, times_of, after_expirations, all_after}
 use Rattle.cyc_types.proofs.Laws.{times_expirations, moment_next, count_due}
 use Rattle.cyc_timers.specs.Rows.{Cyclic, timers}
 use Rattle.cyc_system_laws.proofs.Spots.{none_some}
@@ -43,8 +43,8 @@ module _ (id : ℕ) where
   later now k moment interval expired = k (next moment interval now) interval (expired + due moment interval now)
 
   one_later : (now : ℕ) (k : ℕ → ℕ → ℕ → ℕ) (made : List Expiration) (t : Timer)
-      → times_of t.id made ≡ due t.moment t.interval now → weigh k (after now made t) ≡ weigh (later now k) t
-  unfolding after
+      → times_of t.id made ≡ due t.moment t.interval now → weigh k (after_expirations now made t) ≡ weigh (later now k) t
+  unfolding after_expirations
   one_later now k made t times =
       let m = moment_next now made t times in let c = count_due now made t times in
       λ i. cond (t.id == id) (k (m i) t.interval (c i)) 0
@@ -56,7 +56,7 @@ module _ (id : ℕ) where
   fired_later now k cs cs' distinct are =
       let made = expirations now (timers cs) in
       sum_timers (weigh k) cs' ∙ (ap (sum_by (weigh k)) are
-      ∙ (sum_mapped (weigh k) (weigh (later now k)) (after now made) (timers cs)
+      ∙ (sum_mapped (weigh k) (weigh (later now k)) (after_expirations now made) (timers cs)
       (λ i d low. one_later now k made (get_or (timers cs) i d) (times_expirations now (timers cs) i d distinct low))
       ∙ sym (sum_timers (weigh (later now k)) cs)))
 

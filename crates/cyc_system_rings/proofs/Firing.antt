@@ -9,12 +9,13 @@ use Rattle.std.proofs.lemmas.Option.{slice_get_within}
 use Rattle.cyc_types.specs.declared.Calls.{Ghosts as Calls}
 use Rattle.cyc_types.specs.declared.Raise.{Ghosts as Raise}
 use Rattle.cyc_types.specs.Series.{never, late, due}
+use Rattle.cyc_types.proofs.Facts.{lt_true}
 use Rattle.cyc_timers.specs.Rows.{Cyclic}
 use Rattle.cyc_timers.specs.declared.fire.Fired.{Fired}
 use Rattle.cyc_timers.specs.declared.fire.FireRefused.{FireRefused}
 use Rattle.cyc_cpu.specs.Cpu.{CpuView, Running, running}
 use Rattle.cyc_cpu.specs.Calls.{no_interrupts}
-use Rattle.cyc_system_workers.specs.WorkersSettling.{Asks}
+use Rattle.cyc_system_workers.specs.WorkersSettling.{AsksSettled}
 use Rattle.cyc_system_laws.proofs.Lists.{among}
 use Rattle.cyc_system_workers.proofs.Presence.{has_low}
 use Rattle.cyc_system_laws.proofs.Recording.{found}
@@ -36,9 +37,6 @@ use Rattle.cyc_system_rings.proofs.Singles.{of_stay}
 use Rattle.cyc_system_rings.proofs.Runs.{if_fired, all_fired, all_asked, asked_cyclics, no_cyclic_off}
 use Rattle.cyc_system_rings.proofs.Components.{plus_on}
 use Rattle.cyc_system_rings.proofs.Quiet.{IsQuiet}
-
-lt_true : (a b : ℕ) → a < b → nat_lt a b ≡ true
-lt_true a b h = grind (arith, nat_tests)
 
 -- what is due at no moment isn't due before never
 due_never : (interval now : ℕ) → now < never → due never interval now ≡ 0
@@ -146,7 +144,7 @@ module _ {C R : Type 0} (handler : Calls C) (firing : Raise R) (id : ℕ) where
     pub cyclics : y.cyclics ≡ before.cyclics
     pub removal : y.removal ≡ before.removal
 
-  asked_removal : (answers : List Bool) (x y : CpuView R) → FoldsTo (Asks firing) x answers y → y.removal ≡ x.removal
+  asked_removal : (answers : List Bool) (x y : CpuView R) → FoldsTo (AsksSettled firing) x answers y → y.removal ≡ x.removal
   asked_removal [] x y e = ap (λ (z : CpuView R). z.removal) (sym e)
   asked_removal (true ∷ answers) x y (z, (first, lawful), rest) = asked_removal answers z y rest ∙ first.0.kept.removal
   asked_removal (false ∷ answers) x y (z, (first, lawful), rest) = asked_removal answers z y rest ∙ first.0.kept.removal

@@ -87,7 +87,7 @@ module _ {R : Type 0} (firing : Raise R) (id : ℕ) where
   -- where it has a record, its removal is open
   leaving : (s : SystemView R) (k : ℕ) (r : Record) → IsSound firing.view s → IsQuiet s → IsRecord s.records k r → r.id ≡ id
       → (n : ℕ) × (removal_on n s.cpus ≡ Some id)
-  leaving s k r a quiet is named = by r.place refl
+  leaving s k r a quiet is named = by r.placement refl
     where
       there : (n : ℕ) → has n r.id s.cpus ≡ true → removal_on n s.cpus ≡ Some id
       there n h = quiet n (subst (λ (j : ℕ). has n j s.cpus ≡ true) named h)
@@ -97,7 +97,7 @@ module _ {R : Type 0} (firing : Raise R) (id : ℕ) where
       on_each n (inl h) = (n, there n h)
       on_each n (inr (m, e)) = (m, e ∙ ap Some named)
 
-      by : (place : Placement) → r.place ≡ place → (n : ℕ) × (removal_on n s.cpus ≡ Some id)
+      by : (place : Placement) → r.placement ≡ place → (n : ℕ) × (removal_on n s.cpus ≡ Some id)
       by (stands.On n bound) e = (n, there n (a.agrees.home k n bound r is e))
       by (stands.Everywhere when skew) e = (let (n, up) = a.agrees.some in
           on_each n (a.agrees.everywhere k n r is (ap is_everywhere e) up))
@@ -150,7 +150,7 @@ module _ {R : Type 0} (firing : Raise R) (id : ℕ) where
   needs m s (Online n now (Ok done)) a quiet plain other = λ k r at level i mo carried here named.
       (let (j, there, stays) = in_filter (is_staying s.cpus) s.records k r at in
       let (c, e) = leaving s j r a quiet there named in
-      let still = not_false (list_any (is_leaving_here r.id) s.cpus.cpus) (both_right (is_everywhere r.place) _ stays) in
+      let still = not_false (list_any (is_leaving_here r.id) s.cpus.cpus) (both_right (is_everywhere r.placement) _ stays) in
       no_removal s.cpus r.id still c (e ∙ ap Some (sym named)))
   needs m s (Online n now (Err e)) a quiet plain other = tt
   needs m s (FireOne n now answer) a quiet plain other = tt

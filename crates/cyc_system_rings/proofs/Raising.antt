@@ -11,10 +11,10 @@ use Rattle.cyc_types.specs.Runs.{Goes, raised_by, lost_by}
 use Rattle.cyc_types.specs.declared.level.Soft.{Soft}
 use Rattle.cyc_types.specs.declared.level.Soft.TheVariants.{Low, Lock}
 use Rattle.cyc_cpu.specs.Cpu.{CpuView}
-use Rattle.cyc_cpu.specs.Calls.{CpuCall, Changes as CpuChanges, AskSettled}
+use Rattle.cyc_cpu.specs.Calls.{CpuCall, CpuChanges as CpuChanges, AskSettled}
 use Rattle.cyc_system_laws.proofs.Stills.{still_raises, changes_still}
 use Rattle.cyc_agreement.specs.Cpus.{CpusView}
-use Rattle.cyc_system_workers.specs.WorkersSettling.{Asks}
+use Rattle.cyc_system_workers.specs.WorkersSettling.{AsksSettled}
 use Rattle.cyc_system_workers.specs.Settled.{AllAsked}
 use Rattle.cyc_system_laws.specs.System.{SystemView}
 use Rattle.cyc_system_laws.specs.SystemCalls.{SystemCall, Changes}
@@ -107,7 +107,7 @@ stands (x ∷ xs) (suc n) low = stands xs n (omega (arith, low))
 
 -- CPUs that were asked have the same cyclics
 pub asked_cyclics : {R : Type 0} (firing : Raise R) (answers : List Bool)
-    (x y : CpuView R) → FoldsTo (Asks firing) x answers y → y.cyclics ≡ x.cyclics
+    (x y : CpuView R) → FoldsTo (AsksSettled firing) x answers y → y.cyclics ≡ x.cyclics
 asked_cyclics firing [] x y e = ap (λ (z : CpuView _). z.cyclics) (sym e)
 asked_cyclics firing (true ∷ answers) x y (z, (first, lawful), rest) = asked_cyclics firing answers z y rest
     ∙ first.0.cyclics
@@ -166,7 +166,7 @@ module _ {R : Type 0} (firing : Raise R) (raised dropped : ℕ → R → ℕ)
   changes_end soft s t call d = let m = made_of firing s t call d in parts_same soft m.way s.cpus t.cpus m.works
 
   -- nor does a question
-  asks_same : (soft : Soft) (answers : List Bool) (x y : CpuView R) → FoldsTo (Asks firing) x answers y
+  asks_same : (soft : Soft) (answers : List Bool) (x y : CpuView R) → FoldsTo (AsksSettled firing) x answers y
       → (raised_end soft y ≡ raised_end soft x) × (dropped_end soft y ≡ dropped_end soft x)
   asks_same soft [] x y e = (ap (raised_end soft) (sym e), ap (dropped_end soft) (sym e))
   asks_same soft (answer ∷ answers) x y (z, (first, lawful), rest) =

@@ -26,7 +26,7 @@ use Rattle.cyc_system_laws.proofs.Recording.{found}
 use Rattle.cyc_system_laws.proofs.Sums.{none_found}
 use Rattle.cyc_places.specs.declared.record.Record.{Record}
 use Rattle.cyc_places.specs.Places.{is_everywhere}
-use Rattle.cyc_system_workers.specs.WorkersSettling.{Asks}
+use Rattle.cyc_system_workers.specs.WorkersSettling.{AsksSettled}
 use Rattle.cyc_system_laws.specs.System.{SystemView, has, ids_of, is_online, is_omnipresent}
 use Rattle.cyc_system_laws.specs.Laws.{cyclic_in}
 use Rattle.cyc_system_laws.specs.Counts.{all_expired}
@@ -38,14 +38,23 @@ use Rattle.cyc_system_workers.specs.declared.side.SystemSide.{SystemSide}
 use Rattle.cyc_system_workers.specs.declared.advancing.Advanced.{Advanced}
 use Rattle.cyc_system_workers.specs.Advancing.{AllFire, moment_asked, FiresIf}
 use Rattle.cyc_system_workers.specs.Settling.{OnlyAsked}
-use Rattle.cyc_expected.specs.Course.{component_first, with_component, with_moment, due_of, next_of, Event, Begins, BeginsOnAll}
+use Rattle.cyc_expected.specs.Course.{
+  component_begins_at,
+  with_component,
+  course_at,
+  due_everywhere,
+  course_after,
+  Event,
+  Begins,
+  BeginsOnAll,
+}
 use Rattle.cyc_expected.specs.Course.{IsSet, IsSetOn, Ends, Fires, Leaves, Returns, Passes, Course, Single, Told, told_after}
 use Rattle.cyc_expected.specs.Course.{told_by}
 use Rattle.cyc_system_laws.specs.Sound.{IsSound}
-use Rattle.cyc_system_laws.specs.Keeping.{over_stays, stay_of}
+use Rattle.cyc_system_laws.specs.Keeping.{over_stays, stay_on}
 use Rattle.cyc_system_laws.proofs.Flow.{on_cpu}
 use Rattle.cyc_system_laws.proofs.Found.{stays_found}
-use Rattle.cyc_system_sums.proofs.Given.{receipt_all}
+use Rattle.cyc_system_laws.proofs.Given.{receipt_all}
 use Rattle.cyc_types.specs.declared.receipt.Receipt.{Receipt}
 use Rattle.cyc_system_rings.specs.Leading.{LeadCall, Make, FireAll, AskAll}
 use Rattle.cyc_system_rings.proofs.Raising.{sums_same, changes_long, stands}
@@ -135,12 +144,12 @@ module _ {C R : Type 0} (handler : Calls C) (firing : Raise R) (id : ℕ) where
         let r = ap (λ rs. option_map_or (λ r. sum_by (λ e. e.sent) r.ended) (found id rs) 0) f.records in
         omega (arith, x, x2, y, z, r));
     given = (let g = h.given in let l = f.last in omega (arith, g, l));
-    single = ap (λ rs. option_map_or (λ (r : Record). is_everywhere r.place) (found id rs) false) f.records ∙ h.single;
+    single = ap (λ rs. option_map_or (λ (r : Record). is_everywhere r.placement) (found id rs) false) f.records ∙ h.single;
   }
 
   -- ---- a question
 
-  pub asked_cyclics : (answers : List Bool) (x y : CpuView R) → FoldsTo (Asks firing) x answers y → y.cyclics ≡ x.cyclics
+  pub asked_cyclics : (answers : List Bool) (x y : CpuView R) → FoldsTo (AsksSettled firing) x answers y → y.cyclics ≡ x.cyclics
   asked_cyclics [] x y e = ap (λ (z : CpuView R). z.cyclics) (sym e)
   asked_cyclics (true ∷ answers) x y (z, (first, lawful), rest) = asked_cyclics answers z y rest ∙ first.0.cyclics
   asked_cyclics (false ∷ answers) x y (z, (first, lawful), rest) = asked_cyclics answers z y rest ∙ first.0.cyclics
@@ -151,7 +160,7 @@ module _ {C R : Type 0} (handler : Calls C) (firing : Raise R) (id : ℕ) where
       let x = stays_found firing.view id (of_stay k) s.system sound.lawful in
       let y = stays_found firing.view id (of_stay k) t.system after.lawful in
       let z = sums_same (on_cpu (of_stay k) id) s.system.cpus.cpus t.system.cpus.cpus a.cpus.long (λ n x y p q.
-      (let w = a.cpus.each n x y p q in ap (λ cs. sum_by (λ c. cond (c.timer.id == id) (of_stay k (stay_of c)) 0) cs)
+      (let w = a.cpus.each n x y p q in ap (λ cs. sum_by (λ c. cond (c.timer.id == id) (of_stay k (stay_on c)) 0) cs)
       (asked_cyclics w.0 x y w.1))) in omega (arith, x, y, z)
 
   pub asks_single : (m i e : ℕ) (s t : SystemSide R C) → IsSound firing.view s.system → IsSound firing.view t.system
@@ -164,7 +173,7 @@ module _ {C R : Type 0} (handler : Calls C) (firing : Raise R) (id : ℕ) where
         let r = ap (λ rs. option_map_or (λ r. sum_by (λ e. e.sent) r.ended) (found id rs) 0) a.records in
         omega (arith, x, z, r));
     given = (let g = h.given in let l = a.last in omega (arith, g, l));
-    single = ap (λ rs. option_map_or (λ (r : Record). is_everywhere r.place) (found id rs) false) a.records ∙ h.single;
+    single = ap (λ rs. option_map_or (λ (r : Record). is_everywhere r.placement) (found id rs) false) a.records ∙ h.single;
   }
 
   -- ---- a call
@@ -285,7 +294,7 @@ module _ {C R : Type 0} (handler : Calls C) (firing : Raise R) (id : ℕ) where
       (λ same. subst (λ (x : Told). IsTold x t) (sym (its_own own (IsSet moment) told same)) (record {
         moment = moment;
         interval = h.interval;
-        course = ap (with_moment moment) h.course;
+        course = ap (course_at moment) h.course;
         so = single_set firing id moment h.moment h.interval told.expired s t a b
             (subst (λ (j : ℕ). Changes firing s (Reprogram j moment (Ok tt)) t) same d) h.so;
       }))
@@ -307,7 +316,7 @@ module _ {C R : Type 0} (handler : Calls C) (firing : Raise R) (id : ℕ) where
   make_told s t (Offline n (Err why)) told a b d keeps h = same_told told told s t refl
       (λ m i e. single_kept firing id m i e s t (Offline n (Err why)) a b d (not_omni told s h) (λ x. x) (λ x. x)) h
   make_told s t (Online n now (Ok done)) told a b d keeps h = comes_or_goes told (told_after (Returns n now) told) s t refl
-      (λ m i e. ap (with_component n (λ e. Some (component_first n e now))) e)
+      (λ m i e. ap (with_component n (λ e. Some (component_begins_at n e now))) e)
       (λ m i e. single_kept firing id m i e s t (Online n now (Ok done)) a b d (not_omni told s h) (λ x. x) (λ x. x)) h
   make_told s t (Online n now (Err why)) told a b d keeps h = same_told told told s t refl
       (λ m i e. single_kept firing id m i e s t (Online n now (Err why)) a b d (not_omni told s h) (λ x. x) (λ x. x)) h
@@ -343,9 +352,9 @@ module _ {C R : Type 0} (handler : Calls C) (firing : Raise R) (id : ℕ) where
       subst (λ (x : SystemSide R C). IsTold (told_after (Fires now) told) x.system) (sym same) (record {
         moment = next h.moment h.interval now;
         interval = h.interval;
-        course = ap (next_of now) h.course;
+        course = ap (course_after now) h.course;
         so = subst (λ (e : ℕ). IsSingle firing id (next h.moment h.interval now) h.interval e after.side.system)
-            (ap (λ (c : Course). told.expired + due_of now c) (sym h.course))
+            (ap (λ (c : Course). told.expired + due_everywhere now c) (sym h.course))
             (fires_single now h.moment h.interval told.expired s after a
             (subst (λ (x : SystemSide R C). IsSound firing.view x.system) same b) ready fires accepted h.so);
       })

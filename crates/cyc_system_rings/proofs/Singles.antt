@@ -14,7 +14,7 @@ use Rattle.cyc_types.specs.declared.moment.When.{When}
 use Rattle.cyc_timers.specs.Rows.{Cyclic}
 use Rattle.cyc_cpu.specs.declared.moving.Taken.{Taken}
 use Rattle.cyc_cpu.specs.Cpu.{CpuView, IsCyclic, with_moment}
-use Rattle.cyc_cpu.specs.Calls.{Changes as CpuChanges, Reserve, Reprogram as CpuReprogram}
+use Rattle.cyc_cpu.specs.Calls.{CpuChanges as CpuChanges, Reserve, Reprogram as CpuReprogram}
 use Rattle.cyc_places.specs.declared.record.Record.{Record}
 use Rattle.cyc_places.specs.declared.record.Placement.TheVariants as stands
 use Rattle.cyc_places.specs.Places.{is_everywhere, new_record}
@@ -30,13 +30,13 @@ use Rattle.cyc_system_laws.specs.Counts.{all_expired}
 use Rattle.cyc_system_laws.specs.SystemCalls.{SystemCall, Changes, Add, Reprogram}
 use Rattle.cyc_system_laws.proofs.Pieces.{made_of}
 use Rattle.cyc_system_laws.specs.Sound.{IsSound}
-use Rattle.cyc_system_laws.specs.Keeping.{stay_of, over_stays, EndsRemoval, TouchesStays, TouchesRecord}
+use Rattle.cyc_system_laws.specs.Keeping.{stay_on, over_stays, EndsRemoval, TouchesStays, TouchesRecord}
 use Rattle.cyc_system_laws.proofs.Flow.{on_cpu, on_cpus, flows, sum_set}
 use Rattle.cyc_system_laws.proofs.Found.{stays_found}
 use Rattle.cyc_system_laws.proofs.Counts.{counts_same}
 use Rattle.cyc_system_laws.proofs.Kept.{stays_kept}
 use Rattle.cyc_system_laws.proofs.Looked.{look_kept}
-use Rattle.cyc_system_sums.proofs.Given.{no_counts_yet}
+use Rattle.cyc_system_laws.proofs.Given.{no_counts_yet}
 
 -- an answer is no refusal
 pub ok_err : {A E : Type 0} {x : A} {y : E} → Ok x ≡ Err y → ⊥
@@ -86,7 +86,7 @@ module _ {R : Type 0} (firing : Raise R) (id : ℕ) where
 
   omni_kept : (s t : SystemView R) (call : SystemCall) → IsSound firing.view s → Changes firing s call t
       → (TouchesRecord id call → ⊥) → is_omnipresent id t ≡ is_omnipresent id s
-  omni_kept s t call a d other = look_kept firing (λ (r : Record). is_everywhere r.place) false (λ r n bound e. sym e)
+  omni_kept s t call a d other = look_kept firing (λ (r : Record). is_everywhere r.placement) false (λ r n bound e. sym e)
       (λ r n c. refl) id s t call a.fit.rising d other
 
   -- a call that doesn't touch it
@@ -108,8 +108,8 @@ module _ {R : Type 0} (firing : Raise R) (id : ℕ) where
       let low = sound.agrees.given k r is in absurd (omega (arith, low, named, new)))
 
   pub no_stays : (s : SystemView R) → IsSound firing.view s → s.last < id → (f : Taken → ℕ) → over_stays f id s ≡ 0
-  no_stays s sound new f = sum_none (λ cpu. option_map_or (λ c. f (stay_of c)) (cyclic_in id cpu) 0) s.cpus.cpus
-      (λ n cpu at. ap (λ o. option_map_or (λ c. f (stay_of c)) o 0) (none_found cpu.cyclics id
+  no_stays s sound new f = sum_none (λ cpu. option_map_or (λ c. f (stay_on c)) (cyclic_in id cpu) 0) s.cpus.cpus
+      (λ n cpu at. ap (λ o. option_map_or (λ c. f (stay_on c)) o 0) (none_found cpu.cyclics id
       (sym (ap (λ o. among id (option_map_or ids_of o [])) at) ∙ nowhere s sound new n (has n id s.cpus) refl)))
 
   pub single_added : (level : Level) (when : When) (now : ℕ) (s t : SystemView R) → IsSound firing.view s → IsSound firing.view t
@@ -130,7 +130,7 @@ module _ {R : Type 0} (firing : Raise R) (id : ℕ) where
             (inr (clear, (d, chosen, own, works, records, last))) (λ x. x) ∙ no_counts_yet firing.view id s a new;
         given = omega (arith, last);
         single =
-            let h = λ (r : Record). is_everywhere r.place in let x = new_record id level (stands.On d false) in
+            let h = λ (r : Record). is_everywhere r.placement in let x = new_record id level (stands.On d false) in
             let none = record_none id s.records (λ k q low same. (let g = a.agrees.given k (get_or s.records k q)
             (slice_get-get_or s.records k q low) in omega (arith, g, same, new))) in
             ap (λ rs. option_map_or h (found id rs) false) records
@@ -149,9 +149,9 @@ module _ {R : Type 0} (firing : Raise R) (id : ℕ) where
       let all : on_cpus f id s.cpus ≡ 0 = stays_found firing.view id f s a.lawful ∙ (h.stays (only_at m i e) ∙ only_here m i e) in
       let x = get_or-le-sum_by (on_cpu f id) s.cpus.cpus n cpu (slice_get_within s.cpus.cpus n cpu at) in
       let x2 = ap (on_cpu f id) (get_or_from_slice_get s.cpus.cpus n cpu cpu at) in
-      let own = λ (d : Cyclic). cond (d.timer.id == id) (f (stay_of d)) 0 in
+      let own = λ (d : Cyclic). cond (d.timer.id == id) (f (stay_on d)) 0 in
       let y = get_or-le-sum_by own cpu.cyclics k c here.0 in let y2 = ap own here.1 in
-      let z = ap (λ (b : Bool). cond b (f (stay_of c)) 0) (true_eq c.timer.id id named) in
+      let z = ap (λ (b : Bool). cond b (f (stay_on c)) 0) (true_eq c.timer.id id named) in
       only_there m i e c.timer.moment c.timer.interval c.timer.expired (omega (arith, all, x, x2, y, y2, z))
 
   pub single_set : (moment m i e : ℕ) (s t : SystemView R) → IsSound firing.view s → IsSound firing.view t
@@ -162,7 +162,7 @@ module _ {R : Type 0} (firing : Raise R) (id : ℕ) where
     all = counts_same firing (λ (c : Sent). c.sent) refl (λ x y. refl) id s t (Reprogram id moment (Ok tt)) a b
         (inr (clear, (n, home, (is, ((u, d, last), records, given))))) (λ x. x) ∙ h.all;
     given = (let g = h.given in omega (arith, g, given));
-    single = ap (λ rs. option_map_or (λ (r : Record). is_everywhere r.place) (found id rs) false) records ∙ h.single;
+    single = ap (λ rs. option_map_or (λ (r : Record). is_everywhere r.placement) (found id rs) false) records ∙ h.single;
   }
     where
       by : (k : ℕ → ℕ → ℕ → ℕ) → CpuChanges firing d.before (CpuReprogram id moment (Ok tt)) d.after
@@ -170,15 +170,15 @@ module _ {R : Type 0} (firing : Raise R) (id : ℕ) where
       by k (p, c, here, named, still, w) =
           let f = of_stay k in
           let (cm, ci, ce) = the_one m i e s n p d.before c a h d.here here named in
-          let own = λ (d : Cyclic). cond (d.timer.id == id) (f (stay_of d)) 0 in
+          let own = λ (d : Cyclic). cond (d.timer.id == id) (f (stay_on d)) 0 in
           let x = sum_by-set own d.before.cyclics p (with_moment moment c) c here.0 in let x2 = ap own here.1 in
           let y = ap (λ (v : CpuView R). sum_by own v.cyclics) w in
           let z = sum_set (on_cpu f id) s.cpus.cpus n d.before d.after d.here in
           let z2 = ap (on_cpus f id) d.rest in let z3 = ap (on_cpus f id) last in
-          let p0 = ap (λ (b : Bool). cond b (f (stay_of c)) 0) (true_eq c.timer.id id named) in
-          let p1 = ap (λ (b : Bool). cond b (f (stay_of (with_moment moment c))) 0) (true_eq c.timer.id id named) in
-          let q0 : f (stay_of c) ≡ k m i e = (λ j. k (cm j) (ci j) (ce j)) in
-          let q1 : f (stay_of (with_moment moment c)) ≡ k moment i e = (λ j. k moment (ci j) (ce j)) in
+          let p0 = ap (λ (b : Bool). cond b (f (stay_on c)) 0) (true_eq c.timer.id id named) in
+          let p1 = ap (λ (b : Bool). cond b (f (stay_on (with_moment moment c))) 0) (true_eq c.timer.id id named) in
+          let q0 : f (stay_on c) ≡ k m i e = (λ j. k (cm j) (ci j) (ce j)) in
+          let q1 : f (stay_on (with_moment moment c)) ≡ k moment i e = (λ j. k moment (ci j) (ce j)) in
           let g0 = stays_found firing.view id f s a.lawful in let g1 = stays_found firing.view id f t b.lawful in let g =
           h.stays k in
           omega (arith, x, x2, y, z, z2, z3, p0, p1, q0, q1, g0, g1, g)

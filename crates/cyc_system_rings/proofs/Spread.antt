@@ -16,11 +16,11 @@ use Rattle.cyc_types.specs.Reasons.{when as if_so, bad_now}
 use Rattle.cyc_model.specs.State.{Everywhere}
 use Rattle.cyc_timers.specs.Rows.{Cyclic}
 use Rattle.cyc_cpu.specs.Cpu.{CpuView, IsCyclic, with_moment}
-use Rattle.cyc_cpu.specs.Calls.{Changes as CpuChanges, Reprogram as CpuReprogram}
+use Rattle.cyc_cpu.specs.Calls.{CpuChanges as CpuChanges, Reprogram as CpuReprogram}
 use Rattle.cyc_places.specs.declared.record.Placement.{Placement}
 use Rattle.cyc_places.specs.declared.record.Placement.TheVariants as stands
 use Rattle.cyc_places.specs.declared.record.Record.{Record}
-use Rattle.cyc_places.specs.Places.{is_everywhere, new_record, with_place}
+use Rattle.cyc_places.specs.Places.{is_everywhere, new_record, with_placement}
 use Rattle.cyc_agreement.specs.Cpus.{CpusView}
 use Rattle.cyc_agreement.proofs.CpuSpots.{get_set_same, get_set_other, cpu_there}
 use Rattle.cyc_system_laws.proofs.Lists.{true_eq}
@@ -40,7 +40,7 @@ use Rattle.cyc_system_laws.specs.SystemCalls.{SystemCall, Changes, Add, AddOmni,
 use Rattle.cyc_system_laws.specs.SystemCalls.{Suspend, Resume, Reprogram, ReprogramOn, Juggle, Offline, Online, FireOne}
 use Rattle.cyc_system_laws.specs.SystemCalls.{SoftInterrupt}
 use Rattle.cyc_system_laws.proofs.Pieces.{made_of}
-use Rattle.cyc_expected.specs.Course.{component_first, components_from}
+use Rattle.cyc_expected.specs.Course.{component_begins_at, components_from}
 use Rattle.cyc_system_laws.specs.Sound.{IsSound}
 use Rattle.cyc_system_laws.specs.Keeping.{TouchesRecord}
 use Rattle.cyc_system_laws.proofs.Counts.{within}
@@ -50,6 +50,7 @@ use Rattle.cyc_system_rings.specs.Events.{given_everywhere}
 use Rattle.cyc_system_rings.proofs.Singles.{ok_err, find_end}
 use Rattle.cyc_system_rings.proofs.Beside.{IsPlain, removals_same, online_after, HereNeeds, here_may, here_same, single_has}
 use Rattle.cyc_system_rings.proofs.Beside.{not_there, found_at}
+use Rattle.cyc_expected.proofs.Spread.{components_long}
 
 -- ---- the component on a CPU
 
@@ -74,17 +75,13 @@ off_now (up ∷ ups) zero = refl
 off_now (up ∷ ups) (suc n) = off_now ups n
 
 components_at : (k : ℕ) (e : Everywhere) (now : ℕ) (ups : List Bool) (n : ℕ) → moment_on n (components_from k e now ups)
-    ≡ cond (option_map_or (λ (up : Bool). up) (slice_get ups n) false) (Some (component_first (k + n) e now)) None
+    ≡ cond (option_map_or (λ (up : Bool). up) (slice_get ups n) false) (Some (component_begins_at (k + n) e now)) None
 components_at k e now [] n = refl
-components_at k e now (true ∷ ups) zero = let z : k ≡ k + 0 = omega arith in ap (λ (j : ℕ). Some (component_first j e now)) z
+components_at k e now (true ∷ ups) zero = let z : k ≡ k + 0 = omega arith in ap (λ (j : ℕ). Some (component_begins_at j e now)) z
 components_at k e now (false ∷ ups) zero = refl
 components_at k e now (up ∷ ups) (suc n) = components_at (k + 1) e now ups n
     ∙ (let z : k + 1 + n ≡ k + suc n = omega arith in
-    ap (λ (j : ℕ). cond (option_map_or (λ (up : Bool). up) (slice_get ups n) false) (Some (component_first j e now)) None) z)
-
-components_long : (k : ℕ) (e : Everywhere) (now : ℕ) (ups : List Bool) → length (components_from k e now ups) ≡ length ups
-components_long k e now [] = refl
-components_long k e now (up ∷ ups) = let a = components_long (k + 1) e now ups in omega (arith, a)
+    ap (λ (j : ℕ). cond (option_map_or (λ (up : Bool). up) (slice_get ups n) false) (Some (component_begins_at j e now)) None) z)
 
 -- what is seen of a cyclic: its next expiration and its interval
 abbrev pub seen : Cyclic → ℕ × ℕ
@@ -96,11 +93,11 @@ place_series (stands.On n bound) = None
 place_series (stands.Everywhere when skew) = Some (when, skew)
 
 abbrev pub series_of : Record → Option (When × ℕ)
-series_of r = place_series r.place
+series_of r = place_series r.placement
 
-series_placed : (r : Record) (n : ℕ) (bound : Bool) → is_everywhere r.place ≡ false
-    → series_of (with_place (stands.On n bound) r) ≡ series_of r
-series_placed r n bound e = by r.place e
+series_placed : (r : Record) (n : ℕ) (bound : Bool) → is_everywhere r.placement ≡ false
+    → series_of (with_placement (stands.On n bound) r) ≡ series_of r
+series_placed r n bound e = by r.placement e
   where
     by : (place : Placement) → is_everywhere place ≡ false → None ≡ place_series place
     by (stands.On m b) e = refl
@@ -117,22 +114,22 @@ module _ {R : Type 0} (firing : Raise R) (id : ℕ) where
 
   -- its record
   module _ (when : When) (skew : ℕ) (ms : List (Option ℕ)) (s : SystemView R) (h : IsSpread when skew ms s) where
-    its_record : (r : Record) × (found id s.records ≡ Some r) × (r.place ≡ stands.Everywhere when skew)
+    its_record : (r : Record) × (found id s.records ≡ Some r) × (r.placement ≡ stands.Everywhere when skew)
     its_record = by (found id s.records) refl h.series
       where
-        placed : (r : Record) (place : Placement) → r.place ≡ place → place_series place ≡ Some (when, skew)
-            → r.place ≡ stands.Everywhere when skew
+        placed : (r : Record) (place : Placement) → r.placement ≡ place → place_series place ≡ Some (when, skew)
+            → r.placement ≡ stands.Everywhere when skew
         placed r (stands.On n bound) e is = absurd (none_some is)
         placed r (stands.Everywhere w k) e is = (let p = same_some is in e ∙ (λ i. stands.Everywhere (p i).0 (p i).1))
 
         by : (o : Option Record) → found id s.records ≡ o → option_map_or series_of o None ≡ Some (when, skew)
-            → (r : Record) × (found id s.records ≡ Some r) × (r.place ≡ stands.Everywhere when skew)
+            → (r : Record) × (found id s.records ≡ Some r) × (r.placement ≡ stands.Everywhere when skew)
         by None e is = absurd (none_some is)
-        by (Some r) e is = (r, e, placed r r.place refl is)
+        by (Some r) e is = (r, e, placed r r.placement refl is)
 
     pub spread_omni : is_omnipresent id s ≡ true
     spread_omni = (let (r, is, place) = its_record in
-        ap (λ o. option_map_or (λ (r : Record). is_everywhere r.place) o false) is ∙ ap is_everywhere place)
+        ap (λ o. option_map_or (λ (r : Record). is_everywhere r.placement) o false) is ∙ ap is_everywhere place)
 
     not_own : (own : ℕ) → is_omnipresent own s ≡ false → own ≢ id
     not_own own e same = (let odd : true ≡ false = sym spread_omni ∙ (ap (λ (j : ℕ). is_omnipresent j s) (sym same) ∙ e) in cc)
@@ -300,7 +297,7 @@ module _ {R : Type 0} (firing : Raise R) (id : ℕ) where
           let l = changes_long firing s t (Online n now (Ok tt)) (inr (clear, goes)) in let l2 = h.long in
           let (y, at) = get_some t.cpus.cpus n (omega (arith, low, l)) in
           let (p, there, one) = all_back firing s t n now goes k r when skew is place
-          (both (is_everywhere r.place) _ (ap is_everywhere place) (stays r.id named)) y at in
+          (both (is_everywhere r.placement) _ (ap is_everywhere place) (stays r.id named)) y at in
           ap (option_map seen) (ap (λ o. option_and_then (cyclic_in id) o) at
           ∙ cyclic_found y.cyclics id p _ (b.lawful n y at).rising there named)
           ∙ sym (ap (option_map (λ m. (m, when.interval)))
@@ -343,9 +340,9 @@ module _ {R : Type 0} (firing : Raise R) (id : ℕ) where
           → moment_on n (components_from 0 (given_everywhere level when skew) now s.cpus.online)
           ≡ cond up (Some (cpu_first n when skew now)) None
       told n up e = components_at 0 (given_everywhere level when skew) now s.cpus.online n
-          ∙ ((λ i. cond (e i) (Some (component_first (0 + n) (given_everywhere level when skew) now)) None)
+          ∙ ((λ i. cond (e i) (Some (component_begins_at (0 + n) (given_everywhere level when skew) now)) None)
           ∙ (let z : 0 + n ≡ n = omega arith in
-          ap (λ (j : ℕ). cond up (Some (component_first j (given_everywhere level when skew) now)) None) z))
+          ap (λ (j : ℕ). cond up (Some (component_begins_at j (given_everywhere level when skew) now)) None) z))
 
       low : (n : ℕ) → is_online n s.cpus ≡ true → n < length s.cpus.online
       low n e = by (slice_get s.cpus.online n) refl e

@@ -11,7 +11,7 @@ use Rattle.cyc_types.specs.declared.Raise.{Ghosts as Raise}
 use Rattle.cyc_types.specs.Series.{due, next}
 use Rattle.cyc_types.specs.declared.moment.When.{When}
 use Rattle.cyc_timers.specs.Rows.{Cyclic}
-use Rattle.cyc_cpu.specs.Cpu.{CpuView, HasRisingIds}
+use Rattle.cyc_cpu.specs.Cpu.{CpuView, HasRisingCyclics}
 use Rattle.cyc_system_laws.proofs.Recording.{found}
 use Rattle.cyc_system_laws.proofs.Spots.{none_some, get_some}
 use Rattle.cyc_system_laws.specs.Laws.{cyclic_in, cyclic_on}
@@ -20,7 +20,7 @@ use Rattle.cyc_system_workers.specs.declared.side.SystemSide.{SystemSide}
 use Rattle.cyc_system_workers.specs.declared.advancing.Advanced.{Advanced}
 use Rattle.cyc_system_workers.specs.Advancing.{AllFire}
 use Rattle.cyc_system_workers.specs.Settling.{OnlyAsked}
-use Rattle.cyc_system_laws.specs.Keeping.{stay_of}
+use Rattle.cyc_system_laws.specs.Keeping.{stay_on}
 use Rattle.cyc_system_laws.specs.Sound.{IsSound}
 use Rattle.cyc_system_laws.proofs.Flow.{on_cpu}
 use Rattle.cyc_system_laws.proofs.Found.{sum_found}
@@ -80,7 +80,7 @@ pub map_long : {A B : Type 0} (f : A → B) (xs : List A) → length (map f xs) 
 map_long f [] = refl
 map_long f (x ∷ xs) = let a = map_long f xs in omega (arith, a)
 
-cyclics_rise : (cs : List Cyclic) → HasRisingIds cs → (i j : ℕ) (x y : Cyclic) → i < j → slice_get cs i ≡ Some x
+cyclics_rise : (cs : List Cyclic) → HasRisingCyclics cs → (i j : ℕ) (x y : Cyclic) → i < j → slice_get cs i ≡ Some x
     → slice_get cs j ≡ Some y → x.timer.id < y.timer.id
 cyclics_rise cs rising i j x y less p q =
     let l = rising i j x less (slice_get_within cs j y q) in
@@ -89,10 +89,10 @@ cyclics_rise cs rising i j x y less p q =
 
 module _ {C R : Type 0} (handler : Calls C) (firing : Raise R) (id : ℕ) where
   -- a measure of the id on a CPU is that of the cyclic that is found
-  cpu_found : (k : ℕ → ℕ → ℕ → ℕ) (x : CpuView R) → HasRisingIds x.cyclics
+  cpu_found : (k : ℕ → ℕ → ℕ → ℕ) (x : CpuView R) → HasRisingCyclics x.cyclics
       → on_cpu (of_stay k) id x
       ≡ option_map_or (λ (c : Cyclic). k c.timer.moment c.timer.interval c.timer.expired) (cyclic_in id x) 0
-  cpu_found k x rising = sum_found (λ (c : Cyclic). c.timer.id) (λ c. of_stay k (stay_of c)) id x.cyclics
+  cpu_found k x rising = sum_found (λ (c : Cyclic). c.timer.id) (λ c. of_stay k (stay_on c)) id x.cyclics
       (cyclics_rise x.cyclics rising)
 
   module _ (now : ℕ) (s : SystemSide R C) (b : Advanced R C) (sound : IsSound firing.view s.system)

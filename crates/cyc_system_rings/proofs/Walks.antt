@@ -195,8 +195,8 @@ module _ {R : Type 0} (firing : Raise R) (K : CpusView R → CpusView R → Type
   returns_good : (n now : ℕ) (rs : List Record) → ((k : ℕ) (r : Record) → slice_get rs k ≡ Some r → Puts n r.id)
       → AreGood (returns n now rs)
   returns_good n now [] may = tt
-  returns_good n now (r ∷ rs) may = good_on (return_at n now r.id r.level (ended_on n r) r.place) (returns n now rs)
-      (return_good n now r.id r.level (ended_on n r) r.place (may 0 r refl))
+  returns_good n now (r ∷ rs) may = good_on (return_at n now r.id r.level (ended_on n r) r.placement) (returns n now rs)
+      (return_good n now r.id r.level (ended_on n r) r.placement (may 0 r refl))
       (returns_good n now rs (λ k q at. may (suc k) q at))
 
   -- ---- a call of the system

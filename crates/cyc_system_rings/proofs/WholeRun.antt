@@ -39,14 +39,26 @@ use Rattle.cyc_system_workers.specs.Advancing.{AllFire}
 use Rattle.cyc_system_workers.specs.Settling.{OnlyAsked}
 use Rattle.cyc_system_laws.proofs.Pieces.{made_of}
 use Rattle.cyc_system_laws.proofs.Lists.{among}
-use Rattle.cyc_expected.specs.Course.{due_of, next_of, Event, Begins, BeginsOnAll, IsSet, IsSetOn, Ends, Fires, Leaves, Returns}
+use Rattle.cyc_expected.specs.Course.{
+  due_everywhere,
+  course_after,
+  Event,
+  Begins,
+  BeginsOnAll,
+  IsSet,
+  IsSetOn,
+  Ends,
+  Fires,
+  Leaves,
+  Returns,
+}
 use Rattle.cyc_expected.specs.Course.{Passes, Course, Idle, Single, OnEach, Told, untold, told_after, told_by}
 use Rattle.cyc_system_laws.specs.Sound.{IsSound}
 use Rattle.cyc_system_laws.specs.Keeping.{EndsRemoval}
 use Rattle.cyc_system_laws.proofs.Counts.{counts_same}
-use Rattle.cyc_system_sums.proofs.Given.{no_counts_yet, receipt_all}
+use Rattle.cyc_system_laws.proofs.Given.{no_counts_yet, receipt_all}
 use Rattle.cyc_system_rings.specs.Leading.{LeadCall, Make, FireAll, AskAll}
-use Rattle.cyc_system_rings.specs.Rings.{receipt_of, first_of, receipt_in, counts_in}
+use Rattle.cyc_system_rings.specs.Rings.{receipt_of, first_ring, receipt_in, counts_in}
 use Rattle.cyc_system_rings.specs.Empty.{IsEmpty}
 use Rattle.cyc_system_rings.specs.Events.{given_everywhere, if_own, event_in, events_in, AllAccepted, AcceptedSteps}
 use Rattle.cyc_system_rings.specs.Events.{IsBeforeNever}
@@ -188,7 +200,8 @@ module _ {C R : Type 0} (handler : Calls C) (firing : Raise R) (id : ℕ) where
       → IsSound firing.view b.side.system → length s.leads.items ≡ length s.system.cpus.cpus
       → AllFire handler firing now s b → AllAccepted b → now < never → all_expired id s.system ≡ x
       → On c x s.system
-      → (all_expired id b.side.system ≡ x + due_of now c) × On (next_of now c) (x + due_of now c) b.side.system
+      → (all_expired id b.side.system ≡ x + due_everywhere now c)
+      × On (course_after now c) (x + due_everywhere now c) b.side.system
   course_fired now Idle x s b a after ready f accepted early e quiet = (
     (let same = quiet_counts handler firing id now s b a ready f accepted early quiet after in
         omega (arith, same, e)),
@@ -204,10 +217,10 @@ module _ {C R : Type 0} (handler : Calls C) (firing : Raise R) (id : ℕ) where
         ),
       )
   course_fired now (OnEach o ms) x s b a after ready f accepted early e (level, when, skew, is, h) =
-      subst (λ (o : Everywhere). (all_expired id b.side.system ≡ x + due_of now (OnEach o ms))
-      × On (next_of now (OnEach o ms)) (x + due_of now (OnEach o ms)) b.side.system) (sym is) (
+      subst (λ (o : Everywhere). (all_expired id b.side.system ≡ x + due_everywhere now (OnEach o ms))
+      × On (course_after now (OnEach o ms)) (x + due_everywhere now (OnEach o ms)) b.side.system) (sym is) (
         spread_counts handler firing id now s b a after ready f accepted when skew ms h
-            ∙ ap (λ (y : ℕ). y + due_of now (OnEach (given_everywhere level when skew) ms)) e,
+            ∙ ap (λ (y : ℕ). y + due_everywhere now (OnEach (given_everywhere level when skew) ms)) e,
         (
           level,
           when,
@@ -270,8 +283,8 @@ module _ {C R : Type 0} (handler : Calls C) (firing : Raise R) (id : ℕ) where
       (ap (λ c. (told_after (IsSetOn n moment) (record told { course = c })).course) is, refl)
   idle_after Ends told none is = (refl, refl)
   idle_after (Fires now) told none is = (
-    ap (next_of now) is,
-    (let z = ap (due_of now) is in omega (arith, z)),
+    ap (course_after now) is,
+    (let z = ap (due_everywhere now) is in omega (arith, z)),
   )
   idle_after (Leaves n) told none is = (ap (λ c. (told_after (Leaves n) (record told { course = c })).course) is, refl)
   idle_after (Returns n now) told none is = (ap (λ c. (told_after (Returns n now) (record told { course = c })).course) is, refl)
@@ -418,13 +431,14 @@ module _ {C R : Type 0} (handler : Calls C) (firing : Raise R) (id : ℕ) where
           → (receipt_of id call ≡ None
           → option_map_or (λ (r : Receipt). r.sent) (receipt_in id way) (all_expired id t.system)
           ≡ (told_by (events_in id way) (told_after (event_in id call) told)).expired)
-          → option_map_or (λ (r : Receipt). r.sent) (first_of (receipt_of id call) (receipt_in id way)) (all_expired id t.system)
+          → option_map_or (λ (r : Receipt). r.sent) (first_ring (receipt_of id call) (receipt_in id way)) (all_expired id
+          t.system)
           ≡ (told_by (events_in id way) (told_after (event_in id call) told)).expired
       by None is more =
-          ap (λ o. option_map_or (λ (r : Receipt). r.sent) (first_of o (receipt_in id way)) (all_expired id t.system)) is
+          ap (λ o. option_map_or (λ (r : Receipt). r.sent) (first_ring o (receipt_in id way)) (all_expired id t.system)) is
           ∙ more is
       by (Some r) is more = (let x = receives call r told s u a d h is in
-          ap (λ o. option_map_or (λ (r : Receipt). r.sent) (first_of o (receipt_in id way)) (all_expired id t.system)) is
+          ap (λ o. option_map_or (λ (r : Receipt). r.sent) (first_ring o (receipt_in id way)) (all_expired id t.system)) is
           ∙ (x.sent ∙ (h.all ∙ sym (over_run way u t (told_after (event_in id call) told) rest x.given x.course ∙ x.expired))))
 
   -- ---- from nothing

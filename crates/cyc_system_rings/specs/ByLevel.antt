@@ -8,7 +8,7 @@ use Rattle.cyc_types.specs.declared.level.Level.{Level}
 use Rattle.cyc_types.specs.declared.level.Soft.{Soft}
 use Rattle.cyc_types.specs.declared.level.Soft.TheVariants.{Low, Lock}
 use Rattle.cyc_types.specs.Counting.{no_counts}
-use Rattle.ring_rule.specs.Trail.{raises_of, losses_of}
+use Rattle.ring_rule.specs.Trail.{raises_of, losses_on_trail}
 use Rattle.cyc_ring.specs.declared.ends.RaiseEnd.{RaiseEnd}
 use Rattle.cyc_ring.specs.declared.closed.Closed.{Closed}
 use Rattle.cyc_ring.specs.Ends.{raise_trail, raise_end, end_view}
@@ -23,7 +23,7 @@ use Rattle.cyc_system_laws.specs.Sound.{IsSound}
 use Rattle.cyc_system_workers.specs.declared.side.SystemSide.{SystemSide}
 use Rattle.cyc_system_rings.specs.Beginning.{IsNewSystem}
 use Rattle.cyc_system_rings.specs.Leading.{LeadCall, Make, LeadSteps}
-use Rattle.cyc_system_rings.specs.Rings.{first_of, counts_in, all_made}
+use Rattle.cyc_system_rings.specs.Rings.{first_ring, counts_in, all_made}
 
 -- ---- the level of an id
 
@@ -36,7 +36,7 @@ level_given id call = None
 -- that with which one of these calls gave it
 abbrev pub level_in : ℕ → List LeadCall → Option Level
 level_in id [] = None
-level_in id (call ∷ way) = first_of (level_given id call) (level_in id way)
+level_in id (call ∷ way) = first_ring (level_given id call) (level_in id way)
 
 abbrev pub is_own : Level → Option Level → Bool
 is_own level known = option_map_or (same_level level) known false
@@ -57,7 +57,7 @@ abbrev pub raised_at : Soft → ℕ → SystemView RaiseEnd → ℕ
 raised_at soft id s = sum_by (λ cpu. raises_of id (raise_trail (end_of {R = RaiseEnd} soft cpu).seat)) s.cpus.cpus
 
 abbrev pub dropped_at : Soft → ℕ → SystemView RaiseEnd → ℕ
-dropped_at soft id s = sum_by (λ cpu. losses_of id (raise_trail (end_of {R = RaiseEnd} soft cpu).seat)) s.cpus.cpus
+dropped_at soft id s = sum_by (λ cpu. losses_on_trail id (raise_trail (end_of {R = RaiseEnd} soft cpu).seat)) s.cpus.cpus
 
 -- of rings by the numbers of their CPUs, the lock level's before the low level's: those of one level
 abbrev pub rings_of : Soft → List Closed → List Closed

@@ -3,7 +3,7 @@ use Rattle.std.specs.Prelude.{◌≡◌, ℕ, ◌+◌, ◌==◌, cond, sum_by, �
 use Rattle.std.specs.Option.{option_map_or}
 use Rattle.cyc_types.specs.declared.firing.Sent.{Sent}
 use Rattle.cyc_types.specs.declared.receipt.Receipt.{Receipt}
-use Rattle.ring_rule.specs.Trail.{raises_of, losses_of}
+use Rattle.ring_rule.specs.Trail.{raises_of, losses_on_trail}
 use Rattle.ring_rule.specs.Conservation.{IsAccounted}
 use Rattle.cyc_ring.specs.declared.ends.RaiseEnd.{RaiseEnd}
 use Rattle.cyc_ring.specs.declared.closed.Closed.{Closed}
@@ -19,15 +19,15 @@ use Rattle.cyc_system_workers.specs.Lead.{Lead}
 use Rattle.cyc_system_rings.specs.Leading.{LeadCall, Make}
 
 -- the raises of an id at the two ends of a CPU since their rings were opened, and those that were lost
-abbrev pub raised_on : ℕ → CpuView RaiseEnd → ℕ
-raised_on id cpu = raises_of id (raise_trail cpu.lock.seat) + raises_of id (raise_trail cpu.low.seat)
+abbrev pub raised_at_ends : ℕ → CpuView RaiseEnd → ℕ
+raised_at_ends id cpu = raises_of id (raise_trail cpu.lock.seat) + raises_of id (raise_trail cpu.low.seat)
 
 abbrev pub dropped_on : ℕ → CpuView RaiseEnd → ℕ
-dropped_on id cpu = losses_of id (raise_trail cpu.lock.seat) + losses_of id (raise_trail cpu.low.seat)
+dropped_on id cpu = losses_on_trail id (raise_trail cpu.lock.seat) + losses_on_trail id (raise_trail cpu.low.seat)
 
 -- on all CPUs
 abbrev pub all_raised : ℕ → SystemView RaiseEnd → ℕ
-all_raised id s = sum_by (raised_on id) s.cpus.cpus
+all_raised id s = sum_by (raised_at_ends id) s.cpus.cpus
 
 abbrev pub all_dropped : ℕ → SystemView RaiseEnd → ℕ
 all_dropped id s = sum_by (dropped_on id) s.cpus.cpus
@@ -44,13 +44,13 @@ receipt_of id (Make (BeginRemove own (Ok (Done receipt)))) = cond (own == id) (S
 receipt_of id (Make (PollRemove own (Ok (Some receipt)))) = cond (own == id) (Some receipt) None
 receipt_of id call = None
 
-abbrev pub first_of : {A : Type 0} → Option A → Option A → Option A
-first_of None later = later
-first_of (Some x) later = Some x
+abbrev pub first_ring : {A : Type 0} → Option A → Option A → Option A
+first_ring None later = later
+first_ring (Some x) later = Some x
 
 abbrev pub receipt_in : ℕ → List LeadCall → Option Receipt
 receipt_in id [] = None
-receipt_in id (call ∷ way) = first_of (receipt_of id call) (receipt_in id way)
+receipt_in id (call ∷ way) = first_ring (receipt_of id call) (receipt_in id way)
 
 -- its counts: those of the receipt where its removal has answered, else those that the system has of it on all CPUs
 abbrev pub counts_in : ℕ → List LeadCall → SystemView RaiseEnd → Sent
@@ -65,11 +65,11 @@ IsClosedOver e c =
     (closed_raises c ≡ raise_trail e.seat) × IsAccounted (closed_raises c) (drain_trail c.drain_seat.value)
 
 -- each CPU has settled, and its two rings were closed: by the numbers of the CPUs, the lock level's before the low level's
-abbrev pub AreClosed : List (CpuView RaiseEnd) → List Closed → Type 0
-AreClosed [] [] = ⊤
-AreClosed (x ∷ xs) (lock ∷ low ∷ rings) =
-    IsSettled end_view x × IsClosedOver x.lock lock × IsClosedOver x.low low × AreClosed xs rings
-AreClosed xs rings = ⊥
+abbrev pub AreSettledAndClosed : List (CpuView RaiseEnd) → List Closed → Type 0
+AreSettledAndClosed [] [] = ⊤
+AreSettledAndClosed (x ∷ xs) (lock ∷ low ∷ rings) =
+    IsSettled end_view x × IsClosedOver x.lock lock × IsClosedOver x.low low × AreSettledAndClosed xs rings
+AreSettledAndClosed xs rings = ⊥
 
 -- the calls of an id that the soft sides of all rings made
 abbrev pub all_made : ℕ → List Closed → ℕ

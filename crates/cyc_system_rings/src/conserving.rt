@@ -10,7 +10,7 @@ ghost use Rattle.cyc_system_laws.specs.Counts.{all_expired, all_lost};
 ghost use Rattle.cyc_system_laws.specs.Sound.{IsSound};
 ghost use Rattle.cyc_system_workers.specs.declared.side.SystemSide.{SystemSide};
 ghost use Rattle.cyc_system_rings.specs.Leading.{LeadCall, LeadSteps};
-ghost use Rattle.cyc_system_rings.specs.Rings.{all_raised, all_dropped, counted_by, counts_in, AreClosed, all_made};
+ghost use Rattle.cyc_system_rings.specs.Rings.{all_raised, all_dropped, counted_by, counts_in, AreSettledAndClosed, all_made};
 
 use cyc_types::Calls;
 
@@ -30,6 +30,6 @@ pub fn conserved_law<C: Calls>()
         → length s.leads.items ≡ length s.system.cpus.cpus
         → (counts_in id way t.system).lost + all_dropped id s.system ≡ all_lost id s.system + all_dropped id t.system }
     // Where all CPUs have settled and the rings are closed, each raise was made or lost.
-    ensures closed { (id : ℕ) (t : SystemView AnEnd) (rings : List Closed) → AreClosed t.cpus.cpus rings
+    ensures closed { (id : ℕ) (t : SystemView AnEnd) (rings : List Closed) → AreSettledAndClosed t.cpus.cpus rings
         → all_made id rings + all_dropped id t ≡ all_raised id t }
 {}

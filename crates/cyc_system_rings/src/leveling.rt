@@ -10,7 +10,7 @@ ghost use Rattle.cyc_ring.specs.declared.closed.Closed.{Closed};
 ghost use Rattle.cyc_system_laws.specs.System.{SystemView};
 ghost use Rattle.cyc_system_workers.specs.declared.side.SystemSide.{SystemSide};
 ghost use Rattle.cyc_system_rings.specs.Leading.{LeadCall};
-ghost use Rattle.cyc_system_rings.specs.Rings.{counted_by, counts_in, AreClosed};
+ghost use Rattle.cyc_system_rings.specs.Rings.{counted_by, counts_in, AreSettledAndClosed};
 ghost use Rattle.cyc_system_rings.specs.ByLevel.{level_in, is_own, counts_at, raised_at, dropped_at, rings_of, made_at};
 ghost use Rattle.cyc_system_rings.specs.ByLevel.{AreServed, LeadsFromNew, HasNewEnds};
 
@@ -48,22 +48,22 @@ pub fn conserved_by_level_law<C: Calls>()
 ///
 /// It does nothing when it runs: its clauses are the law.
 pub fn served_by_level_law<C: Calls>()
-    ensures closed { (id : ℕ) (soft : Level) (t : SystemView AnEnd) (rings : List Closed) → AreClosed t.cpus.cpus rings
+    ensures closed { (id : ℕ) (soft : Level) (t : SystemView AnEnd) (rings : List Closed) → AreSettledAndClosed t.cpus.cpus rings
         → made_at soft id rings + dropped_at soft id t ≡ raised_at soft id t }
     ensures made { (id : ℕ) (soft : Level) (s t : SystemSide AnEnd C) (way : List LeadCall) (rings : List Closed)
-        → LeadsFromNew C.Calls s way t → HasNewEnds s.system → AreClosed t.system.cpus.cpus rings
+        → LeadsFromNew C.Calls s way t → HasNewEnds s.system → AreSettledAndClosed t.system.cpus.cpus rings
         → made_at soft id rings + (counts_at (as_level soft) id way t.system).lost
         ≡ (counts_at (as_level soft) id way t.system).sent }
     ensures served { (id : ℕ) (soft : Level) (s t : SystemSide AnEnd C) (way : List LeadCall) (rings : List Closed)
         (before after : List C) → LeadsFromNew C.Calls s way t → HasNewEnds s.system
-        → AreClosed t.system.cpus.cpus rings
+        → AreSettledAndClosed t.system.cpus.cpus rings
         → AreServed (at_level C.called (as_level soft)) C.count (rings_of soft rings) before after
         → sum_by (λ c. C.count c id) after + (counts_at (as_level soft) id way t.system).lost
         ≡ sum_by (λ c. C.count c id) before + (counts_at (as_level soft) id way t.system).sent }
     // No handlers of this level were called for an id of another.
     ensures uncalled { (id : ℕ) (soft : Level) (s t : SystemSide AnEnd C) (way : List LeadCall) (rings : List Closed)
         (before after : List C) → LeadsFromNew C.Calls s way t → HasNewEnds s.system
-        → AreClosed t.system.cpus.cpus rings
+        → AreSettledAndClosed t.system.cpus.cpus rings
         → AreServed (at_level C.called (as_level soft)) C.count (rings_of soft rings) before after
         → is_own (as_level soft) (level_in id way) ≡ false
         → map (λ c. C.count c id) after ≡ map (λ c. C.count c id) before }

@@ -4,10 +4,10 @@ ghost use Rattle.cyc_ring.specs.Ends.{IsRaiseSeatOf, IsDrainSeatOf, raise_trail,
 ghost use Rattle.cyc_cpu.specs.Cpu.{IsFresh};
 
 use crate::help::{id, two};
-use cyc_ring::{DrainEnd, DrainSeat, RaiseEnd, RaiseSeat, Ring};
-use cyc_ring_soft::softint;
+use cyc_agreement::{SystemRemoval, SystemTotals};
+use cyc_ring::{DrainEnd, DrainSeat, RaiseEnd, RaiseSeat, Ring, softint};
 use cyc_soft::Ran;
-use cyc_system::{CpuOrOmni, System, SystemRemoval, SystemTotals, away_law};
+use cyc_system::{CpuOrOmni, System, away_law};
 use cyc_types::{
     Ceiling, CyclicId, JuggleReport, Level, Moment, Raise, Refusal, Soft, Tally, When,
 };

@@ -1,9 +1,11 @@
 //! Calls of a system as values, so that a worked row is a table.
 
 use crate::help::{id, of_one_cpu, of_two_cpus};
+use cyc_agreement::{SystemRemoval, SystemTotals};
 use cyc_core::LevelCore;
 use cyc_soft::{Ran, SoftRefused};
-use cyc_system::{CpuOrOmni, FireRefused, Fired, SoftFault, System, SystemRemoval, SystemTotals};
+use cyc_system::{CpuOrOmni, SoftFault, System};
+use cyc_timers::{FireRefused, Fired};
 use cyc_types::{CyclicId, JuggleReport, Level, Moment, Receipt, Refusal, Soft, When};
 use std::alloc::Global;
 use std::process::Abort;

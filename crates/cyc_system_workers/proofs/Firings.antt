@@ -12,7 +12,7 @@ use Rattle.cyc_timers.specs.declared.fire.Fired.{Fired}
 use Rattle.cyc_timers.specs.declared.fire.FireRefused.{FireRefused}
 use Rattle.cyc_types.specs.Reasons.{first_refusal, when}
 use Rattle.cyc_cpu.specs.Cpu.{CpuView, Running, running}
-use Rattle.cyc_cpu.specs.Calls.{Does, Fire, no_interrupts}
+use Rattle.cyc_cpu.specs.Calls.{CpuDoes, Fire, no_interrupts}
 use Rattle.cyc_agreement.specs.Cpus.{numbers_from}
 use Rattle.cyc_places.specs.declared.record.Record.{Record}
 use Rattle.cyc_system.specs.Agreement.{Agrees}
@@ -55,7 +55,7 @@ module _ {C R : Type 0} (handler : Calls C)
   fires_one : (pre xs : List (CpuView R)) (x y : CpuView R) (l m : Lead C) (answer : Result Fired FireRefused)
       → slice_get online (length pre) ≡ Some true →
       slice_get leads (length pre) ≡ Some l → slice_get leads' (length pre) ≡ Some m →
-      Does handler firing no_interrupts (running l.calls x) (Fire now answer) (running m.calls y) →
+      CpuDoes handler firing no_interrupts (running l.calls x) (Fire now answer) (running m.calls y) →
       D (sys (pre ++ x ∷ xs)) (record { cpu = length pre; answer = answer }) (sys (pre ++ y ∷ xs))
   fires_one pre xs x y l m answer up l_is m_is does =
       let n = length pre in let s = sys (pre ++ x ∷ xs) in

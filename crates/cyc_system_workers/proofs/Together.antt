@@ -10,7 +10,7 @@ use Rattle.cyc_timers.specs.declared.fire.Fired.{Fired}
 use Rattle.cyc_timers.specs.declared.fire.FireRefused.{FireRefused}
 use Rattle.cyc_cpu.specs.Cpu.{CpuView, Running, running}
 use Rattle.cyc_cpu.specs.Laws.{IsLawful}
-use Rattle.cyc_cpu.specs.Calls.{Does, Fire, no_interrupts}
+use Rattle.cyc_cpu.specs.Calls.{CpuDoes, Fire, no_interrupts}
 use Rattle.cyc_agreement.proofs.Spots.{get_some}
 use Rattle.cyc_system.specs.Splitting.{ComesBack}
 use Rattle.cyc_workers.specs.declared.settling.Lead.{Lead}
@@ -43,7 +43,7 @@ module _ {C R : Type 0} (handler : Calls C) (firing : Raise R) (now : ℕ) where
       ((x : CpuView R) → ComesBack firing.view x x) →
       ((s t : Running C R) (now : ℕ) (answer : Result Fired FireRefused) → IsLawful firing.view s.cpu → IsLawful firing.view t.cpu
       →
-      Does handler firing no_interrupts s (Fire now answer) t → ComesBack firing.view s.cpu t.cpu) →
+      CpuDoes handler firing no_interrupts s (Fire now answer) t → ComesBack firing.view s.cpu t.cpu) →
       IsLawful firing.view s.cpu → IsLawful firing.view t.cpu → FiresIf handler firing (moment_asked up now) s answer t
       → ComesBack firing.view s.cpu t.cpu
   back_if true s t (Some answer) same fired law law' f = fired s t now answer law law' f
@@ -57,7 +57,7 @@ module _ {C R : Type 0} (handler : Calls C) (firing : Raise R) (now : ℕ) where
       ((x : CpuView R) → ComesBack firing.view x x) →
       ((s t : Running C R) (now : ℕ) (answer : Result Fired FireRefused) → IsLawful firing.view s.cpu → IsLawful firing.view t.cpu
       →
-      Does handler firing no_interrupts s (Fire now answer) t → ComesBack firing.view s.cpu t.cpu) →
+      CpuDoes handler firing no_interrupts s (Fire now answer) t → ComesBack firing.view s.cpu t.cpu) →
       (n : ℕ) (x y : CpuView R) → slice_get (map (λ (l : Lane R C). l.hard) lanes) n ≡ Some x
       → slice_get (map (λ (l : LaneAfter R C). l.hard) after) n ≡ Some y →
       ComesBack firing.view x y

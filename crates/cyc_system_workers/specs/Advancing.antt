@@ -7,7 +7,7 @@ use Rattle.cyc_timers.specs.declared.fire.Fired.{Fired}
 use Rattle.cyc_timers.specs.declared.fire.FireRefused.{FireRefused}
 use Rattle.cyc_cpu.specs.Cpu.{CpuView, Running, running}
 use Rattle.cyc_cpu.specs.Laws.{IsLawful}
-use Rattle.cyc_cpu.specs.Calls.{Does, Fire, no_interrupts}
+use Rattle.cyc_cpu.specs.Calls.{CpuDoes, Fire, no_interrupts}
 use Rattle.cyc_workers.specs.declared.settling.Lead.{Lead}
 use Rattle.cyc_system_workers.specs.declared.side.SystemSide.{SystemSide}
 use Rattle.cyc_system_workers.specs.declared.lanes.Lane.{Lane}
@@ -22,7 +22,7 @@ moment_asked false now = None
 -- what becomes of a CPU and its handlers: where it is asked to fire it does, with this answer, and else it is as it was
 abbrev pub FiresIf : {C R : Type 0} → Calls C → Raise R
     → Option ℕ → Running C R → Option (Result Fired FireRefused) → Running C R → Type 0
-FiresIf handler firing (Some now) s (Some answer) t = Does handler firing no_interrupts s (Fire now answer) t
+FiresIf handler firing (Some now) s (Some answer) t = CpuDoes handler firing no_interrupts s (Fire now answer) t
 FiresIf handler firing (Some now) s None t = ⊥
 FiresIf handler firing None s (Some answer) t = ⊥
 FiresIf handler firing None s None t = t ≡ s

@@ -2,7 +2,8 @@
 
 ghost use Rattle.std.specs.Prelude.{◌≡◌, map, length, IfOk};
 
-use cyc_cpu::{FireRefused, Fired, Hard};
+use cyc_cpu::Hard;
+use cyc_timers::{FireRefused, Fired};
 use cyc_types::Raise;
 use cyc_workers::Lead;
 use std::alloc::{AllocError, Global};

@@ -9,8 +9,6 @@ mod settling;
 mod side;
 
 pub use advancing::{Advanced, advance};
-pub use cyc_system::{System, SystemRemoval, SystemTotals};
-pub use cyc_workers::{Lead, Signals};
 pub use lanes::{Lane, LaneAfter};
 pub use laws::advance_law;
 pub use settling::{Asked, settle};

@@ -4,7 +4,7 @@ ghost use Rattle.std.specs.Prelude.{◌≡◌, ◌≤◌, IsErrAnd};
 ghost use Rattle.std.specs.IoError.{error_kind};
 ghost use Rattle.std.specs.Io.{WritesAtMost};
 ghost use Rattle.std.specs.Io.KnownBytes.{WriteAppends};
-ghost use Rattle.cyc_text.specs.Turns.{most_turns, turn_after};
+ghost use Rattle.cyc_text.specs.Turns.{most_write_turns, write_turn_after};
 
 use std::io;
 use std::io::ErrorKind;
@@ -39,8 +39,8 @@ impl<W: io::Write> io::Write for BoundedWriter<W> {
     fn write(&mut self, buf: &[u8]) -> io::Result<usize>
         ensures bound { WritesAtMost result buf.now }
         ensures bytes { WriteAppends (W.contents self.old.writer) (W.contents self.new.writer) result buf.now }
-        ensures turn { self.new.turns ≡ turn_after self.old.turns }
-        ensures spent { self.old.turns ≡ most_turns
+        ensures turn { self.new.turns ≡ write_turn_after self.old.turns }
+        ensures spent { self.old.turns ≡ most_write_turns
             → (self.new.writer ≡ self.old.writer) × IsErrAnd result (λ e. error_kind e ≡ ErrorKind.TimedOut) }
     {
         if self.turns == MOST_TURNS {

@@ -1,5 +1,5 @@
-//! The lines that a replay of a script writes, what takes their bytes, and the faults of a run and of the program, with their exit
-//! status.
+//! The lines that a replay of a script writes, what takes their bytes, and the faults of a run and of the program, with their
+//! exit status.
 #![tactic(auto)]
 
 mod bounded;

@@ -22,14 +22,15 @@ use Rattle.cyc_threads.specs.System.{SystemView}
 use Rattle.cyc_threads.specs.Calls.{Changes, Online, reprograms}
 use Rattle.cyc_threads.specs.Sound.{IsSound}
 use Rattle.cyc_system_rings.specs.Leading.{LeadCall, Make, FireAll, AskAll}
-use Rattle.cyc_threads.specs.declared.named.Named.{Named}
-use Rattle.cyc_threads.specs.declared.named.Named.TheVariants.{Nothing, Cyclic, Leaving, Removed}
+use Rattle.cyc_words.specs.declared.named.Named.{Named}
+use Rattle.cyc_words.specs.declared.named.Named.TheVariants.{Nothing, Cyclic, Leaving, Removed}
 use Rattle.cyc_threads.specs.declared.progress.Progress.{Progress}
 use Rattle.cyc_threads.specs.StepCalls.{CallsFor}
-use Rattle.cyc_threads.specs.Names.{named_at, id_of, is_leaving, NoneLeaves}
-use Rattle.cyc_threads.specs.Words.{Does, WithId}
+use Rattle.cyc_words.specs.Names.{named_at, cyclic_id, has_open_removal, NoneLeaves}
+use Rattle.cyc_words.specs.Words.{WithId}
+use Rattle.cyc_threads.specs.Words.{DoesStep}
 use Rattle.cyc_thread_calls.specs.Leading.{call_with}
-use Rattle.cyc_thread_calls.specs.Meeting.{accepted, is_taken as is_done}
+use Rattle.cyc_thread_calls.specs.Meeting.{was_accepted, is_taken as is_done}
 use Rattle.cyc_thread_calls.specs.Way.{Standing, Absent, OnOne, OnAll, may_reprogram, is_taken, after_step}
 use Rattle.cyc_thread_calls.specs.Memory.{NoMemoryRefused}
 use Rattle.cyc_thread_calls.proofs.Keeping.{AllStill}
@@ -96,12 +97,12 @@ module _ {C R : Type 0} (firing : Raise R) (cpus names given : ℕ)
     (has : ℕ → Standing) where
   -- a reprogram is accepted as the closed form says, where the name has this
   reprogram_met : (name moment : ℕ) (cpu : Option ℕ) (st : Standing) (named : Named) (s t : Progress R C)
-      (d : WithId (id_of named) (λ id. (answer : Result (Unit {0}) Refusal)
+      (d : WithId (cyclic_id named) (λ id. (answer : Result (Unit {0}) Refusal)
       × CallsFor firing name (reprograms cpu id moment answer) s t) (t ≡ s))
-      → Is st named s.side.system → is_leaving named ≡ false → Fits firing cpus names given has s → HasWaited firing s
+      → Is st named s.side.system → has_open_removal named ≡ false → Fits firing cpus names given has s → HasWaited firing s
       → AllStill s.side.system.cpus
       → option_map_or is_done (call_with firing (Unit {0}) (λ id answer. reprograms cpu id moment answer) name s t
-      (id_of named) d) false ≡ may_reprogram cpus st cpu
+      (cyclic_id named) d) false ≡ may_reprogram cpus st cpu
   reprogram_met name moment cpu Absent Nothing s t d is stays h w still = refl
   reprogram_met name moment cpu Absent (Removed receipt) s t d is stays h w still = refl
   reprogram_met name moment cpu Absent (Leaving id) s t d is stays h w still = absurd (let odd : true ≡ false = stays in cc)
@@ -169,8 +170,8 @@ module _ {C R : Type 0} (handler : Calls C)
     (firing : Raise R) (cpus names : ℕ) (few : names ≤ most_cyclics) (suspended : Bool) where
   -- a word that leaves what the names have, and is met so
   pub stays_next : (given : ℕ) (has : ℕ → Standing) (x : Step) (s t : Progress R C)
-      (d : Does handler firing x s t) → names_after given x ≡ given → after_step x has ≡ has
-      → OnlyMoves x ⊎ (accepted handler firing x s t d ≡ is_taken cpus suspended has x)
+      (d : DoesStep handler firing x s t) → names_after given x ≡ given → after_step x has ≡ has
+      → OnlyMoves x ⊎ (was_accepted handler firing x s t d ≡ is_taken cpus suspended has x)
       → Stays firing cpus names given has s t
       → NextCalm handler firing cpus names few suspended given has x s t d
   stays_next given has x s t d none same agree stays = record {
@@ -185,7 +186,7 @@ module _ {C R : Type 0} (handler : Calls C)
   }
 
   pub reprogram_next : (given : ℕ) (has : ℕ → Standing) (r : ReprogramStep) (s t : Progress R C)
-      (d : Does handler firing (steps.Reprogram r) s t) → Fits firing cpus names given has s
+      (d : DoesStep handler firing (steps.Reprogram r) s t) → Fits firing cpus names given has s
       → HasWaited firing s → NextCalm handler firing cpus names few suspended given has (steps.Reprogram r) s t d
   reprogram_next given has r s t (inl (moment, is, d)) h w =
       let q = waited_calm firing s w in
@@ -193,7 +194,7 @@ module _ {C R : Type 0} (handler : Calls C)
       (inr (reprogram_met firing cpus names given has r.name moment r.cpu (has r.name) (named_at s.names r.name) s t d
       (h.each r.name) (w.none r.name) h w q.still
       ∙ (λ i. sym (moment_of r.moment moment is) i && may_reprogram cpus (has r.name) r.cpu)))
-      (reprogrammed_stays firing cpus names given has r.name moment r.cpu s t (id_of (named_at s.names r.name)) d h)
+      (reprogrammed_stays firing cpus names given has r.name moment r.cpu s t (cyclic_id (named_at s.names r.name)) d h)
   reprogram_next given has r s t (inr (number, same)) h w =
       stays_next given has (steps.Reprogram r) s t (inr (number, same)) refl refl
       (inr (λ i. sym (no_moment_of r.moment number) i && may_reprogram cpus (has r.name) r.cpu))

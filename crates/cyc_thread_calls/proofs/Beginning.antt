@@ -18,10 +18,10 @@ use Rattle.cyc_threads.proofs.Spots.{none_some, same_some}
 use Rattle.cyc_threads.specs.Lead.{Lead}
 use Rattle.cyc_threads.specs.Seated.{Seated}
 use Rattle.cyc_threads.specs.Rings.{seats_of_ends, firing_seats}
-use Rattle.cyc_threads.specs.declared.named.Named.{Named}
-use Rattle.cyc_threads.specs.declared.named.Named.TheVariants.{Nothing}
+use Rattle.cyc_words.specs.declared.named.Named.{Named}
+use Rattle.cyc_words.specs.declared.named.Named.TheVariants.{Nothing}
 use Rattle.cyc_threads.specs.declared.progress.Progress.{Progress}
-use Rattle.cyc_threads.specs.Names.{named_at, id_of, is_leaving}
+use Rattle.cyc_words.specs.Names.{named_at, cyclic_id, has_open_removal}
 use Rattle.cyc_threads.specs.Running.{IsAtFirst, most}
 use Rattle.cyc_thread_calls.specs.Way.{Absent}
 use Rattle.cyc_thread_calls.proofs.Fitting.{Is, Fits}
@@ -76,13 +76,13 @@ module _ {C : Type 0} (names cpus : ℕ) (all : List (Seated C)) (p : Progress R
     many = cpus_long;
     ready = leads_long ∙ sym cpus_long;
     each = λ a. subst (λ (z : Named). Is Absent z p.side.system) (sym (nothing_at a)) tt;
-    ids = λ a id e. absurd (none_some (sym (ap id_of (nothing_at a)) ∙ e));
-    own = λ a b id e f. absurd (none_some (sym (ap id_of (nothing_at a)) ∙ e));
+    ids = λ a id e. absurd (none_some (sym (ap cyclic_id (nothing_at a)) ∙ e));
+    own = λ a b id e f. absurd (none_some (sym (ap cyclic_id (nothing_at a)) ∙ e));
   }
 
   pub first_calm : IsCalmNow raise_end p
   first_calm = record {
-    none = λ a. ap is_leaving (nothing_at a);
+    none = λ a. ap has_open_removal (nothing_at a);
     still = λ n x at. new_still first.ends n x
         (sym (ap (λ (v : CpusView RaiseEnd). slice_get v.cpus n) first.cpus) ∙ at);
   }

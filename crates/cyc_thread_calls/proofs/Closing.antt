@@ -24,7 +24,7 @@ use Rattle.cyc_threads.specs.Seats.{Seats}
 use Rattle.cyc_threads.specs.SystemSide.{SystemSide}
 use Rattle.cyc_threads.specs.Sound.{IsSound}
 use Rattle.cyc_system_rings.specs.Leading.{LeadCall, Make, FireAll, AskAll, LeadSteps}
-use Rattle.cyc_system_rings.specs.Rings.{AreClosed, IsClosedOver, counted_by}
+use Rattle.cyc_system_rings.specs.Rings.{AreSettledAndClosed, IsClosedOver, counted_by}
 use Rattle.cyc_system_rings.specs.ByLevel.{counts_at, made_at, rings_of, AreServed, LeadsFromNew, HasNewEnds}
 use Rattle.cyc_system_rings.proofs.AtRings.{at_level as each_level, high_keeps, made_of, served_of}
 use Rattle.cyc_system_rings.specs.Events.{AcceptedSteps}
@@ -36,7 +36,7 @@ use Rattle.cyc_threads.proofs.Quiet.{lines_quiet}
 use Rattle.cyc_threads.specs.declared.running.Ended.{Ended}
 use Rattle.cyc_threads.specs.Running.{HasRun, HaveServed}
 use Rattle.cyc_threads.proofs.Playing.{each_same}
-use Rattle.cyc_thread_calls.specs.Calling.{calls_at, lead_calls}
+use Rattle.cyc_thread_calls.specs.Calling.{calls_at_level, lead_calls}
 use Rattle.cyc_thread_calls.proofs.Going.{all_go}
 use Rattle.cyc_thread_calls.proofs.Lining.{run_rests}
 use Rattle.cyc_thread_calls.proofs.Starting.{new_trails, is_new, first_ready, first_sound}
@@ -54,7 +54,7 @@ module _ {C : Type 0} where
   closed_all : (xs : List (CpuView RaiseEnd)) (all : List (Seated C)) (rings : List (Levels Closed))
       → EachTwo (λ (s : Seated C) y. firing_seats s ≡ seats_on y) all xs
       → ((n : ℕ) (y : CpuView RaiseEnd) → slice_get xs n ≡ Some y → IsSettled end_view y)
-      → EachTwo AreLeft (map (λ (s : Seated C). s.seats) all) rings → AreClosed xs (flat_map two rings)
+      → EachTwo AreLeft (map (λ (s : Seated C). s.seats) all) rings → AreSettledAndClosed xs (flat_map two rings)
   closed_all [] [] [] same settled left = tt
   closed_all [] [] (c ∷ rings) same settled left = absurd left
   closed_all [] (s ∷ all) rings same settled left = absurd same
@@ -157,8 +157,8 @@ module _ {C : Type 0} (handler : Calls C) where
                 (x : CpuView RaiseEnd). raise_trail x.low.seat) is ∙ b,
           )
 
-      pub run_closed : AreClosed r.played.told.side.system.cpus.cpus e.rings.items
-      run_closed = subst (λ (l : List Closed). AreClosed r.played.told.side.system.cpus.cpus l) (sym r.closed.laid)
+      pub run_closed : AreSettledAndClosed r.played.told.side.system.cpus.cpus e.rings.items
+      run_closed = subst (λ (l : List Closed). AreSettledAndClosed r.played.told.side.system.cpus.cpus l) (sym r.closed.laid)
           (closed_all r.played.told.side.system.cpus.cpus r.after r.closed.by_cpu
           (each_same firing_seats seats_on r.after r.played.told.side.system.cpus.cpus r.played.ends.firing)
           (lines_quiet raise_end r.played.reports.all r.played.last r.played.told r.played.reports.tells
@@ -175,14 +175,14 @@ module _ {C : Type 0} (handler : Calls C) where
 
       high_led : (id : ℕ) (all : List (Seated C)) (s : SystemSide RaiseEnd C)
           → map (λ l. l.calls) s.leads.items ≡ map (λ (x : Seated C). x.calls.high) all
-          → counted_by handler.count id s.leads.items ≡ calls_at handler.count High id all
+          → counted_by handler.count id s.leads.items ≡ calls_at_level handler.count High id all
       high_led id all s same = sum_mapped (λ l. l.calls) (λ c. handler.count c id) s.leads.items
           ∙ ap (λ l. sum_by (λ c. handler.count c id) l) same
 
       -- the calls of an id that the handlers of a level had
-      pub handlers_called : (level : Level) (id : ℕ) → calls_at handler.count level id r.after
+      pub handlers_called : (level : Level) (id : ℕ) → calls_at_level handler.count level id r.after
           + (counts_at level id way r.played.told.side.system).lost
-          ≡ calls_at handler.count level id r.before + (counts_at level id way r.played.told.side.system).sent
+          ≡ calls_at_level handler.count level id r.before + (counts_at level id way r.played.told.side.system).sent
       handlers_called High id =
           let a = (each_level handler id r.played.first.side r.played.told.side way from_new High).0 in
           let b = high_keeps handler id r.played.first.side r.played.told.side way from_new in

@@ -21,9 +21,9 @@ use Rattle.cyc_system_rings.specs.ByLevel.{level_in, counts_at, is_own}
 use Rattle.cyc_system_rings.proofs.AtRings.{high_keeps, none_given}
 use Rattle.cyc_threads.specs.declared.counting.Line.{Line}
 use Rattle.cyc_threads.specs.declared.running.Ended.{Ended}
-use Rattle.cyc_threads.specs.Reporting.{counts_of}
+use Rattle.cyc_threads.specs.Reporting.{counts_told}
 use Rattle.cyc_threads.specs.Running.{HasRun}
-use Rattle.cyc_thread_calls.specs.Calling.{calls_at, lead_calls, last_system, id_of_name}
+use Rattle.cyc_thread_calls.specs.Calling.{calls_at_level, lead_calls, last_system, id_of_name}
 use Rattle.cyc_thread_calls.specs.Lines.{line_in}
 use Rattle.cyc_thread_calls.proofs.Lining.{as_many, each_line}
 use Rattle.cyc_thread_calls.proofs.Closing.{from_new, rings_made, handlers_called}
@@ -115,27 +115,29 @@ module _ {C : Type 0} (handler : Calls C) (script : Script)
           omega (arith, few, a, b)
 
   pub line_called : (name id : ℕ) (level : Level) (line : Line) → slice_get r.lines name ≡ Some line → id_named name ≡ Some id
-      → level_in id way ≡ Some level → calls_at handler.count level id r.after ≡ calls_at handler.count level id r.before +
-      (counts_of line).called
+      → level_in id way ≡ Some level → calls_at_level handler.count level id r.after ≡ calls_at_level handler.count level id
+      r.before +
+      (counts_told line).called
   line_called name id level line at given known =
       let is = line_is name line at ∙ ap (λ o. line_in o way last) given in
       let same = own_counts id way last level known in
       let a = handlers_called handler script calls e text r level id in
       let b = ap (λ (l : Line). l.lost) is in let c = ap (λ (l : Line). l.expired) is in
       let p = ap (λ (x : Sent). x.lost) same in let q = ap (λ (x : Sent). x.sent) same in
-      less_by (calls_at handler.count level id r.after) (calls_at handler.count level id r.before) line.expired line.lost
+      less_by (calls_at_level handler.count level id r.after) (calls_at_level handler.count level id r.before) line.expired
+      line.lost
       (omega (arith, a, b, c, p, q)) (line_few name line at)
 
   at_none : (level : Level) (id : ℕ) → counts_at level id way last ≡ no_counts
-      → calls_at handler.count level id r.after ≡ calls_at handler.count level id r.before
+      → calls_at_level handler.count level id r.after ≡ calls_at_level handler.count level id r.before
   at_none level id none =
       let a = handlers_called handler script calls e text r level id in
       let p = ap (λ (x : Sent). x.lost) none in let q = ap (λ (x : Sent). x.sent) none in omega (arith, a, p, q)
 
   pub none_elsewhere : (id : ℕ) (level other : Level) → level_in id way ≡ Some level → other ≢ level
-      → calls_at handler.count other id r.after ≡ calls_at handler.count other id r.before
+      → calls_at_level handler.count other id r.after ≡ calls_at_level handler.count other id r.before
   none_elsewhere id level other known ne = at_none other id (other_counts id way last level other known ne)
 
   pub none_ungiven : (id : ℕ) (level : Level) → level_in id way ≡ None
-      → calls_at handler.count level id r.after ≡ calls_at handler.count level id r.before
+      → calls_at_level handler.count level id r.after ≡ calls_at_level handler.count level id r.before
   none_ungiven id level none = at_none level id (none_counts id way last level none)

@@ -15,15 +15,16 @@ use Rattle.cyc_threads.specs.SystemRemoval.{SystemRemoval}
 use Rattle.cyc_threads.specs.Calls.{SystemCall, Bind, BeginRemove, PollRemove, reprograms}
 use Rattle.cyc_system_rings.specs.Leading.{LeadCall, Make, FireAll, AskAll}
 use Rattle.cyc_system_rings.specs.Events.{IsBeforeNever}
-use Rattle.cyc_threads.specs.declared.named.Named.{Named}
-use Rattle.cyc_threads.specs.declared.named.Named.TheVariants.{Nothing, Cyclic, Leaving, Removed}
+use Rattle.cyc_words.specs.declared.named.Named.{Named}
+use Rattle.cyc_words.specs.declared.named.Named.TheVariants.{Nothing, Cyclic, Leaving, Removed}
 use Rattle.cyc_threads.specs.declared.progress.Progress.{Progress}
 use Rattle.cyc_threads.specs.declared.counting.Line.{Line}
-use Rattle.cyc_threads.specs.Names.{named_at, id_of}
+use Rattle.cyc_words.specs.Names.{named_at, cyclic_id}
 use Rattle.cyc_threads.specs.StepCalls.{CallsFor, Poll, Waits}
-use Rattle.cyc_threads.specs.Words.{WithId, Does, Begins, waits_first}
+use Rattle.cyc_words.specs.Words.{WithId}
+use Rattle.cyc_threads.specs.Words.{DoesStep, Begins, waits_first}
 use Rattle.cyc_threads.specs.Steps.{TakesSteps, Runs}
-use Rattle.cyc_threads.specs.Counting.{Told, Tells, TellsOf, Reports}
+use Rattle.cyc_threads.specs.Counting.{NameLine, Tells, TellsOf, Reports}
 use Rattle.cyc_thread_calls.specs.Leading.{calls_in, poll_calls, wait_calls, begin_calls, call_with, call_of, steps_calls}
 use Rattle.cyc_thread_calls.specs.Leading.{told_calls_of, told_calls, all_calls}
 use Rattle.cyc_thread_calls.proofs.Rising.{and_left, and_right}
@@ -68,22 +69,22 @@ module _ {C R : Type 0} (handler : Calls C) (firing : Raise R) where
   with_early Answer call name s t (Some own) (answer, did) early = one_early (Make (call own answer)) (early own answer)
   with_early Answer call name s t None e early = none_late
 
-  does_early : (now : ℕ) (x : Step) (s t : Progress R C) (d : Does handler firing x s t)
+  does_early : (now : ℕ) (x : Step) (s t : Progress R C) (d : DoesStep handler firing x s t)
       → moment_fits now x ≡ true → AreEarly (calls_in (call_of handler firing x s t d))
   does_early now (steps.Add a) s t (inl (when, starts, lasts, long, (answer, did))) fits = one_early _ tt
   does_early now (steps.Add a) s t (inr (bad, e)) fits = none_late
   does_early now (steps.Omni a) s t (inl (when, starts, lasts, long, (answer, did))) fits = one_early _ tt
   does_early now (steps.Omni a) s t (inr (bad, e)) fits = none_late
   does_early now (steps.Bind b) s t d fits = with_early (Unit {0}) (λ id answer. Bind id (Some b.cpu) answer) b.name s t
-      (id_of (named_at s.names b.name)) d (λ own answer. tt)
+      (cyclic_id (named_at s.names b.name)) d (λ own answer. tt)
   does_early now (steps.Unbind name) s t d fits = with_early (Unit {0}) (λ id answer. Bind id None answer) name s t
-      (id_of (named_at s.names name)) d (λ own answer. tt)
+      (cyclic_id (named_at s.names name)) d (λ own answer. tt)
   does_early now (steps.Reprogram r) s t (inl (moment, is, d)) fits =
-      with_early (Unit {0}) (λ id answer. reprograms r.cpu id moment answer) r.name s t (id_of (named_at s.names r.name)) d
+      with_early (Unit {0}) (λ id answer. reprograms r.cpu id moment answer) r.name s t (cyclic_id (named_at s.names r.name)) d
       (λ own answer. set_early r.cpu own moment answer)
   does_early now (steps.Reprogram r) s t (inr (bad, e)) fits = none_late
   does_early now (steps.Remove name) s t d fits = with_early SystemRemoval (λ id answer. BeginRemove id answer) name s t
-      (id_of (named_at s.names name)) d (λ own answer. tt)
+      (cyclic_id (named_at s.names name)) d (λ own answer. tt)
   does_early now (steps.Advance moment) s t (inl suspended) fits = none_late
   does_early now (steps.Advance moment) s t (inr d) fits =
       let below = and_right (nat_le now moment) (nat_lt moment never) fits in
@@ -114,7 +115,7 @@ module _ {C R : Type 0} (handler : Calls C) (firing : Raise R) where
   line_early (Leaving own) line s t (answer, did, is) = one_early _ tt
   line_early (Removed receipt) line s t w = none_late
 
-  lines_early : (all : List Told) (s t : Progress R C) (w : FoldsTo (Tells firing) s all t)
+  lines_early : (all : List NameLine) (s t : Progress R C) (w : FoldsTo (Tells firing) s all t)
       → AreEarly (told_calls firing all s t w)
   lines_early [] s t w = none_late
   lines_early (one ∷ all) s t (u, tells, rest) = both_early (told_calls_of firing one.named one.line s u tells)

@@ -26,12 +26,12 @@ use Rattle.cyc_threads.specs.Calls.{Changes, BeginRemove}
 use Rattle.cyc_threads.specs.SystemSide.{SystemSide}
 use Rattle.cyc_threads.specs.Advanced.{Advanced}
 use Rattle.cyc_threads.specs.Advancing.{AllFire, moment_asked, FiresIf}
-use Rattle.cyc_threads.specs.declared.named.Named.{Named}
-use Rattle.cyc_threads.specs.declared.named.Named.TheVariants.{Nothing, Cyclic, Leaving, Removed}
+use Rattle.cyc_words.specs.declared.named.Named.{Named}
+use Rattle.cyc_words.specs.declared.named.Named.TheVariants.{Nothing, Cyclic, Leaving, Removed}
 use Rattle.cyc_threads.specs.declared.progress.Progress.{Progress}
 use Rattle.cyc_threads.specs.StepCalls.{CallsFor, Fires}
-use Rattle.cyc_threads.specs.Names.{named_at, id_of, is_leaving, NoneLeaves}
-use Rattle.cyc_threads.specs.Words.{WithId}
+use Rattle.cyc_words.specs.Names.{named_at, cyclic_id, has_open_removal, NoneLeaves}
+use Rattle.cyc_words.specs.Words.{WithId}
 use Rattle.cyc_thread_calls.specs.Leading.{call_with}
 use Rattle.cyc_thread_calls.specs.Meeting.{is_taken as is_done}
 use Rattle.cyc_thread_calls.specs.Way.{Standing, Absent, OnOne, OnAll, is_here, with_standing}
@@ -41,7 +41,7 @@ use Rattle.cyc_thread_calls.proofs.Fitting.{same_records}
 use Rattle.cyc_thread_calls.proofs.Waiting.{IsCalmNow}
 use Rattle.cyc_thread_calls.proofs.Moving.{none_removed}
 
-none_busy : {R : Type 0} (s : SystemView R) (ns : List ℕ) → AllStill s.cpus
+pub none_busy : {R : Type 0} (s : SystemView R) (ns : List ℕ) → AllStill s.cpus
     → first_refusal (map (λ (n : ℕ). busy (removal_on n s.cpus)) ns) ≡ None
 none_busy s [] still = refl
 none_busy s (n ∷ ns) still = passes (busy (removal_on n s.cpus)) (map (λ (m : ℕ). busy (removal_on m s.cpus)) ns) None
@@ -59,21 +59,21 @@ module _ {C R : Type 0} (firing : Raise R) (cpus names given : ℕ)
       let g = begun_given firing id (Ok (Done receipt)) s.side.system t.side.system c.did in (
         refl,
         fits_set firing cpus names given has s t name (BeginRemove id (Ok (Done receipt))) c h g.online (Removed receipt)
-            Absent given (with_standing name Absent has) c.told (name_low s.names name id (ap id_of at))
+            Absent given (with_standing name Absent has) c.told (name_low s.names name id (ap cyclic_id at))
             (subst (λ (k : ℕ). k ≤ given) (sym g.last) h.few) tt (standing_here name Absent has)
             (λ other ne. standing_beside name other Absent has ne) (λ own e. absurd (none_some e))
-            (λ other own ne e touches. ne (h.own other name id (e ∙ ap Some (sym touches)) (ap id_of at))),
+            (λ other own ne e touches. ne (h.own other name id (e ∙ ap Some (sym touches)) (ap cyclic_id at))),
       )
   begun id everywhere (Ok (Kept kept)) s t c there at h still =
       let g = begun_given firing id (Ok (Kept kept)) s.side.system t.side.system c.did in (
         refl,
         fits_set firing cpus names given has s t name (BeginRemove id (Ok (Kept kept))) c h g.online (Leaving id)
-            Absent given (with_standing name Absent has) c.told (name_low s.names name id (ap id_of at))
+            Absent given (with_standing name Absent has) c.told (name_low s.names name id (ap cyclic_id at))
             (subst (λ (k : ℕ). k ≤ given) (sym g.last) h.few) tt (standing_here name Absent has)
             (λ other ne. standing_beside name other Absent has ne)
             (λ own e. (
-              subst (λ (k : ℕ). own ≤ k) (sym g.last) (h.ids name own (ap id_of at ∙ e)),
-              λ other ne there. ne (h.own other name own there (ap id_of at ∙ e)),
+              subst (λ (k : ℕ). own ≤ k) (sym g.last) (h.ids name own (ap cyclic_id at ∙ e)),
+              λ other ne there. ne (h.own other name own there (ap cyclic_id at ∙ e)),
             ))
             (λ other own ne e touches. touches),
       )
@@ -91,17 +91,19 @@ module _ {C R : Type 0} (firing : Raise R) (cpus names given : ℕ)
   Ended st b t = (b ≡ is_here st) × Fits firing cpus names given (cond (is_here st) (with_standing name Absent has) has) t
 
   abbrev removal_met : (named : Named) (s t : Progress R C)
-      → WithId (id_of named) (λ id. (answer : Result SystemRemoval Refusal) × CallsFor firing name (BeginRemove id answer) s t)
+      → WithId (cyclic_id named) (λ id. (answer : Result SystemRemoval Refusal)
+      × CallsFor firing name (BeginRemove id answer) s t)
       (t ≡ s)
       → Bool
   removal_met named s t d =
       option_map_or is_done (call_with firing SystemRemoval (λ id answer. BeginRemove id answer) name s t
-      (id_of named) d) false
+      (cyclic_id named) d) false
 
   removed : (st : Standing) (named : Named) (s t : Progress R C) → named_at s.names name ≡ named
-      → (d : WithId (id_of named) (λ id. (answer : Result SystemRemoval Refusal)
+      → (d : WithId (cyclic_id named) (λ id. (answer : Result SystemRemoval Refusal)
       × CallsFor firing name (BeginRemove id answer) s t) (t ≡ s))
-      → Is st named s.side.system → is_leaving named ≡ false → Fits firing cpus names given has s → AllStill s.side.system.cpus
+      → Is st named s.side.system → has_open_removal named ≡ false → Fits firing cpus names given has s
+      → AllStill s.side.system.cpus
       → Ended st (removal_met named s t d) t
   removed Absent Nothing s t at d is stays h still =
       (refl, subst (λ (p : Progress R C). Fits firing cpus names given has p) (sym d) h)
@@ -119,7 +121,7 @@ module _ {C R : Type 0} (firing : Raise R) (cpus names given : ℕ)
   removed OnAll (Removed receipt) s t at d is stays h still = absurd is
 
   pub remove_ended : (s t : Progress R C)
-      (d : WithId (id_of (named_at s.names name)) (λ id. (answer : Result SystemRemoval Refusal)
+      (d : WithId (cyclic_id (named_at s.names name)) (λ id. (answer : Result SystemRemoval Refusal)
       × CallsFor firing name (BeginRemove id answer) s t) (t ≡ s))
       → Fits firing cpus names given has s → IsCalmNow firing s
       → Ended (has name) (removal_met (named_at s.names name) s t d) t
@@ -166,9 +168,9 @@ module _ {C R : Type 0} (handler : Calls C)
     each = λ a. subst (λ ns. Is (has a) (named_at ns a) t.side.system) (sym f.names)
         (is_kept (has a) (named_at s.names a) s.side.system t.side.system
         (λ id e. same_records s.side.system t.side.system records id) (h.each a));
-    ids = λ a id e. subst (λ (k : ℕ). id ≤ k) (sym last) (h.ids a id (sym (ap (λ ns. id_of (named_at ns a)) f.names) ∙ e));
-    own = λ a b id e g. h.own a b id (sym (ap (λ ns. id_of (named_at ns a)) f.names) ∙ e)
-        (sym (ap (λ ns. id_of (named_at ns b)) f.names) ∙ g);
+    ids = λ a id e. subst (λ (k : ℕ). id ≤ k) (sym last) (h.ids a id (sym (ap (λ ns. cyclic_id (named_at ns a)) f.names) ∙ e));
+    own = λ a b id e g. h.own a b id (sym (ap (λ ns. cyclic_id (named_at ns a)) f.names) ∙ e)
+        (sym (ap (λ ns. cyclic_id (named_at ns b)) f.names) ∙ g);
   }
     where
       records : t.side.system.records ≡ s.side.system.records

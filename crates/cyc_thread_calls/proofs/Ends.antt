@@ -11,10 +11,10 @@ use Rattle.cyc_timers.specs.declared.fire.Fired.{Fired}
 use Rattle.cyc_timers.specs.declared.fire.FireRefused.{FireRefused}
 use Rattle.cyc_threads.proofs.Spots.{same_some, none_some, get_some}
 use Rattle.cyc_cpu.specs.Cpu.{CpuView, Running, running}
-use Rattle.cyc_cpu.specs.Calls.{CpuCall, Changes as CpuChanges, Does, Fire, AskSettled, no_interrupts}
+use Rattle.cyc_cpu.specs.Calls.{CpuCall, CpuChanges as CpuChanges, CpuDoes, Fire, AskSettled, no_interrupts}
 use Rattle.cyc_threads.proofs.Stills.{changes_still}
 use Rattle.cyc_agreement.specs.Cpus.{CpusView}
-use Rattle.cyc_threads.specs.Settling.{Asks}
+use Rattle.cyc_threads.specs.Settling.{AsksSettled}
 use Rattle.cyc_threads.specs.Settled.{AllAsked}
 use Rattle.cyc_threads.specs.System.{SystemView}
 use Rattle.cyc_threads.specs.Calls.{SystemCall, Changes}
@@ -57,7 +57,7 @@ module _ {R : Type 0} (firing : Raise R) (P : R → Type 0)
   changed_all : (s t : SystemView R) (call : SystemCall) → Changes firing s call t → OfAll s.cpus.cpus → OfAll t.cpus.cpus
   changed_all s t call d all = let m = made_of firing s t call d in parts_all m.way s.cpus t.cpus m.works all
 
-  asks_both : (answers : List Bool) (x y : CpuView R) → FoldsTo (Asks firing) x answers y → OfBoth x → OfBoth y
+  asks_both : (answers : List Bool) (x y : CpuView R) → FoldsTo (AsksSettled firing) x answers y → OfBoth x → OfBoth y
   asks_both [] x y e own = subst OfBoth e own
   asks_both (answer ∷ answers) x y (z, (first, lawful), rest) own =
       asks_both answers z y rest (both_changed x z (AskSettled answer) first own)
@@ -70,7 +70,7 @@ module _ {R : Type 0} (firing : Raise R) (P : R → Type 0)
 
   module _ {C : Type 0} (handler : Calls C) where
     fired_both : (s t : Running C R) (now : ℕ) (answer : Result Fired FireRefused)
-        → Does handler firing no_interrupts s (Fire now answer) t → OfBoth s.cpu → OfBoth t.cpu
+        → CpuDoes handler firing no_interrupts s (Fire now answer) t → OfBoth s.cpu → OfBoth t.cpu
     fired_both s t now (Ok r) (early, kept, expired, next, m) (a, b) = (
       goes_on s.cpu.lock t.cpu.lock m.acts.lock_way m.acts.lock_goes a,
       goes_on s.cpu.low t.cpu.low m.acts.low_way m.acts.low_goes b,

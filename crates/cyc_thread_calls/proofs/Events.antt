@@ -13,7 +13,7 @@ use Rattle.cyc_script.specs.declared.step.Step.{Step}
 use Rattle.cyc_script.specs.declared.step.Step.TheVariants as steps
 use Rattle.cyc_model.specs.Refusals.{magnitude}
 use Rattle.cyc_expected.specs.Course.{Event, Begins, BeginsOnAll, IsSet, IsSetOn, Ends, Passes, Told, told_after, told_by}
-use Rattle.cyc_expected.specs.Expected.{Met, event_of, events_of, clock_after, reprogrammed}
+use Rattle.cyc_expected.specs.Expected.{Met, event_of, course_events, clock_after, reprogrammed}
 use Rattle.cyc_threads.specs.SystemRemoval.{SystemRemoval}
 use Rattle.cyc_threads.specs.Calls.{Add, AddOmni, BeginRemove}
 use Rattle.cyc_threads.specs.Calls.{Offline, Online, reprograms}
@@ -54,8 +54,8 @@ module _ (i k : ℕ) where
   clock_met clock x b = clock_after x clock
 
   pub one_met : (x : Step) (b : Bool) (ms : List Met) (clock : ℕ) (t : Told)
-      → told_by (events_of k clock (record { step = x; accepted = b } ∷ ms)) t
-      ≡ told_by (events_of k (clock_met clock x b) ms) (told_after (event_met clock x b) t)
+      → told_by (course_events k clock (record { step = x; accepted = b } ∷ ms)) t
+      ≡ told_by (course_events k (clock_met clock x b) ms) (told_after (event_met clock x b) t)
   one_met x true ms clock t = refl
   one_met x false ms clock t = refl
 

@@ -6,15 +6,15 @@ use Rattle.cyc_ring.specs.Ends.{raise_end, end_view}
 use Rattle.cyc_script.specs.declared.step.Step.{Step}
 use Rattle.cyc_script.specs.WellFormed.{IsWellFormed}
 use Rattle.cyc_expected.specs.Course.{Told, untold, told_by}
-use Rattle.cyc_expected.specs.Expected.{events_of, expected}
+use Rattle.cyc_expected.specs.Expected.{course_events, expected}
 use Rattle.cyc_threads.specs.Sound.{IsSound}
-use Rattle.cyc_threads.specs.declared.named.Named.TheVariants.{Nothing}
+use Rattle.cyc_words.specs.declared.named.Named.TheVariants.{Nothing}
 use Rattle.cyc_threads.specs.declared.progress.Progress.{Progress}
 use Rattle.cyc_threads.specs.declared.counting.Line.{Line}
 use Rattle.cyc_threads.specs.Steps.{Runs}
 use Rattle.cyc_threads.specs.Counting.{Reports}
 use Rattle.cyc_thread_calls.specs.Leading.{all_calls}
-use Rattle.cyc_thread_calls.specs.Meeting.{way_of}
+use Rattle.cyc_thread_calls.specs.Meeting.{way_of_run}
 use Rattle.cyc_thread_calls.specs.Giving.{id_given}
 use Rattle.cyc_thread_calls.specs.Lines.{line_in}
 use Rattle.cyc_thread_calls.proofs.Going.{all_go}
@@ -30,18 +30,18 @@ module _ {C : Type 0} (handler : Calls C) where
       → length s.side.leads.items ≡ length s.side.system.cpus.cpus → IsEmpty s.side.system
       → (line_in (id_given handler raise_end name s xs t runs)
       (all_calls handler raise_end xs lines s t u runs reports) u.side.system).expired
-      ≡ expected (length s.side.system.cpus.cpus) (way_of handler raise_end s xs t runs) name
+      ≡ expected (length s.side.system.cpus.cpus) (way_of_run handler raise_end s xs t runs) name
   line_expected xs lines s t u names name runs reports good none clock sound ready empty =
       by (id_given handler raise_end name s xs t runs) refl
     where
       by : (o : Option ℕ) → id_given handler raise_end name s xs t runs ≡ o
           → (line_in o (all_calls handler raise_end xs lines s t u runs reports)
           u.side.system).expired
-          ≡ expected (length s.side.system.cpus.cpus) (way_of handler raise_end s xs t runs) name
+          ≡ expected (length s.side.system.cpus.cpus) (way_of_run handler raise_end s xs t runs) name
       by None e = sym (unnamed_tells handler raise_end xs s t (length s.side.system.cpus.cpus) name runs e)
       by (Some id) e =
           let n = length s.side.system.cpus.cpus in
-          let way = way_of handler raise_end s xs t runs in
+          let way = way_of_run handler raise_end s xs t runs in
           let calls = all_calls handler raise_end xs lines s t u runs reports in
           whole_run handler id s.side u.side calls
           (all_go handler raise_end xs lines s t u runs reports) sound ready
@@ -49,4 +49,4 @@ module _ {C : Type 0} (handler : Calls C) where
           ∙ (ap (λ (x : Told). x.expired)
           (calls_tell handler raise_end xs lines s t u names name id runs reports (untold n) good none
           e)
-          ∙ ap (λ (c : ℕ). (told_by (events_of name c way) (untold n)).expired) clock)
+          ∙ ap (λ (c : ℕ). (told_by (course_events name c way) (untold n)).expired) clock)

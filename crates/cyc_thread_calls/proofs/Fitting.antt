@@ -23,11 +23,11 @@ use Rattle.cyc_threads.proofs.Pieces.{made_of}
 use Rattle.cyc_threads.specs.Keeping.{TouchesRecord}
 use Rattle.cyc_threads.proofs.Looked.{look_kept}
 use Rattle.cyc_system_rings.proofs.Raising.{changes_long}
-use Rattle.cyc_threads.specs.declared.named.Named.{Named}
-use Rattle.cyc_threads.specs.declared.named.Named.TheVariants.{Nothing, Cyclic, Leaving, Removed}
+use Rattle.cyc_words.specs.declared.named.Named.{Named}
+use Rattle.cyc_words.specs.declared.named.Named.TheVariants.{Nothing, Cyclic, Leaving, Removed}
 use Rattle.cyc_threads.specs.declared.progress.Progress.{Progress}
-use Rattle.cyc_threads.specs.StepCalls.{CallsFor, IsReady}
-use Rattle.cyc_threads.specs.Names.{named_at, id_of}
+use Rattle.cyc_threads.specs.StepCalls.{CallsFor, HasLeads}
+use Rattle.cyc_words.specs.Names.{named_at, cyclic_id}
 use Rattle.cyc_thread_calls.specs.Way.{Standing, Absent, OnOne, OnAll, with_standing}
 
 -- ---- the names
@@ -41,9 +41,9 @@ pub set_beside : (names : List Named) (name other : ℕ) (now : Named) → other
 set_beside names name other now ne = get_or-set_other names name other now Nothing ne
 
 -- a name that has an id is there
-pub name_low : (names : List Named) (name id : ℕ) → id_of (named_at names name) ≡ Some id → name < length names
+pub name_low : (names : List Named) (name id : ℕ) → cyclic_id (named_at names name) ≡ Some id → name < length names
 name_low names name id has = dite (ℕ_discrete (length names - name) 0)
-    (λ z. absurd (none_some (sym (ap id_of (get_or_past names name Nothing (omega (arith, z)))) ∙ has)))
+    (λ z. absurd (none_some (sym (ap cyclic_id (get_or_past names name Nothing (omega (arith, z)))) ∙ has)))
     (λ p. omega (arith, p))
 
 pub standing_here : (name : ℕ) (now : Standing) (has : ℕ → Standing) → with_standing name now has name ≡ now
@@ -58,7 +58,7 @@ standing_beside name other now has ne = ap (λ (b : Bool). cond b now (has other
 -- the id has a record, which says whether the cyclic is omnipresent
 pub record IsThere {R : Type 0} (id : ℕ) (everywhere : Bool) (s : SystemView R) : Type 0 where
   pub known : is_unknown id s ≡ false
-  pub place : is_omnipresent id s ≡ everywhere
+  pub placement : is_omnipresent id s ≡ everywhere
 
 abbrev pub Is : {R : Type 0} → Standing → Named → SystemView R → Type 0
 Is Absent Nothing s = Unit {0}
@@ -77,14 +77,14 @@ Is OnAll (Removed receipt) s = ⊥
 -- the record of the id says the same
 pub record SameId {R : Type 0} (id : ℕ) (s t : SystemView R) : Type 0 where
   pub known : is_unknown id t ≡ is_unknown id s
-  pub place : is_omnipresent id t ≡ is_omnipresent id s
+  pub placement : is_omnipresent id t ≡ is_omnipresent id s
 
 there_kept : {R : Type 0} (id : ℕ) (everywhere : Bool) (s t : SystemView R) → SameId id s t → IsThere id everywhere s
     → IsThere id everywhere t
-there_kept id everywhere s t same h = record { known = same.known ∙ h.known; place = same.place ∙ h.place }
+there_kept id everywhere s t same h = record { known = same.known ∙ h.known; placement = same.placement ∙ h.placement }
 
 pub is_kept : {R : Type 0} (st : Standing) (named : Named) (s t : SystemView R)
-    → ((id : ℕ) → id_of named ≡ Some id → SameId id s t) → Is st named s → Is st named t
+    → ((id : ℕ) → cyclic_id named ≡ Some id → SameId id s t) → Is st named s → Is st named t
 is_kept Absent Nothing s t same h = tt
 is_kept Absent (Cyclic id) s t same h = h
 is_kept Absent (Leaving id) s t same h = tt
@@ -101,7 +101,7 @@ is_kept OnAll (Removed receipt) s t same h = h
 pub same_records : {R : Type 0} (s t : SystemView R) → t.records ≡ s.records → (id : ℕ) → SameId id s t
 same_records s t e id = record {
   known = ap (λ rs. not (is_some (found id rs))) e;
-  place = ap (λ rs. option_map_or (λ (r : Record). is_everywhere r.place) (found id rs) false) e;
+  placement = ap (λ rs. option_map_or (λ (r : Record). is_everywhere r.placement) (found id rs) false) e;
 }
 
 unknown_read : (o : Option Record) → not (is_some o) ≡ option_map_or (λ (r : Record). false) o true
@@ -115,7 +115,7 @@ new_there id level place before t rising records =
     let at = ap (λ rs. slice_get rs (length before)) records ∙ get_last before (new_record id level place) in
     let here = record_here id (length before) (new_record id level place) t.records rising at refl in record {
       known = ap (λ o. not (is_some o)) here;
-      place = ap (λ o. option_map_or (λ (r : Record). is_everywhere r.place) o false) here;
+      placement = ap (λ o. option_map_or (λ (r : Record). is_everywhere r.placement) o false) here;
     }
 
 module _ {R : Type 0} (firing : Raise R) where
@@ -126,7 +126,7 @@ module _ {R : Type 0} (firing : Raise R) where
     known = unknown_read (record_of id t)
         ∙ (look_kept firing (λ (r : Record). false) true (λ r n bound e. refl) (λ r n c. refl) id s t call rising d other
         ∙ sym (unknown_read (record_of id s)));
-    place = look_kept firing (λ (r : Record). is_everywhere r.place) false (λ r n bound e. sym e)
+    placement = look_kept firing (λ (r : Record). is_everywhere r.placement) false (λ r n bound e. sym e)
         (λ r n c. refl) id s t call rising d other;
   }
 
@@ -140,10 +140,10 @@ module _ {C R : Type 0} (firing : Raise R) where
     pub long : length p.names ≡ names
     pub online : p.side.system.cpus.online ≡ replicate cpus true
     pub many : length p.side.system.cpus.cpus ≡ cpus
-    pub ready : IsReady p
+    pub ready : HasLeads p
     pub each : (name : ℕ) → Is (has name) (named_at p.names name) p.side.system
-    pub ids : (name id : ℕ) → id_of (named_at p.names name) ≡ Some id → id ≤ p.side.system.last
-    pub own : (a b id : ℕ) → id_of (named_at p.names a) ≡ Some id → id_of (named_at p.names b) ≡ Some id → a ≡ b
+    pub ids : (name id : ℕ) → cyclic_id (named_at p.names name) ≡ Some id → id ≤ p.side.system.last
+    pub own : (a b id : ℕ) → cyclic_id (named_at p.names a) ≡ Some id → cyclic_id (named_at p.names b) ≡ Some id → a ≡ b
 
   -- what a call that was made changes of that: it is online as it was, and gave so many ids
   module _ (cpus names given : ℕ) (has : ℕ → Standing) (s t : Progress R C) (name : ℕ) (call : SystemCall)
@@ -152,7 +152,7 @@ module _ {C R : Type 0} (firing : Raise R) where
     above_after : HasNoRecord 0 t.side.system.records
     above_after = (made_of firing s.side.system t.side.system call c.did).unknown 0 (omega arith) h.above
 
-    ready_after : IsReady t
+    ready_after : HasLeads t
     ready_after = ap (λ (l : _). length l.items) c.leads ∙ h.ready
         ∙ sym (changes_long firing s.side.system t.side.system call c.did)
 
@@ -174,19 +174,19 @@ module _ {C R : Type 0} (firing : Raise R) where
       each = λ a. subst (λ ns. Is (has a) (named_at ns a) t.side.system) (sym same)
           (is_kept (has a) (named_at s.names a) s.side.system t.side.system
           (λ id e. id_kept firing s.side.system t.side.system call id h.rising c.did (other id)) (h.each a));
-      ids = λ a id e. (let low = h.ids a id (sym (ap (λ ns. id_of (named_at ns a)) same) ∙ e) in
+      ids = λ a id e. (let low = h.ids a id (sym (ap (λ ns. cyclic_id (named_at ns a)) same) ∙ e) in
           let more = (made_of firing s.side.system t.side.system call c.did).last in omega (arith, low, more));
-      own = λ a b id e f. h.own a b id (sym (ap (λ ns. id_of (named_at ns a)) same) ∙ e)
-          (sym (ap (λ ns. id_of (named_at ns b)) same) ∙ f);
+      own = λ a b id e f. h.own a b id (sym (ap (λ ns. cyclic_id (named_at ns a)) same) ∙ e)
+          (sym (ap (λ ns. cyclic_id (named_at ns b)) same) ∙ f);
     }
 
     -- one name has another thing now
     pub fits_set : (now : Named) (st : Standing) (given' : ℕ) (has' : ℕ → Standing) → t.names ≡ slice_set s.names name now
         → name < length s.names → t.side.system.last ≤ given' → Is st now t.side.system → has' name ≡ st
         → ((other : ℕ) → other ≢ name → has' other ≡ has other)
-        → ((id : ℕ) → id_of now ≡ Some id → (id ≤ t.side.system.last)
-        × ((other : ℕ) → other ≢ name → id_of (named_at s.names other) ≡ Some id → ⊥))
-        → ((other id : ℕ) → other ≢ name → id_of (named_at s.names other) ≡ Some id → TouchesRecord id call → ⊥)
+        → ((id : ℕ) → cyclic_id now ≡ Some id → (id ≤ t.side.system.last)
+        × ((other : ℕ) → other ≢ name → cyclic_id (named_at s.names other) ≡ Some id → ⊥))
+        → ((other id : ℕ) → other ≢ name → cyclic_id (named_at s.names other) ≡ Some id → TouchesRecord id call → ⊥)
         → Fits cpus names given' has' t
     fits_set now st given' has' set low last is here beside new others = record {
       rising = c.sound.fit.rising;
@@ -206,17 +206,17 @@ module _ {C R : Type 0} (firing : Raise R) where
           (is_kept (has a) (named_at s.names a) s.side.system t.side.system
           (λ id e. id_kept firing s.side.system t.side.system call id h.rising c.did (others a id ne e)) (h.each a))));
       ids = λ a id e. dite (ℕ_discrete a name)
-          (λ q. (new id (sym (ap id_of at_name) ∙ (subst (λ (k : ℕ). id_of (named_at t.names k) ≡ Some id) q e))).0)
-          (λ ne. (let low = h.ids a id (sym (ap id_of (at_other a ne)) ∙ e) in
+          (λ q. (new id (sym (ap cyclic_id at_name) ∙ (subst (λ (k : ℕ). cyclic_id (named_at t.names k) ≡ Some id) q e))).0)
+          (λ ne. (let low = h.ids a id (sym (ap cyclic_id (at_other a ne)) ∙ e) in
           let more = (made_of firing s.side.system t.side.system call c.did).last in omega (arith, low, more)));
       own = λ a b id e f. dite (ℕ_discrete a name)
           (λ p. dite (ℕ_discrete b name) (λ q. p ∙ sym q)
-          (λ nq. absurd ((new id (sym (ap id_of at_name)
-          ∙ subst (λ (k : ℕ). id_of (named_at t.names k) ≡ Some id) p e)).1 b nq (sym (ap id_of (at_other b nq)) ∙ f))))
+          (λ nq. absurd ((new id (sym (ap cyclic_id at_name)
+          ∙ subst (λ (k : ℕ). cyclic_id (named_at t.names k) ≡ Some id) p e)).1 b nq (sym (ap cyclic_id (at_other b nq)) ∙ f))))
           (λ np. dite (ℕ_discrete b name)
-          (λ q. absurd ((new id (sym (ap id_of at_name)
-          ∙ subst (λ (k : ℕ). id_of (named_at t.names k) ≡ Some id) q f)).1 a np (sym (ap id_of (at_other a np)) ∙ e)))
-          (λ nq. h.own a b id (sym (ap id_of (at_other a np)) ∙ e) (sym (ap id_of (at_other b nq)) ∙ f)));
+          (λ q. absurd ((new id (sym (ap cyclic_id at_name)
+          ∙ subst (λ (k : ℕ). cyclic_id (named_at t.names k) ≡ Some id) q f)).1 a np (sym (ap cyclic_id (at_other a np)) ∙ e)))
+          (λ nq. h.own a b id (sym (ap cyclic_id (at_other a np)) ∙ e) (sym (ap cyclic_id (at_other b nq)) ∙ f)));
     }
       where
         at_name : named_at t.names name ≡ now

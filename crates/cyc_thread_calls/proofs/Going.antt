@@ -17,23 +17,24 @@ use Rattle.cyc_threads.specs.Calls.{SystemCall, Bind, BeginRemove, PollRemove, A
 use Rattle.cyc_threads.specs.SystemSide.{SystemSide}
 use Rattle.cyc_system_rings.specs.Leading.{LeadCall, Make, FireAll, AskAll}
 use Rattle.cyc_system_rings.specs.Events.{AcceptedSteps, AllAccepted}
-use Rattle.cyc_threads.specs.declared.named.Named.{Named}
-use Rattle.cyc_threads.specs.declared.named.Named.TheVariants.{Nothing, Cyclic, Leaving, Removed}
+use Rattle.cyc_words.specs.declared.named.Named.{Named}
+use Rattle.cyc_words.specs.declared.named.Named.TheVariants.{Nothing, Cyclic, Leaving, Removed}
 use Rattle.cyc_threads.specs.declared.progress.Progress.{Progress}
 use Rattle.cyc_threads.specs.declared.counting.Line.{Line}
-use Rattle.cyc_threads.specs.StepCalls.{CallsFor, Poll, Polls, Waits, Fires, refusal_of, refusal_at}
-use Rattle.cyc_threads.specs.Names.{named_at, id_of}
-use Rattle.cyc_threads.specs.Words.{WithId, Does, Begins, TakesStep, waits_first}
+use Rattle.cyc_threads.specs.StepCalls.{CallsFor, Poll, Polls, Waits, Fires, refusal_of_fire, refusal_at}
+use Rattle.cyc_words.specs.Names.{named_at, cyclic_id}
+use Rattle.cyc_words.specs.Words.{WithId}
+use Rattle.cyc_threads.specs.Words.{DoesStep, Begins, TakesStep, waits_first}
 use Rattle.cyc_threads.specs.Steps.{TakesSteps, Runs}
-use Rattle.cyc_threads.specs.Counting.{Told, Tells, TellsOf, Reports}
+use Rattle.cyc_threads.specs.Counting.{NameLine, Tells, TellsOf, Reports}
 use Rattle.cyc_thread_calls.specs.Leading.{calls_in, poll_calls, wait_calls, begin_calls, call_with, told_calls_of, told_calls}
 use Rattle.cyc_thread_calls.specs.Leading.{call_of, step_calls, steps_calls, run_calls, all_calls}
 
 -- an answer that is there is that of its number
 at_number : (answers : List (Option (Result Fired FireRefused))) (n : ℕ) (a : Option (Result Fired FireRefused))
-    → slice_get answers n ≡ Some a → refusal_at answers n ≡ refusal_of a
+    → slice_get answers n ≡ Some a → refusal_at answers n ≡ refusal_of_fire a
 at_number [] n a e = absurd (none_some e)
-at_number (x ∷ xs) zero a e = ap refusal_of (same_some e)
+at_number (x ∷ xs) zero a e = ap refusal_of_fire (same_some e)
 at_number (x ∷ xs) (suc n) a e = at_number xs n a e
 
 module _ {C R : Type 0} (handler : Calls C) (firing : Raise R) where
@@ -75,8 +76,8 @@ module _ {C R : Type 0} (handler : Calls C) (firing : Raise R) where
   with_goes Answer call name s t (Some id) (answer, did) = goes_one name (call id answer) s t did
   with_goes Answer call name s t None e = goes_none s t e
 
-  not_refused : (a : Option (Result Fired FireRefused)) (e : FireRefused) → refusal_of a ≡ None → a ≡ Some (Err e) → ⊥
-  not_refused a e none is = none_some (sym none ∙ ap refusal_of is)
+  not_refused : (a : Option (Result Fired FireRefused)) (e : FireRefused) → refusal_of_fire a ≡ None → a ≡ Some (Err e) → ⊥
+  not_refused a e none is = none_some (sym none ∙ ap refusal_of_fire is)
 
   pub accepted_fires : (now : ℕ) (s t : Progress R C) (f : Fires handler firing now s t) → AllAccepted f.after
   accepted_fires now s t f n e is = not_refused (Some (Err e)) e
@@ -85,21 +86,21 @@ module _ {C R : Type 0} (handler : Calls C) (firing : Raise R) where
   fires_go : (now : ℕ) (s t : Progress R C) → Fires handler firing now s t → Goes s (FireAll now ∷ []) t
   fires_go now s t f = (t.side, (f.after, f.fired, accepted_fires now s t f, f.side, f.sound), refl)
 
-  pub does_go : (x : Step) (s t : Progress R C) (d : Does handler firing x s t)
+  pub does_go : (x : Step) (s t : Progress R C) (d : DoesStep handler firing x s t)
       → Goes s (calls_in (call_of handler firing x s t d)) t
   does_go (steps.Add a) s t (inl (when, starts, lasts, long, (answer, did))) = goes_one a.name _ s t did
   does_go (steps.Add a) s t (inr (odd, e)) = goes_none s t e
   does_go (steps.Omni a) s t (inl (when, starts, lasts, long, (answer, did))) = goes_one a.name _ s t did
   does_go (steps.Omni a) s t (inr (odd, e)) = goes_none s t e
   does_go (steps.Bind b) s t d = with_goes (Unit {0}) (λ id answer. Bind id (Some b.cpu) answer) b.name s t
-      (id_of (named_at s.names b.name)) d
+      (cyclic_id (named_at s.names b.name)) d
   does_go (steps.Unbind name) s t d = with_goes (Unit {0}) (λ id answer. Bind id None answer) name s t
-      (id_of (named_at s.names name)) d
+      (cyclic_id (named_at s.names name)) d
   does_go (steps.Reprogram r) s t (inl (moment, is, d)) =
-      with_goes (Unit {0}) (λ id answer. reprograms r.cpu id moment answer) r.name s t (id_of (named_at s.names r.name)) d
+      with_goes (Unit {0}) (λ id answer. reprograms r.cpu id moment answer) r.name s t (cyclic_id (named_at s.names r.name)) d
   does_go (steps.Reprogram r) s t (inr (odd, e)) = goes_none s t e
   does_go (steps.Remove name) s t d = with_goes SystemRemoval (λ id answer. BeginRemove id answer) name s t
-      (id_of (named_at s.names name)) d
+      (cyclic_id (named_at s.names name)) d
   does_go (steps.Advance now) s t (inl (suspended, e)) = ap (λ (p : Progress R C). p.side) (sym e)
   does_go (steps.Advance now) s t (inr f) = fires_go now s t f
   does_go (steps.Softint i) s t e = goes_none s t e
@@ -130,7 +131,7 @@ module _ {C R : Type 0} (handler : Calls C) (firing : Raise R) where
   told_goes (Leaving id) line s t (answer, did, is) = goes_one 0 (AskTotals id answer) s t did
   told_goes (Removed receipt) line s t (is, e) = goes_none s t e
 
-  pub all_told_go : (all : List Told) (s t : Progress R C) (d : FoldsTo (Tells firing) s all t)
+  pub all_told_go : (all : List NameLine) (s t : Progress R C) (d : FoldsTo (Tells firing) s all t)
       → Goes s (told_calls firing all s t d) t
   all_told_go [] s t e = goes_none s t (sym e)
   all_told_go (told ∷ all) s t (u, d, rest) =

@@ -8,35 +8,35 @@ use native.Mathlib.Decide.{ℕ_discrete}
 use Rattle.cyc_types.specs.declared.receipt.Receipt.{Receipt}
 use Rattle.cyc_threads.proofs.Spots.{same_some, none_some}
 use Rattle.cyc_system_rings.specs.Leading.{LeadCall}
-use Rattle.cyc_system_rings.specs.Rings.{receipt_of, receipt_in, first_of}
-use Rattle.cyc_threads.specs.declared.named.Named.{Named}
-use Rattle.cyc_threads.specs.declared.named.Named.TheVariants.{Nothing, Cyclic, Leaving, Removed}
-use Rattle.cyc_threads.specs.Names.{named_at, id_of}
+use Rattle.cyc_system_rings.specs.Rings.{receipt_of, receipt_in, first_ring}
+use Rattle.cyc_words.specs.declared.named.Named.{Named}
+use Rattle.cyc_words.specs.declared.named.Named.TheVariants.{Nothing, Cyclic, Leaving, Removed}
+use Rattle.cyc_words.specs.Names.{named_at, cyclic_id}
 
 -- receipts of two runs of calls
-pub receipt_on : (id : ℕ) (xs ys : List LeadCall) → receipt_in id (xs ++ ys) ≡ first_of (receipt_in id xs) (receipt_in id ys)
+pub receipt_on : (id : ℕ) (xs ys : List LeadCall) → receipt_in id (xs ++ ys) ≡ first_ring (receipt_in id xs) (receipt_in id ys)
 receipt_on id [] ys = refl
-receipt_on id (x ∷ xs) ys = ap (first_of (receipt_of id x)) (receipt_on id xs ys)
+receipt_on id (x ∷ xs) ys = ap (first_ring (receipt_of id x)) (receipt_on id xs ys)
     ∙ by (receipt_of id x) (receipt_in id xs) (receipt_in id ys)
   where
-    by : (a b c : Option Receipt) → first_of a (first_of b c) ≡ first_of (first_of a b) c
+    by : (a b c : Option Receipt) → first_ring a (first_ring b c) ≡ first_ring (first_ring a b) c
     by None b c = refl
     by (Some r) b c = refl
 
 one_none : (id : ℕ) (c : LeadCall) → receipt_of id c ≡ None → receipt_in id (c ∷ []) ≡ None
-one_none id c e = ap (λ o. first_of o None) e
+one_none id c e = ap (λ o. first_ring o None) e
 
 pub receipt_kept : (id : ℕ) (xs ys : List LeadCall) (r : Receipt) → receipt_in id xs ≡ Some r → receipt_in id (xs ++ ys) ≡ Some r
-receipt_kept id xs ys r e = receipt_on id xs ys ∙ ap (λ o. first_of o (receipt_in id ys)) e
+receipt_kept id xs ys r e = receipt_on id xs ys ∙ ap (λ o. first_ring o (receipt_in id ys)) e
 
 pub receipt_none : (id : ℕ) (xs ys : List LeadCall) → receipt_in id xs ≡ None → receipt_in id ys ≡ None
     → receipt_in id (xs ++ ys) ≡ None
-receipt_none id xs ys a b = receipt_on id xs ys ∙ ap (λ o. first_of o (receipt_in id ys)) a ∙ b
+receipt_none id xs ys a b = receipt_on id xs ys ∙ ap (λ o. first_ring o (receipt_in id ys)) a ∙ b
 
 receipt_came : (id : ℕ) (xs : List LeadCall) (c : LeadCall) (r : Receipt) → receipt_in id xs ≡ None → receipt_of id c ≡ Some r
     → receipt_in id (xs ++ c ∷ []) ≡ Some r
-receipt_came id xs c r a b = receipt_on id xs (c ∷ []) ∙ ap (λ o. first_of o (receipt_in id (c ∷ []))) a
-    ∙ ap (λ o. first_of o None) b
+receipt_came id xs c r a b = receipt_on id xs (c ∷ []) ∙ ap (λ o. first_ring o (receipt_in id (c ∷ []))) a
+    ∙ ap (λ o. first_ring o None) b
 
 -- what a name has is what the calls so far told of the id that it was given
 abbrev pub Fits : Option ℕ → List LeadCall → Named → Type 0
@@ -131,7 +131,7 @@ module _ (many : ℕ) (g : ℕ → Option ℕ) (way : List LeadCall) (names : Li
           (fits_on (g m) (named_at names m) c (λ own e. none own) (k.fits m (within m low)))))
 
   -- the id of a name
-  pub its_id : (o : Option ℕ) (named : Named) (id : ℕ) → id_of named ≡ Some id → Fits o way named
+  pub its_id : (o : Option ℕ) (named : Named) (id : ℕ) → cyclic_id named ≡ Some id → Fits o way named
       → (o ≡ Some id) × (receipt_in id way ≡ None)
   its_id o Nothing id e f = absurd (none_some e)
   its_id o (Cyclic own) id e (p, q) = (p ∙ e, subst (λ j. receipt_in j way ≡ None) (same_some e) q)
@@ -139,16 +139,16 @@ module _ (many : ℕ) (g : ℕ → Option ℕ) (way : List LeadCall) (names : Li
   its_id o (Removed receipt) id e f = absurd (none_some e)
 
   -- a name with an id is among the names
-  pub its_place : (names : List Named) (name id : ℕ) → id_of (named_at names name) ≡ Some id → name < length names
+  pub its_place : (names : List Named) (name id : ℕ) → cyclic_id (named_at names name) ≡ Some id → name < length names
   its_place names name id e = by (cases_lt name (length names))
     where
       by : (name < length names) ⊎ (length names ≤ name) → name < length names
       by (inl low) = low
-      by (inr far) = absurd (none_some (sym (ap id_of (get_or_past names name Nothing far)) ∙ e))
+      by (inr far) = absurd (none_some (sym (ap cyclic_id (get_or_past names name Nothing far)) ∙ e))
 
   -- what a name has changes, but for its id
   pub holds_changed : (c : LeadCall) (name id : ℕ) (now : Named) (names' : List Named) (last' : ℕ)
-      → id_of (named_at names name) ≡ Some id
+      → cyclic_id (named_at names name) ≡ Some id
       → ((own : ℕ) → own ≢ id → receipt_of own c ≡ None) → Fits (Some id) (c ∷ []) now
       → names' ≡ slice_set names name now → last ≤ last' → Holds many g (way ++ c ∷ []) names' last'
   holds_changed c name id now names' last' has others goes is grows =
@@ -186,7 +186,7 @@ module _ (many : ℕ) (g : ℕ → Option ℕ) (way : List LeadCall) (names : Li
         own,
         own_id ∙ e,
         receipt_on own way (c ∷ [])
-            ∙ ap (λ o. first_of o (receipt_in own (c ∷ []))) (subst (λ j. receipt_in j way ≡ None) (same_some e) own_it.1) ∙ r,
+            ∙ ap (λ o. first_ring o (receipt_in own (c ∷ []))) (subst (λ j. receipt_in j way ≡ None) (same_some e) own_it.1) ∙ r,
       )
 
       fits : (m : ℕ) → m < length (slice_set names name now) → Fits (g m) (way ++ c ∷ []) (named_at (slice_set names name now) m)

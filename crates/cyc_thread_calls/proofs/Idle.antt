@@ -14,16 +14,16 @@ use Rattle.cyc_script.specs.declared.step.Step.TheVariants as steps
 use Rattle.cyc_model.specs.Refusals.{magnitude}
 use Rattle.cyc_model.specs.Omni.{everywhere}
 use Rattle.cyc_expected.specs.Course.{Event, Begins, BeginsOnAll, IsSet, IsSetOn, Ends, Fires, Leaves, Returns, Passes}
-use Rattle.cyc_expected.specs.Course.{Idle, Told, next_of, due_of, with_moment, with_component, component_first}
+use Rattle.cyc_expected.specs.Course.{Idle, Told, course_after, due_everywhere, course_at, with_component, component_begins_at}
 use Rattle.cyc_expected.specs.Course.{told_after, told_by}
-use Rattle.cyc_expected.specs.Expected.{events_of, reprogrammed}
+use Rattle.cyc_expected.specs.Expected.{course_events, reprogrammed}
 use Rattle.cyc_threads.specs.Calls.{Add, AddOmni}
 use Rattle.cyc_system_rings.specs.Leading.{Make}
 use Rattle.cyc_threads.specs.declared.progress.Progress.{Progress}
-use Rattle.cyc_threads.specs.Words.{Does}
+use Rattle.cyc_threads.specs.Words.{DoesStep}
 use Rattle.cyc_threads.specs.Steps.{TakesSteps}
 use Rattle.cyc_thread_calls.specs.Leading.{call_of}
-use Rattle.cyc_thread_calls.specs.Meeting.{accepted, steps_met}
+use Rattle.cyc_thread_calls.specs.Meeting.{was_accepted, steps_met}
 use Rattle.cyc_thread_calls.specs.Giving.{given_by, later_id, introduces, id_in_steps}
 use Rattle.cyc_thread_calls.proofs.Events.{event_met, clock_met, one_met}
 use Rattle.cyc_thread_calls.proofs.Meets.{given}
@@ -41,14 +41,14 @@ AddsNot event = ⊤
 stays_idle : (e : Event) (t : Told) → AddsNot e → IsIdle t → IsIdle (told_after e t)
 stays_idle (Begins start interval now) t odd idle = absurd odd
 stays_idle (BeginsOnAll e now) t odd idle = absurd odd
-stays_idle (IsSet moment) t ok (course, none) = (ap (with_moment moment) course, none)
+stays_idle (IsSet moment) t ok (course, none) = (ap (course_at moment) course, none)
 stays_idle (IsSetOn n moment) t ok (course, none) = (ap (with_component n (λ e. Some moment)) course, none)
 stays_idle Ends t ok (course, none) = (refl, none)
 stays_idle (Fires now) t ok (course, none) =
-    (ap (next_of now) course, (let d = ap (due_of now) course in omega (arith, none, d)))
+    (ap (course_after now) course, (let d = ap (due_everywhere now) course in omega (arith, none, d)))
 stays_idle (Leaves n) t ok (course, none) = (ap (with_component n (λ e. None)) course, none)
 stays_idle (Returns n now) t ok (course, none) =
-    (ap (with_component n (λ e. Some (component_first n e now))) course, none)
+    (ap (with_component n (λ e. Some (component_begins_at n e now))) course, none)
 stays_idle Passes t ok idle = idle
 
 -- a step of which it is so in either case
@@ -80,9 +80,9 @@ module _ {C R : Type 0} (handler : Calls C) (firing : Raise R) (k : ℕ) where
   not_added_on_all level when skew now clock (Ok d) false e is = tt
   not_added_on_all level when skew now clock (Err why) own e is = tt
 
-  does_not_add : (i clock : ℕ) (x : Step) (s t : Progress R C) (d : Does handler firing x s t)
+  does_not_add : (i clock : ℕ) (x : Step) (s t : Progress R C) (d : DoesStep handler firing x s t)
       → cond (introduces k x) (given (call_of handler firing x s t d)) None ≡ None
-      → AddsNot (event_met i k clock x (accepted handler firing x s t d))
+      → AddsNot (event_met i k clock x (was_accepted handler firing x s t d))
   does_not_add i clock (steps.Add a) s t (inl (when, starts, lasts, long, (answer, did))) is =
       not_added a.level when s.clock clock answer (a.name == k) (Begins (magnitude a.start) (magnitude a.interval) clock) is
   does_not_add i clock (steps.Add a) s t (inr (bad, e)) is = tt
@@ -107,13 +107,13 @@ module _ {C R : Type 0} (handler : Calls C) (firing : Raise R) (k : ℕ) where
 
   pub all_idle : (s : Progress R C) (xs : List Step) (t : Progress R C) (takes : TakesSteps handler firing s xs
       t) → id_in_steps handler firing k s xs t takes ≡ None → (clock : ℕ) (told : Told) → IsIdle told
-      → IsIdle (told_by (events_of k clock (steps_met handler firing s xs t takes)) told)
+      → IsIdle (told_by (course_events k clock (steps_met handler firing s xs t takes)) told)
   all_idle s [] t takes is clock told idle = idle
   all_idle s (x ∷ xs) t (u, (v, begins, does), rest) is clock told idle =
       let (here, later) = neither_given
       (cond (introduces k x) (given (call_of handler firing x v u does)) None)
       (id_in_steps handler firing k u xs t rest) is in
-      let b = accepted handler firing x v u does in
+      let b = was_accepted handler firing x v u does in
       let ms = steps_met handler firing u xs t rest in
       let one = stays_idle (event_met 0 k clock x b) told (does_not_add 0 clock x v u does here) idle in
       subst IsIdle (sym (one_met 0 k x b ms clock told))

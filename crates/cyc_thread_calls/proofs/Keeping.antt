@@ -16,7 +16,7 @@ use Rattle.cyc_types.specs.declared.refusal.Refusal.{Refusal}
 use Rattle.cyc_cpu.specs.declared.removing.Removal.{Removal}
 use Rattle.cyc_cpu.specs.declared.removing.Removal.TheVariants.{Done, Kept}
 use Rattle.cyc_cpu.specs.Cpu.{CpuView}
-use Rattle.cyc_cpu.specs.Calls.{CpuCall, Changes as CpuChanges, Fire, SoftInterrupt, Add as CpuAdd, Place}
+use Rattle.cyc_cpu.specs.Calls.{CpuCall, CpuChanges as CpuChanges, Fire, SoftInterrupt, Add as CpuAdd, Place}
 use Rattle.cyc_cpu.specs.Calls.{Reprogram as CpuReprogram}
 use Rattle.cyc_cpu.specs.Calls.{AskPending, AskTotals as CpuTotals, AskRoom, Reserve, Widen, BeginRemove as CpuBegin}
 use Rattle.cyc_cpu.specs.Calls.{PollRemove as CpuPoll, TakeNow, AskSettled}
@@ -32,7 +32,7 @@ use Rattle.cyc_threads.specs.Binding.{GoesTo, Binds}
 use Rattle.cyc_threads.specs.SystemRemoval.{SystemRemoval}
 use Rattle.cyc_threads.specs.SystemRemoval.TheVariants as over
 use Rattle.cyc_threads.specs.Removing.{Begun, BeginsOn, BeginsEach, Removes}
-use Rattle.cyc_threads.specs.Polling.{Polled, PollsOn, PollsEach, Polls}
+use Rattle.cyc_threads.specs.Polling.{Polled, PollsOn, PollsEach, PollsCpus}
 use Rattle.cyc_system_rings.specs.Turn.{Turn}
 use Rattle.cyc_system_rings.specs.Turn.TheVariants.{StaysBound, StaysPending, StaysRefused, Moves}
 use Rattle.cyc_system_rings.specs.Juggling.{TakesTurn, Turns, single_ids}
@@ -285,7 +285,7 @@ module _ {R : Type 0} (firing : Raise R) where
   removes_given own (Ok (over.Kept kept)) s t (way, cpus, each, some, sum) = begins_each own way s t each
   removes_given own (Err e) s t d = absurd d
 
-  polls_given : (own : ℕ) (answer : Result (Option Receipt) Refusal) (s t : SystemView R) → Polls firing own answer s t
+  polls_given : (own : ℕ) (answer : Result (Option Receipt) Refusal) (s t : SystemView R) → PollsCpus firing own answer s t
       → SameGiven s t
   polls_given own (Ok (Some receipt)) s t (way, u, cpus, each, done) = given_then s u t (polls_each own way s u each)
       (record { online = ap (λ (z : CpusView R). z.online) done.cpus; last = done.last })

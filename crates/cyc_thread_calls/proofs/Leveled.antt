@@ -6,6 +6,7 @@ use Rattle.std.specs.List.{FoldsTo}
 use Rattle.cyc_types.specs.declared.Calls.{Ghosts as Calls}
 use Rattle.cyc_types.specs.declared.Raise.{Ghosts as Raise}
 use Rattle.cyc_types.specs.declared.level.Level.{Level}
+pub use Rattle.cyc_types.proofs.Facts.{both_true}
 use Rattle.cyc_threads.proofs.Lists.{true_eq, eq_true, false_ne}
 use Rattle.cyc_threads.proofs.Spots.{same_some, none_some}
 use Rattle.cyc_script.specs.declared.step.Step.{Step}
@@ -15,12 +16,12 @@ use Rattle.cyc_threads.specs.Calls.{Changes, Add, AddOmni}
 use Rattle.cyc_threads.proofs.Pieces.{made_of}
 use Rattle.cyc_threads.specs.SystemSide.{SystemSide}
 use Rattle.cyc_system_rings.specs.Leading.{LeadCall, Make, FireAll, AskAll}
-use Rattle.cyc_system_rings.specs.Rings.{first_of}
+use Rattle.cyc_system_rings.specs.Rings.{first_ring}
 use Rattle.cyc_system_rings.specs.ByLevel.{level_given, level_in}
 use Rattle.cyc_system_rings.specs.Events.{AcceptedSteps}
 use Rattle.cyc_threads.specs.declared.progress.Progress.{Progress}
 use Rattle.cyc_threads.specs.StepCalls.{Poll}
-use Rattle.cyc_threads.specs.Words.{Does, Begins, waits_first}
+use Rattle.cyc_threads.specs.Words.{DoesStep, Begins, waits_first}
 use Rattle.cyc_threads.specs.Steps.{TakesSteps}
 use Rattle.cyc_thread_calls.specs.Leading.{calls_in, poll_calls, begin_calls, call_of, steps_calls}
 use Rattle.cyc_thread_calls.specs.Giving.{given_in, later_id, id_in_steps}
@@ -29,21 +30,21 @@ use Rattle.cyc_thread_calls.proofs.Going.{step_goes, steps_go}
 
 -- ---- the levels that calls give
 
-pub level_on : (id : ℕ) (xs ys : List LeadCall) → level_in id (xs ++ ys) ≡ first_of (level_in id xs) (level_in id ys)
+pub level_on : (id : ℕ) (xs ys : List LeadCall) → level_in id (xs ++ ys) ≡ first_ring (level_in id xs) (level_in id ys)
 level_on id [] ys = refl
-level_on id (x ∷ xs) ys = ap (first_of (level_given id x)) (level_on id xs ys)
+level_on id (x ∷ xs) ys = ap (first_ring (level_given id x)) (level_on id xs ys)
     ∙ by (level_given id x) (level_in id xs) (level_in id ys)
   where
-    by : (a b c : Option Level) → first_of a (first_of b c) ≡ first_of (first_of a b) c
+    by : (a b c : Option Level) → first_ring a (first_ring b c) ≡ first_ring (first_ring a b) c
     by None b c = refl
     by (Some r) b c = refl
 
 pub level_kept : (id : ℕ) (xs ys : List LeadCall) (level : Level) → level_in id xs ≡ Some level
     → level_in id (xs ++ ys) ≡ Some level
-level_kept id xs ys level e = level_on id xs ys ∙ ap (λ o. first_of o (level_in id ys)) e
+level_kept id xs ys level e = level_on id xs ys ∙ ap (λ o. first_ring o (level_in id ys)) e
 
 pub level_later : (id : ℕ) (xs ys : List LeadCall) → level_in id xs ≡ None → level_in id (xs ++ ys) ≡ level_in id ys
-level_later id xs ys e = level_on id xs ys ∙ ap (λ o. first_of o (level_in id ys)) e
+level_later id xs ys e = level_on id xs ys ∙ ap (λ o. first_ring o (level_in id ys)) e
 
 polls_none : (id : ℕ) (polls : List Poll) → level_in id (poll_calls polls) ≡ None
 polls_none id [] = refl
@@ -55,20 +56,26 @@ not_some (Some level) no_one = absurd (no_one level refl)
 
 -- ---- the level of a name in a script
 
-pub both_true : (a b : Bool) → (a && b) ≡ true → (a ≡ true) × (b ≡ true)
-both_true true b e = (refl, e)
-both_true false b e = absurd (let odd : false ≡ true = e in cc)
-
 -- a name that comes later has a greater number
 named_before : (name k : ℕ) (xs : List Step) → names_fit k xs ≡ true → name < k → level_named name xs ≡ None
 named_before name k [] fit low = refl
 named_before name k (steps.Add a ∷ xs) fit low = let (own, rest) = both_true (a.name == k) (names_fit (k + 1) xs) fit in
     let is = eq_true a.name k own in
-    ap (λ b. first_of (cond b (Some a.level) None) (level_named name xs)) (false_ne a.name name (λ e. omega (arith, is, e, low)))
+    ap (λ b. first_ring (cond b (Some a.level) None) (level_named name xs)) (false_ne a.name name (λ e. omega (
+      arith,
+      is,
+      e,
+      low,
+    )))
     ∙ named_before name (k + 1) xs rest (omega (arith, low))
 named_before name k (steps.Omni a ∷ xs) fit low = let (own, rest) = both_true (a.name == k) (names_fit (k + 1) xs) fit in
     let is = eq_true a.name k own in
-    ap (λ b. first_of (cond b (Some a.level) None) (level_named name xs)) (false_ne a.name name (λ e. omega (arith, is, e, low)))
+    ap (λ b. first_ring (cond b (Some a.level) None) (level_named name xs)) (false_ne a.name name (λ e. omega (
+      arith,
+      is,
+      e,
+      low,
+    )))
     ∙ named_before name (k + 1) xs rest (omega (arith, low))
 named_before name k (x ∷ xs) fit low = named_before name k xs (both_true (name_fits k x) (names_fit k xs) fit).1 low
 
@@ -141,7 +148,7 @@ module _ {C R : Type 0} (handler : Calls C) (firing : Raise R) where
       by (λ e. given_within way u t id found rest e) (level_given id call) refl is
     where
       by : (level_in id way ≡ Some found → (u.system.last < id) × (id ≤ t.system.last)) → (o : Option Level)
-          → level_given id call ≡ o → first_of o (level_in id way) ≡ Some found
+          → level_given id call ≡ o → first_ring o (level_in id way) ≡ Some found
           → (s.system.last < id) × (id ≤ t.system.last)
       by later (Some level) here e = let (a, b) = one_given s u call id level d here in let c = all_grow way u t rest in
           (a, omega (arith, b, c))
@@ -153,7 +160,7 @@ module _ {C R : Type 0} (handler : Calls C) (firing : Raise R) where
       → level_in id (begin_calls firing b s t w) ≡ None
   begin_none id false s t w = refl
   begin_none id true s t (polls, u, run, settles) = level_on id (poll_calls polls) (AskAll ∷ [])
-      ∙ ap (λ o. first_of o None) (polls_none id polls)
+      ∙ ap (λ o. first_ring o None) (polls_none id polls)
 
   -- the step that gave a name its id has its level
   abbrev HasLevel : ℕ → ℕ → Step → List LeadCall → Type 0
@@ -171,18 +178,18 @@ module _ {C R : Type 0} (handler : Calls C) (firing : Raise R) where
   none_added true id e = none_some e
   none_added false id e = none_some e
 
-  does_level : (name id : ℕ) (x : Step) (s t : Progress R C) (d : Does handler firing x s t)
+  does_level : (name id : ℕ) (x : Step) (s t : Progress R C) (d : DoesStep handler firing x s t)
       → given_in name x (call_of handler firing x s t d) ≡ Some id
       → HasLevel name id x (calls_in (call_of handler firing x s t d))
   does_level name id (steps.Add a) s t (inl (when, starts, lasts, long, (Ok given, did))) e =
       let (same, level) = added_level name a.name id a.level given e in
-      (a.level, ap (λ b. first_of (cond b (Some a.level) None) None) (true_eq given id same), level)
+      (a.level, ap (λ b. first_ring (cond b (Some a.level) None) None) (true_eq given id same), level)
   does_level name id (steps.Add a) s t (inl (when, starts, lasts, long, (Err why, did))) e =
       absurd (none_added (a.name == name) id e)
   does_level name id (steps.Add a) s t (inr nothing) e = absurd (none_added (a.name == name) id e)
   does_level name id (steps.Omni a) s t (inl (when, starts, lasts, long, (Ok given, did))) e =
       let (same, level) = added_level name a.name id a.level given e in
-      (a.level, ap (λ b. first_of (cond b (Some a.level) None) None) (true_eq given id same), level)
+      (a.level, ap (λ b. first_ring (cond b (Some a.level) None) None) (true_eq given id same), level)
   does_level name id (steps.Omni a) s t (inl (when, starts, lasts, long, (Err why, did))) e =
       absurd (none_added (a.name == name) id e)
   does_level name id (steps.Omni a) s t (inr nothing) e = absurd (none_added (a.name == name) id e)
@@ -234,12 +241,12 @@ module _ {C R : Type 0} (handler : Calls C) (firing : Raise R) where
           (step_goes handler firing s x u (v, b, d)) at).1 in omega (arith, high, low))) in (
             level,
             level_later id (before ++ own) after none ∙ there_in,
-            ap (λ o. first_of o (level_named name xs)) (named_once name k x xs level fit there_named) ∙ there_named,
+            ap (λ o. first_ring o (level_named name xs)) (named_once name k x xs level fit there_named) ∙ there_named,
           )
       by later None there e =
           let (level, here_in, here_by) = does_level name id x v u d e in (
             level,
             level_kept id (before ++ own) after level
                 (level_later id before own (begin_none id (waits_first x) s v b) ∙ here_in),
-            ap (λ o. first_of o (level_named name xs)) here_by,
+            ap (λ o. first_ring o (level_named name xs)) here_by,
           )

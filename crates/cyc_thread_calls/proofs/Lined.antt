@@ -16,9 +16,9 @@ use Rattle.cyc_threads.specs.Rings.{seats_of_ends, firing_seats}
 use Rattle.cyc_threads.specs.declared.progress.Progress.{Progress}
 use Rattle.cyc_threads.specs.declared.counting.Line.{Line}
 use Rattle.cyc_threads.specs.declared.running.Ended.{Ended}
-use Rattle.cyc_threads.specs.Reporting.{counts_of}
+use Rattle.cyc_threads.specs.Reporting.{counts_told}
 use Rattle.cyc_threads.specs.Running.{most, IsAtFirst, HasRun}
-use Rattle.cyc_thread_calls.specs.Meeting.{way_of}
+use Rattle.cyc_thread_calls.specs.Meeting.{way_of_run}
 use Rattle.cyc_thread_calls.specs.Lines.{line_in}
 use Rattle.cyc_thread_calls.proofs.Lining.{as_many}
 use Rattle.cyc_thread_calls.proofs.Starting.{first_sound, first_ready}
@@ -61,7 +61,7 @@ module _ {C : Type 0} (handler : Calls C) (script : Script)
 
   -- how the steps were met
   abbrev way : List Met
-  way = way_of handler raise_end r.played.first script.steps.items r.played.last r.played.runs
+  way = way_of_run handler raise_end r.played.first script.steps.items r.played.last r.played.runs
 
   -- the line of an id, or of none
   abbrev line_of : Option ℕ → Line
@@ -80,7 +80,7 @@ module _ {C : Type 0} (handler : Calls C) (script : Script)
       ∙ ap (λ (n : ℕ). expected n way name) cpus
 
   pub is_reported : (name : ℕ) (line : Line) → slice_get r.lines name ≡ Some line
-      → IsReported script.cpus script.ceiling way name (counts_of line)
+      → IsReported script.cpus script.ceiling way name (counts_told line)
   is_reported name line at =
       let is = line_is handler script calls e text r name line at in
       let same : line.expired ≡ expected script.cpus way name = ap (λ (l : Line). l.expired) is ∙ line_expires name in record {

@@ -15,13 +15,13 @@ use Rattle.cyc_threads.specs.Counts.{all_expired, all_lost}
 use Rattle.cyc_system_rings.specs.Leading.{LeadCall}
 use Rattle.cyc_system_rings.specs.Rings.{receipt_in}
 use Rattle.cyc_threads.specs.Sound.{IsSound}
-use Rattle.cyc_threads.specs.declared.named.Named.{Named}
-use Rattle.cyc_threads.specs.declared.named.Named.TheVariants.{Nothing, Cyclic, Leaving, Removed}
+use Rattle.cyc_words.specs.declared.named.Named.{Named}
+use Rattle.cyc_words.specs.declared.named.Named.TheVariants.{Nothing, Cyclic, Leaving, Removed}
 use Rattle.cyc_threads.specs.declared.progress.Progress.{Progress}
 use Rattle.cyc_threads.specs.declared.counting.Line.{Line}
-use Rattle.cyc_threads.specs.Names.{named_at}
+use Rattle.cyc_words.specs.Names.{named_at}
 use Rattle.cyc_threads.specs.Steps.{Runs}
-use Rattle.cyc_threads.specs.Counting.{Told, Tells, TellsOf, Reports}
+use Rattle.cyc_threads.specs.Counting.{NameLine, Tells, TellsOf, Reports}
 use Rattle.cyc_thread_calls.specs.Leading.{told_calls_of, told_calls, report_calls, run_calls, all_calls}
 use Rattle.cyc_thread_calls.specs.Giving.{id_given}
 use Rattle.cyc_thread_calls.specs.Lines.{line_in, settled_line}
@@ -46,7 +46,7 @@ module _ {C R : Type 0} (firing : Raise R) (id : ℕ) where
   no_receipt_of (Leaving own) line s t (answer, did, is) = refl
   no_receipt_of (Removed receipt) line s t d = refl
 
-  no_receipt : (all : List Told) (s t : Progress R C) (d : FoldsTo (Tells firing) s all t)
+  no_receipt : (all : List NameLine) (s t : Progress R C) (d : FoldsTo (Tells firing) s all t)
       → receipt_in id (told_calls firing all s t d) ≡ None
   no_receipt [] s t e = refl
   no_receipt (told ∷ all) s t (u, d, rest) = receipt_none id (told_calls_of firing told.named told.line s u d)

@@ -16,14 +16,14 @@ use Rattle.cyc_cpu.specs.Calls.{AskSettled, no_interrupts}
 use Rattle.cyc_cpu.proofs.Calling.{changes_suspended, fire_keeps}
 use Rattle.cyc_agreement.specs.Suspending.{is_suspended}
 use Rattle.cyc_threads.specs.Calls.{SystemCall, PollRemove, reprograms}
-use Rattle.cyc_threads.specs.Settling.{Asks}
+use Rattle.cyc_threads.specs.Settling.{AsksSettled}
 use Rattle.cyc_threads.specs.SystemSide.{SystemSide}
 use Rattle.cyc_threads.specs.Advancing.{moment_asked, FiresIf}
 use Rattle.cyc_threads.specs.declared.progress.Progress.{Progress}
-use Rattle.cyc_threads.specs.StepCalls.{CallsFor, Poll, Polls, Settles, Fires, IsReady}
-use Rattle.cyc_threads.specs.Names.{named_at, id_of}
-use Rattle.cyc_threads.specs.Words.{Does, Begins, waits_first}
-use Rattle.cyc_threads.proofs.Within.{with_series, with_moment, with_id}
+use Rattle.cyc_threads.specs.StepCalls.{CallsFor, Poll, Polls, SettlesAll, Fires, HasLeads}
+use Rattle.cyc_words.specs.Names.{named_at, cyclic_id}
+use Rattle.cyc_threads.specs.Words.{DoesStep, Begins, waits_first}
+use Rattle.cyc_words.proofs.Within.{with_series, with_moment, with_id}
 use Rattle.cyc_threads.proofs.Spots.{get_some}
 use Rattle.cyc_system_rings.proofs.Suspending.{marks_each}
 use Rattle.cyc_threads.proofs.Pieces.{LeavesMarks, marks_same}
@@ -36,7 +36,7 @@ LeavesSuspended (steps.Advance now) = ⊥
 LeavesSuspended x = Unit {0}
 
 module _ {R : Type 0} (firing : Raise R) where
-  asks_mark : (answers : List Bool) (x y : CpuView R) → FoldsTo (Asks firing) x answers y → y.suspended ≡ x.suspended
+  asks_mark : (answers : List Bool) (x y : CpuView R) → FoldsTo (AsksSettled firing) x answers y → y.suspended ≡ x.suspended
   asks_mark [] x y e = ap (λ (z : CpuView R). z.suspended) (sym e)
   asks_mark (answer ∷ answers) x y (z, (first, lawful), rest) =
       asks_mark answers z y rest ∙ changes_suspended firing x z (AskSettled answer) tt first
@@ -65,7 +65,7 @@ module _ {C R : Type 0} (handler : Calls C) (firing : Raise R) where
   polls_same (p ∷ polls) s t (u, (here, did), rest) =
       polls_same polls u t rest ∙ call_same p.name (PollRemove p.id p.answer) s u tt did
 
-  settles_same : (s t : Progress R C) → Settles firing s t → Same s t
+  settles_same : (s t : Progress R C) → SettlesAll firing s t → Same s t
   settles_same s t w = marks_each s.side.system.cpus.cpus t.side.system.cpus.cpus w.asked.cpus.long
       (λ n x y p q. (let a = w.asked.cpus.each n x y p q in asks_mark firing a.0 x y a.1))
 
@@ -73,19 +73,19 @@ module _ {C R : Type 0} (handler : Calls C) (firing : Raise R) where
   begins_same false s t e = same_is s t e
   begins_same true s t (polls, u, polled, settled) = settles_same u t settled ∙ polls_same polls s u polled
 
-  pub does_same : (x : Step) (s t : Progress R C) → LeavesSuspended x → Does handler firing x s t → Same s t
+  pub does_same : (x : Step) (s t : Progress R C) → LeavesSuspended x → DoesStep handler firing x s t → Same s t
   does_same (steps.Add a) s t plain d = with_series a.start a.interval _ (Same s t) (t ≡ s) d
       (λ when p. call_same a.name _ s t tt p.1) (λ e. same_is s t e)
   does_same (steps.Omni a) s t plain d = with_series a.start a.interval _ (Same s t) (t ≡ s) d
       (λ when p. call_same a.name _ s t tt p.1) (λ e. same_is s t e)
-  does_same (steps.Bind b) s t plain d = with_id (id_of (named_at s.names b.name)) _ (Same s t) (t ≡ s) d
+  does_same (steps.Bind b) s t plain d = with_id (cyclic_id (named_at s.names b.name)) _ (Same s t) (t ≡ s) d
       (λ id p. call_same b.name _ s t tt p.1) (λ e. same_is s t e)
-  does_same (steps.Unbind name) s t plain d = with_id (id_of (named_at s.names name)) _ (Same s t) (t ≡ s) d
+  does_same (steps.Unbind name) s t plain d = with_id (cyclic_id (named_at s.names name)) _ (Same s t) (t ≡ s) d
       (λ id p. call_same name _ s t tt p.1) (λ e. same_is s t e)
   does_same (steps.Reprogram r) s t plain d = with_moment r.moment _ (Same s t) (t ≡ s) d
-      (λ moment q. with_id (id_of (named_at s.names r.name)) _ (Same s t) (t ≡ s) q
+      (λ moment q. with_id (cyclic_id (named_at s.names r.name)) _ (Same s t) (t ≡ s) q
       (λ id p. call_same r.name _ s t (reprogram_leaves r.cpu id moment p.0) p.1) (λ e. same_is s t e)) (λ e. same_is s t e)
-  does_same (steps.Remove name) s t plain d = with_id (id_of (named_at s.names name)) _ (Same s t) (t ≡ s) d
+  does_same (steps.Remove name) s t plain d = with_id (cyclic_id (named_at s.names name)) _ (Same s t) (t ≡ s) d
       (λ id p. call_same name _ s t tt p.1) (λ e. same_is s t e)
   does_same (steps.Advance now) s t plain d = absurd plain
   does_same (steps.Softint i) s t plain d = same_is s t d
@@ -96,7 +96,7 @@ module _ {C R : Type 0} (handler : Calls C) (firing : Raise R) where
   does_same steps.Resume s t plain d = absurd plain
 
   pub step_same : (x : Step) (s u t : Progress R C) → LeavesSuspended x → Begins firing (waits_first x) s u
-      → Does handler firing x u t → Same s t
+      → DoesStep handler firing x u t → Same s t
   step_same x s u t plain begins does = does_same x u t plain does ∙ begins_same (waits_first x) s u begins
 
   fired_mark : (up : Bool) (now : ℕ) (x y : CpuView R) (a b : C) (answer : Option (Result Fired FireRefused))
@@ -107,7 +107,7 @@ module _ {C R : Type 0} (handler : Calls C) (firing : Raise R) where
   fired_mark false now x y a b (Some answer) f = absurd f
   fired_mark false now x y a b None f = ap (λ (r : Running C R). r.cpu.suspended) f
 
-  pub fires_same : (now : ℕ) (s t : Progress R C) → Fires handler firing now s t → IsReady s
+  pub fires_same : (now : ℕ) (s t : Progress R C) → Fires handler firing now s t → HasLeads s
       → length s.side.system.cpus.online ≡ length s.side.system.cpus.cpus → Same s t
   fires_same now s t f ready ups = ap (λ (z : SystemSide R C). is_suspended z.system) f.side
       ∙ marks_each s.side.system.cpus.cpus f.after.side.system.cpus.cpus f.fired.long

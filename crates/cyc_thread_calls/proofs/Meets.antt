@@ -14,19 +14,20 @@ use Rattle.cyc_types.specs.declared.refusal.Refusal.{Refusal}
 use Rattle.cyc_script.specs.declared.step.Step.{Step}
 use Rattle.cyc_script.specs.declared.step.Step.TheVariants as steps
 use Rattle.cyc_expected.specs.Course.{Event, Passes, Told, told_after, told_by}
-use Rattle.cyc_expected.specs.Expected.{clock_after, events_of}
+use Rattle.cyc_expected.specs.Expected.{clock_after, course_events}
 use Rattle.cyc_threads.specs.SystemRemoval.{SystemRemoval}
 use Rattle.cyc_threads.specs.Calls.{SystemCall, Add, AddOmni, Bind, BeginRemove, PollRemove, Juggle, Offline, Online}
 use Rattle.cyc_threads.specs.Calls.{reprograms}
 use Rattle.cyc_system_rings.specs.Leading.{LeadCall, Make, AskAll}
 use Rattle.cyc_system_rings.specs.Events.{event_in, events_in}
 use Rattle.cyc_threads.specs.declared.progress.Progress.{Progress}
-use Rattle.cyc_threads.specs.Names.{named_at, id_of}
+use Rattle.cyc_words.specs.Names.{named_at, cyclic_id}
 use Rattle.cyc_threads.specs.StepCalls.{CallsFor, Poll, Polls, Waits}
-use Rattle.cyc_threads.specs.Words.{WithId, Does, Begins, waits_first}
+use Rattle.cyc_words.specs.Words.{WithId}
+use Rattle.cyc_threads.specs.Words.{DoesStep, Begins, waits_first}
 use Rattle.cyc_threads.specs.Steps.{TakesSteps}
 use Rattle.cyc_thread_calls.specs.Leading.{calls_in, poll_calls, wait_calls, begin_calls, call_with, call_of, steps_calls}
-use Rattle.cyc_thread_calls.specs.Meeting.{is_taken, accepted, steps_met}
+use Rattle.cyc_thread_calls.specs.Meeting.{is_taken, was_accepted, steps_met}
 use Rattle.cyc_thread_calls.specs.Giving.{given_by}
 use Rattle.cyc_thread_calls.proofs.Owners.{IsFor, Owns, owns_noted}
 use Rattle.cyc_thread_calls.proofs.Events.{cond_same, events_more, event_here, one_call, event_met, clock_met, one_met, taken}
@@ -90,7 +91,7 @@ module _ {C R : Type 0} (handler : Calls C) (firing : Raise R) where
     }
 
     with_one : (Answer : Type 0) (call : ℕ → Result Answer Refusal → SystemCall) (name : ℕ) (s t : Progress R C) (x : Step)
-        (id : Option ℕ) → id_of (named_at s.names name) ≡ id
+        (id : Option ℕ) → cyclic_id (named_at s.names name) ≡ id
         → (w : WithId id (λ own. (answer : Result Answer Refusal) × CallsFor firing name (call own answer) s t) (t ≡ s))
         → Owns i k s.names → ((own d : ℕ) (answer : Result Answer Refusal) → IsFor d (call own answer) → own ≡ d)
         → clock_after x s.clock ≡ s.clock
@@ -113,9 +114,9 @@ module _ {C R : Type 0} (handler : Calls C) (firing : Raise R) where
     abbrev Fit : ℕ → ℕ → Type 0
     Fit j d = (d == i) ≡ (j == k)
 
-    does_meets : (x : Step) (s t : Progress R C) (d : Does handler firing x s t) → Owns i k s.names
+    does_meets : (x : Step) (s t : Progress R C) (d : DoesStep handler firing x s t) → Owns i k s.names
         → Gives Fit x (call_of handler firing x s t d)
-        → Meets s t x (call_of handler firing x s t d) (accepted handler firing x s t d)
+        → Meets s t x (call_of handler firing x s t d) (was_accepted handler firing x s t d)
     does_meets (steps.Add a) s t (inl (when, starts, lasts, long, (answer, did))) owns gives =
         called_one a.name (Add a.level when s.clock answer) s t (steps.Add a) did owns
         (λ d f. gives d (for_added d a.level when s.clock answer f)) refl
@@ -129,18 +130,19 @@ module _ {C R : Type 0} (handler : Calls C) (firing : Raise R) where
         (λ d e. gives d (ap (λ (q : Result ℕ Refusal). given_by (Make (AddOmni a.level when a.skew s.clock q))) e)))
     does_meets (steps.Omni a) s t (inr (bad, e)) owns gives = idle s t (steps.Omni a) e refl owns
     does_meets (steps.Bind b) s t d owns gives = with_one (Unit {0}) (λ id answer. Bind id (Some b.cpu) answer) b.name s t
-        (steps.Bind b) (id_of (named_at s.names b.name)) refl d owns (λ own q answer f. absurd f) refl
+        (steps.Bind b) (cyclic_id (named_at s.names b.name)) refl d owns (λ own q answer f. absurd f) refl
         (λ own answer mine. sym (cond_same (is_ok answer) Passes))
     does_meets (steps.Unbind name) s t d owns gives = with_one (Unit {0}) (λ id answer. Bind id None answer) name s t
-        (steps.Unbind name) (id_of (named_at s.names name)) refl d owns (λ own q answer f. absurd f) refl
+        (steps.Unbind name) (cyclic_id (named_at s.names name)) refl d owns (λ own q answer f. absurd f) refl
         (λ own answer mine. sym (cond_same (is_ok answer) Passes))
     does_meets (steps.Reprogram r) s t (inl (moment, is, d)) owns gives =
         with_one (Unit {0}) (λ id answer. reprograms r.cpu id moment answer) r.name s t
-        (steps.Reprogram r) (id_of (named_at s.names r.name)) refl d owns (λ own q answer f. for_set r.cpu q own moment answer f)
+        (steps.Reprogram r) (cyclic_id (named_at s.names r.name)) refl d owns (λ own q answer f. for_set r.cpu q own moment
+        answer f)
         refl (λ own answer mine. set_event i k r own moment s.clock answer is mine)
     does_meets (steps.Reprogram r) s t (inr (bad, e)) owns gives = idle s t (steps.Reprogram r) e refl owns
     does_meets (steps.Remove name) s t d owns gives = with_one SystemRemoval (λ id answer. BeginRemove id answer) name s t
-        (steps.Remove name) (id_of (named_at s.names name)) refl d owns (λ own q answer f. f) refl
+        (steps.Remove name) (cyclic_id (named_at s.names name)) refl d owns (λ own q answer f. f) refl
         (λ own answer mine. remove_event i k name own s.clock answer mine)
     does_meets (steps.Advance now) s t (inl (suspended, e)) owns gives = record {
       same = refl;
@@ -179,7 +181,7 @@ module _ {C R : Type 0} (handler : Calls C) (firing : Raise R) where
     polls_own [] s t e owns =
         (subst (λ (p : Progress R C). Owns i k p.names) e owns, sym (ap (λ (p : Progress R C). p.clock) e))
     polls_own (p ∷ polls) s t (u, (here, did), rest) owns =
-        let mine = owns p.name p.id (ap id_of here) in
+        let mine = owns p.name p.id (ap cyclic_id here) in
         let next : Owns i k u.names = subst (Owns i k) (sym did.told) (owns_noted i k p.name (PollRemove p.id p.answer) s.names
         owns (λ d e. subst (λ (q : ℕ). (q == i) ≡ (p.name == k)) e mine)) in
         let (more, clock) = polls_own polls u t rest next in (more, clock ∙ did.clock)
@@ -209,13 +211,13 @@ module _ {C R : Type 0} (handler : Calls C) (firing : Raise R) where
     pub steps_same : (s : Progress R C) (xs : List Step) (t : Progress R C)
         (takes : TakesSteps handler firing s xs t) → Owns i k s.names → AllGive Fit s xs t takes
         → (told : Told) → told_by (events_in i (steps_calls handler firing s xs t takes)) told
-        ≡ told_by (events_of k s.clock (steps_met handler firing s xs t takes)) told
+        ≡ told_by (course_events k s.clock (steps_met handler firing s xs t takes)) told
     steps_same s [] t takes owns gives told = refl
     steps_same s (x ∷ xs) t (u, (v, begins, does), rest) owns (gives, more) told =
         let (owned, clock) = begins_own (waits_first x) s v begins owns in
         let m = does_meets x v u does owned gives in
         let o = call_of handler firing x v u does in
-        let b = accepted handler firing x v u does in
+        let b = was_accepted handler firing x v u does in
         let before = begin_calls firing (waits_first x) s v begins in
         let later = steps_calls handler firing u xs t rest in
         let ms = steps_met handler firing u xs t rest in
@@ -227,6 +229,6 @@ module _ {C R : Type 0} (handler : Calls C) (firing : Raise R) where
         events_more i (before ++ calls_in o) later told
         ∙ (ap (λ (q : Told). told_by (events_in i later) q) inner
         ∙ (steps_same u xs t rest m.owns more (told_after (event_met i k s.clock x b) told)
-        ∙ (ap (λ (c : ℕ). told_by (events_of k c ms) (told_after (event_met i k s.clock x b) told))
+        ∙ (ap (λ (c : ℕ). told_by (course_events k c ms) (told_after (event_met i k s.clock x b) told))
         (m.clock ∙ ap (λ (c : ℕ). clock_met i k c x b) clock)
         ∙ sym (one_met i k x b ms s.clock told))))

@@ -29,8 +29,8 @@ use Rattle.cyc_threads.specs.Keeping.{TouchesRecord}
 use Rattle.cyc_threads.specs.Sound.{IsSound}
 use Rattle.cyc_threads.specs.declared.progress.Progress.{Progress}
 use Rattle.cyc_threads.specs.StepCalls.{CallsFor}
-use Rattle.cyc_threads.specs.Names.{NoneLeaves}
-use Rattle.cyc_threads.specs.Words.{WithId}
+use Rattle.cyc_words.specs.Names.{NoneLeaves}
+use Rattle.cyc_words.specs.Words.{WithId}
 use Rattle.cyc_thread_calls.specs.Way.{Standing}
 use Rattle.cyc_thread_calls.proofs.Keeping.{AllStill, IsMove, keeps_call, last_move, quiet_move}
 use Rattle.cyc_thread_calls.proofs.Fitting.{IsThere, Fits, fits_same}
@@ -166,7 +166,7 @@ module _ {R : Type 0} (firing : Raise R) (cpus : ℕ) (s t : SystemView R)
   pub single_none : IsThere id false s → Changes firing s (Reprogram id moment answer) t → is_ok answer ≡ true
   single_none h (inl (e, first, is, same)) = absurd (none_some (sym (passes (no_cyclic id s) (omnipresent id s ∷ []) None
       (is_known id false s h still)
-      (passes (omnipresent id s) [] None (not_when (is_omnipresent id s) why.Omnipresent h.place) refl)) ∙ first))
+      (passes (omnipresent id s) [] None (not_when (is_omnipresent id s) why.Omnipresent h.placement) refl)) ∙ first))
   single_none h (inr (clear, (n, home, (is, only)))) = ok_true answer is
 
   pub single_on : (n : ℕ) → IsThere id false s → Changes firing s (ReprogramOn id n moment answer) t → is_ok answer ≡ false
@@ -175,13 +175,13 @@ module _ {R : Type 0} (firing : Raise R) (cpus : ℕ) (s t : SystemView R)
       (or_some (no_cpu n s) (offline_cpu n s ∷ no_component id n s ∷ []) (or_some (offline_cpu n s) (no_component id n s ∷ [])
       (λ e. none_some (sym e ∙ stops (no_component id n s) [] why.NoCyclic
       (is_when (not (is_omnipresent id s && has_on n id s.cpus)) why.NoCyclic
-      (ap (λ b. not (b && has_on n id s.cpus)) h.place)))))) clear)
+      (ap (λ b. not (b && has_on n id s.cpus)) h.placement)))))) clear)
 
   pub every_none : IsThere id true s → Changes firing s (Reprogram id moment answer) t → is_ok answer ≡ false
   every_none h (inl (e, first, is, same)) = err_false answer e is
   every_none h (inr (clear, goes)) = absurd (or_some (no_cyclic id s) (omnipresent id s ∷ [])
       (λ e. none_some (sym e ∙ stops (omnipresent id s) [] why.Omnipresent
-      (is_when (is_omnipresent id s) why.Omnipresent h.place))) clear)
+      (is_when (is_omnipresent id s) why.Omnipresent h.placement))) clear)
 
   -- an omnipresent cyclic has a component on each CPU
   component_here : (n : ℕ) → n < cpus → IsThere id true s → has_on n id s.cpus ≡ true
@@ -196,8 +196,8 @@ module _ {R : Type 0} (firing : Raise R) (cpus : ℕ) (s t : SystemView R)
       by None e = absurd (let odd : true ≡ false = sym (ap (λ o. not (is_some o)) e) ∙ h.known in cc)
       by (Some r) e =
           let (k, here, named) = find_at (λ (q : Record). q.id == id) s.records r e in
-          let is : is_everywhere r.place ≡ true =
-          sym (ap (λ o. option_map_or (λ (q : Record). is_everywhere q.place) o false) e) ∙ h.place in
+          let is : is_everywhere r.placement ≡ true =
+          sym (ap (λ o. option_map_or (λ (q : Record). is_everywhere q.placement) o false) e) ∙ h.placement in
           let on = ap (λ bs. option_map_or (λ (b : Bool). b) (slice_get bs n) false) up ∙ all_online cpus n low in
           either r (eq_true r.id id named) (sound.agrees.everywhere k n r here is on)
 
@@ -214,7 +214,7 @@ module _ {R : Type 0} (firing : Raise R) (cpus : ℕ) (s t : SystemView R)
           (not_le (length s.cpus.cpus) n (omega (arith, low, long))))
           (passes (offline_cpu n s) (no_component id n s ∷ []) None (not_when (not (is_online n s.cpus)) why.Offline (ap not on))
           (passes (no_component id n s) [] None (not_when (not (is_omnipresent id s && has_on n id s.cpus)) why.NoCyclic
-          (λ i. not (h.place i && component_here n low h i))) refl)))) ∙ first))
+          (λ i. not (h.placement i && component_here n low h i))) refl)))) ∙ first))
       by true e (inr (clear, (is, only))) = ok_true answer is
       by false e (inl (x, first, is, same)) = err_false answer x is
       by false e (inr (clear, goes)) = absurd (or_some (no_cyclic id s)

@@ -19,13 +19,14 @@ use Rattle.cyc_threads.specs.SystemRemoval.TheVariants.{Done, Kept}
 use Rattle.cyc_threads.specs.Calls.{SystemCall, Changes, Add, AddOmni, Bind, BeginRemove, PollRemove, reprograms}
 use Rattle.cyc_threads.proofs.Pieces.{made_of}
 use Rattle.cyc_system_rings.specs.Leading.{LeadCall, Make, FireAll, AskAll}
-use Rattle.cyc_system_rings.specs.Rings.{receipt_of, first_of}
-use Rattle.cyc_threads.specs.declared.named.Named.{Named}
-use Rattle.cyc_threads.specs.declared.named.Named.TheVariants.{Nothing, Cyclic, Leaving, Removed}
+use Rattle.cyc_system_rings.specs.Rings.{receipt_of, first_ring}
+use Rattle.cyc_words.specs.declared.named.Named.{Named}
+use Rattle.cyc_words.specs.declared.named.Named.TheVariants.{Nothing, Cyclic, Leaving, Removed}
 use Rattle.cyc_threads.specs.declared.progress.Progress.{Progress}
-use Rattle.cyc_threads.specs.Names.{named_at, id_of, news, noted}
+use Rattle.cyc_words.specs.Names.{named_at, cyclic_id, news, noted}
 use Rattle.cyc_threads.specs.StepCalls.{CallsFor, Poll, Polls, Waits}
-use Rattle.cyc_threads.specs.Words.{WithId, Does, Begins, waits_first}
+use Rattle.cyc_words.specs.Words.{WithId}
+use Rattle.cyc_threads.specs.Words.{DoesStep, Begins, waits_first}
 use Rattle.cyc_threads.specs.Steps.{TakesSteps, Runs}
 use Rattle.cyc_thread_calls.specs.Leading.{calls_in, poll_calls, wait_calls, begin_calls, call_with, call_of}
 use Rattle.cyc_thread_calls.specs.Leading.{steps_calls, run_calls}
@@ -76,7 +77,7 @@ module _ {C R : Type 0} (handler : Calls C) (firing : Raise R) (many : ℕ) wher
       (c.told ∙ ap (λ o. noted name o s.names) e) less low here there
 
   changed : (g : ℕ → Option ℕ) (way : List LeadCall) (name id : ℕ) (now : Named) (call : SystemCall) (s t : Progress R C)
-      → CallsFor firing name call s t → news call ≡ Some now → id_of (named_at s.names name) ≡ Some id
+      → CallsFor firing name call s t → news call ≡ Some now → cyclic_id (named_at s.names name) ≡ Some id
       → ((own : ℕ) → own ≢ id → receipt_of own (Make call) ≡ None) → Fits (Some id) (Make call ∷ []) now
       → Held g way s → Held g (way ++ Make call ∷ []) t
   changed g way name id now call s t c e has others fits k =
@@ -86,22 +87,22 @@ module _ {C R : Type 0} (handler : Calls C) (firing : Raise R) (many : ℕ) wher
   -- ---- removals
 
   pub begins : (g : ℕ → Option ℕ) (way : List LeadCall) (name id : ℕ) (answer : Result SystemRemoval Refusal) (s t : Progress R C)
-      → id_of (named_at s.names name) ≡ Some id → CallsFor firing name (BeginRemove id answer) s t → Held g way s
+      → cyclic_id (named_at s.names name) ≡ Some id → CallsFor firing name (BeginRemove id answer) s t → Held g way s
       → Held g (way ++ Make (BeginRemove id answer) ∷ []) t
   begins g way name id (Ok (Kept calls)) s t has c k =
       changed g way name id (Leaving id) _ s t c refl has (λ own ne. refl) (refl, refl) k
   begins g way name id (Ok (Done receipt)) s t has c k =
       changed g way name id (Removed receipt) _ s t c refl has (λ own ne. receipt_else own id receipt ne)
-      (id, refl, ap (λ o. first_of o None) (receipt_own id receipt)) k
+      (id, refl, ap (λ o. first_ring o None) (receipt_own id receipt)) k
   begins g way name id (Err e) s t has c k = quiet g way name _ s t c refl (λ own. refl) k
 
   pub polls : (g : ℕ → Option ℕ) (way : List LeadCall) (name id : ℕ) (answer : Result (Option Receipt) Refusal)
       (s t : Progress R C)
-      → id_of (named_at s.names name) ≡ Some id → CallsFor firing name (PollRemove id answer) s t → Held g way s
+      → cyclic_id (named_at s.names name) ≡ Some id → CallsFor firing name (PollRemove id answer) s t → Held g way s
       → Held g (way ++ Make (PollRemove id answer) ∷ []) t
   polls g way name id (Ok (Some receipt)) s t has c k =
       changed g way name id (Removed receipt) _ s t c refl has (λ own ne. receipt_else own id receipt ne)
-      (id, refl, ap (λ o. first_of o None) (receipt_own id receipt)) k
+      (id, refl, ap (λ o. first_ring o None) (receipt_own id receipt)) k
   polls g way name id (Ok None) s t has c k = quiet g way name _ s t c refl (λ own. refl) k
   polls g way name id (Err e) s t has c k = quiet g way name _ s t c refl (λ own. refl) k
 
@@ -154,16 +155,16 @@ module _ {C R : Type 0} (handler : Calls C) (firing : Raise R) (many : ℕ) wher
   with_held : (Answer : Type 0) (call : ℕ → Result Answer Refusal → SystemCall) (g : ℕ
       → Option ℕ) (way : List LeadCall) (name : ℕ)
       (s t : Progress R C)
-      → ((id : ℕ) (answer : Result Answer Refusal) → id_of (named_at s.names name) ≡ Some id
+      → ((id : ℕ) (answer : Result Answer Refusal) → cyclic_id (named_at s.names name) ≡ Some id
       → CallsFor firing name (call id answer) s t → Held g way s → Held g (way ++ Make (call id answer) ∷ []) t)
-      → (id : Option ℕ) → id_of (named_at s.names name) ≡ id
+      → (id : Option ℕ) → cyclic_id (named_at s.names name) ≡ id
       → (d : WithId id (λ own. (answer : Result Answer Refusal) × CallsFor firing name (call own answer) s t) (t ≡ s))
       → Held g way s → Held g (way ++ calls_in (call_with firing Answer call name s t id d)) t
   with_held Answer call g way name s t each (Some id) has (answer, did) k = each id answer has did k
   with_held Answer call g way name s t each None has e k = same_held g way s t e k
 
   pub does_held : (g : ℕ → Option ℕ) (way : List LeadCall) (x : Step) (s t : Progress R C)
-      (d : Does handler firing x s t) → Held g way s
+      (d : DoesStep handler firing x s t) → Held g way s
       → Held (λ n. later_id (g n) (given_in n x (call_of handler firing x s t d)))
       (way ++ calls_in (call_of handler firing x s t d)) t
   does_held g way (steps.Add a) s t (inl (when, starts, lasts, long, (answer, did))) k =
@@ -176,18 +177,19 @@ module _ {C R : Type 0} (handler : Calls C) (firing : Raise R) (many : ℕ) wher
       holds_as many g _ _ t.names t.side.system.last (λ n. none_given (g n) (a.name == n)) (same_held g way s t e k)
   does_held g way (steps.Bind b) s t d k =
       with_held (Unit {0}) (λ id answer. Bind id (Some b.cpu) answer) g way b.name s t
-      (λ id answer has did held. quiet g way b.name _ s t did refl (λ own. refl) held) (id_of (named_at s.names b.name)) refl d k
+      (λ id answer has did held. quiet g way b.name _ s t did refl (λ own. refl) held) (cyclic_id (named_at s.names b.name))
+      refl d k
   does_held g way (steps.Unbind name) s t d k =
       with_held (Unit {0}) (λ id answer. Bind id None answer) g way name s t
-      (λ id answer has did held. quiet g way name _ s t did refl (λ own. refl) held) (id_of (named_at s.names name)) refl d k
+      (λ id answer has did held. quiet g way name _ s t did refl (λ own. refl) held) (cyclic_id (named_at s.names name)) refl d k
   does_held g way (steps.Reprogram r) s t (inl (moment, is, d)) k =
       with_held (Unit {0}) (λ id answer. reprograms r.cpu id moment answer) g way r.name s t
       (λ id answer has did held. quiet g way r.name _ s t did (reprogram_tells r.cpu id moment answer)
-      (λ own. reprogram_receipt r.cpu id moment own answer) held) (id_of (named_at s.names r.name)) refl d k
+      (λ own. reprogram_receipt r.cpu id moment own answer) held) (cyclic_id (named_at s.names r.name)) refl d k
   does_held g way (steps.Reprogram r) s t (inr (odd, e)) k = same_held g way s t e k
   does_held g way (steps.Remove name) s t d k =
       with_held SystemRemoval (λ id answer. BeginRemove id answer) g way name s t
-      (λ id answer has did held. begins g way name id answer s t has did held) (id_of (named_at s.names name)) refl d k
+      (λ id answer has did held. begins g way name id answer s t has did held) (cyclic_id (named_at s.names name)) refl d k
   does_held g way (steps.Advance now) s t (inl (suspended, e)) k = same_held g way (record s { clock = now }) t e k
   does_held g way (steps.Advance now) s t (inr f) k =
       holds_quiet many g way s.names s.side.system.last k (FireAll now) t.names t.side.system.last (λ own. refl) f.names
@@ -205,7 +207,7 @@ module _ {C R : Type 0} (handler : Calls C) (firing : Raise R) (many : ℕ) wher
   polls_held (p ∷ all) g way s t (u, (here, did), rest) k =
       subst (λ w. Held g w t) (append_assoc way (Make (PollRemove p.id p.answer) ∷ []) (poll_calls all))
       (polls_held all g (way ++ Make (PollRemove p.id p.answer) ∷ []) u t rest
-      (polls g way p.name p.id p.answer s u (ap id_of here) did k))
+      (polls g way p.name p.id p.answer s u (ap cyclic_id here) did k))
 
   pub wait_held : (g : ℕ → Option ℕ) (way : List LeadCall) (s t : Progress R C) (w : Waits firing s t) → Held g way s
       → Held g (way ++ wait_calls firing s t w) t

@@ -5,9 +5,9 @@ use Rattle.cyc_thread_calls.proofs.Polled.{set_at}
 use Rattle.cyc_threads.proofs.Spots.{same_some, none_some}
 use Rattle.cyc_threads.specs.SystemRemoval.TheVariants.{Done, Kept}
 use Rattle.cyc_threads.specs.Calls.{SystemCall, Add, AddOmni, BeginRemove, PollRemove}
-use Rattle.cyc_threads.specs.declared.named.Named.{Named}
-use Rattle.cyc_threads.specs.declared.named.Named.TheVariants.{Nothing, Cyclic, Leaving, Removed}
-use Rattle.cyc_threads.specs.Names.{named_at, id_of, news, noted}
+use Rattle.cyc_words.specs.declared.named.Named.{Named}
+use Rattle.cyc_words.specs.declared.named.Named.TheVariants.{Nothing, Cyclic, Leaving, Removed}
+use Rattle.cyc_words.specs.Names.{named_at, cyclic_id, news, noted}
 
 -- the ids that a call is about
 abbrev pub IsFor : ℕ → SystemCall → Type 0
@@ -20,16 +20,16 @@ IsFor d call = ⊥
 module _ (i k : ℕ) where
   -- the id is that of the name: no other name has it, and the name has no other
   abbrev pub Owns : List Named → Type 0
-  Owns names = (j d : ℕ) → id_of (named_at names j) ≡ Some d → (d == i) ≡ (j == k)
+  Owns names = (j d : ℕ) → cyclic_id (named_at names j) ≡ Some d → (d == i) ≡ (j == k)
 
-  owns_set : (names : List Named) (j : ℕ) (x : Named) → Owns names → ((d : ℕ) → id_of x ≡ Some d → (d == i) ≡ (j == k))
+  owns_set : (names : List Named) (j : ℕ) (x : Named) → Owns names → ((d : ℕ) → cyclic_id x ≡ Some d → (d == i) ≡ (j == k))
       → Owns (slice_set names j x)
   owns_set names j x owns fits m d is = by (set_at names j m x)
     where
       by : (named_at (slice_set names j x) m ≡ named_at names m) ⊎ ((m ≡ j) × (named_at (slice_set names j x) m ≡ x))
           → (d == i) ≡ (m == k)
-      by (inl e) = owns m d (sym (ap id_of e) ∙ is)
-      by (inr (same, e)) = fits d (sym (ap id_of e) ∙ is) ∙ sym (ap (λ (q : ℕ). q == k) same)
+      by (inl e) = owns m d (sym (ap cyclic_id e) ∙ is)
+      by (inr (same, e)) = fits d (sym (ap cyclic_id e) ∙ is) ∙ sym (ap (λ (q : ℕ). q == k) same)
 
   pub owns_noted : (j : ℕ) (call : SystemCall) (names : List Named) → Owns names
       → ((d : ℕ) → IsFor d call → (d == i) ≡ (j == k)) → Owns (noted j (news call) names)
@@ -47,4 +47,4 @@ module _ (i k : ℕ) where
 
   -- where no name has an id, as before the first step
   pub owns_none : (names : List Named) → ((j : ℕ) → named_at names j ≡ Nothing) → Owns names
-  owns_none names none j d is = absurd (none_some (sym (ap id_of (none j)) ∙ is))
+  owns_none names none j d is = absurd (none_some (sym (ap cyclic_id (none j)) ∙ is))

@@ -15,12 +15,13 @@ use Rattle.cyc_script.specs.WellFormed.{name_fits, names_after, names_fit, names
 use Rattle.cyc_threads.specs.SystemRemoval.{SystemRemoval}
 use Rattle.cyc_threads.specs.Calls.{SystemCall, Bind, BeginRemove, reprograms}
 use Rattle.cyc_system_rings.specs.Leading.{LeadCall, Make}
-use Rattle.cyc_system_rings.specs.Rings.{first_of}
+use Rattle.cyc_system_rings.specs.Rings.{first_ring}
 use Rattle.cyc_system_rings.specs.ByLevel.{level_given, level_in}
 use Rattle.cyc_threads.specs.declared.progress.Progress.{Progress}
 use Rattle.cyc_threads.specs.StepCalls.{CallsFor}
-use Rattle.cyc_threads.specs.Names.{named_at, id_of}
-use Rattle.cyc_threads.specs.Words.{WithId, Does, waits_first}
+use Rattle.cyc_words.specs.Names.{named_at, cyclic_id}
+use Rattle.cyc_words.specs.Words.{WithId}
+use Rattle.cyc_threads.specs.Words.{DoesStep, waits_first}
 use Rattle.cyc_threads.specs.Steps.{TakesSteps}
 use Rattle.cyc_thread_calls.specs.Leading.{calls_in, begin_calls, call_with, call_of, steps_calls}
 use Rattle.cyc_thread_calls.specs.Giving.{given_by, given_in, later_id, id_in_steps}
@@ -69,21 +70,22 @@ module _ {C R : Type 0} (handler : Calls C) (firing : Raise R) where
       → ((id : ℕ) (answer : Result Answer Refusal) → level_given own (Make (call id answer)) ≡ None) → (id : Option ℕ)
       → (d : WithId id (λ j. (answer : Result Answer Refusal) × CallsFor firing name (call j answer) s t) (t ≡ s))
       → level_in own (calls_in (call_with firing Answer call name s t id d)) ≡ None
-  with_none Answer call name own s t each (Some id) (answer, did) = ap (λ o. first_of o None) (each id answer)
+  with_none Answer call name own s t each (Some id) (answer, did) = ap (λ o. first_ring o None) (each id answer)
   with_none Answer call name own s t each None e = refl
 
   -- the call that gave an id is that of the step that introduces the next name
   abbrev IsNext : ℕ → ℕ → Step → Option LeadCall → Type 0
   IsNext k id x o = (given_in k x o ≡ Some id) × (names_after k x ≡ k + 1)
 
-  first_some : (o : Option Level) (level : Level) → first_of o None ≡ Some level → o ≡ Some level
+  first_some : (o : Option Level) (level : Level) → first_ring o None ≡ Some level → o ≡ Some level
   first_some None level e = e
   first_some (Some l) level e = e
 
   added_next : (own k given id : ℕ) → (own == k) ≡ true → given ≡ id → cond (own == k) (Some given) None ≡ Some id
   added_next own k given id fit same = ap (λ b. cond b (Some given) None) fit ∙ ap Some same
 
-  does_next : (k id : ℕ) (level : Level) (x : Step) (s t : Progress R C) (d : Does handler firing x s t) → name_fits k x ≡ true
+  does_next : (k id : ℕ) (level : Level) (x : Step) (s t : Progress R C) (d : DoesStep handler firing x s t)
+      → name_fits k x ≡ true
       → level_in id (calls_in (call_of handler firing x s t d)) ≡ Some level
       → IsNext k id x (call_of handler firing x s t d)
   does_next k id level (steps.Add a) s t (inl (when, starts, lasts, long, (Ok given, did))) fit e = (
@@ -99,15 +101,16 @@ module _ {C R : Type 0} (handler : Calls C) (firing : Raise R) where
   does_next k id level (steps.Omni a) s t (inl (when, starts, lasts, long, (Err why, did))) fit e = absurd (none_some e)
   does_next k id level (steps.Omni a) s t (inr nothing) fit e = absurd (none_some e)
   does_next k id level (steps.Bind b) s t d fit e = absurd (none_some (sym (with_none (Unit {0})
-      (λ own answer. Bind own (Some b.cpu) answer) b.name id s t (λ own answer. refl) (id_of (named_at s.names b.name)) d) ∙ e))
+      (λ own answer. Bind own (Some b.cpu) answer) b.name id s t (λ own answer. refl) (cyclic_id (named_at s.names b.name)) d)
+      ∙ e))
   does_next k id level (steps.Unbind name) s t d fit e = absurd (none_some (sym (with_none (Unit {0})
-      (λ own answer. Bind own None answer) name id s t (λ own answer. refl) (id_of (named_at s.names name)) d) ∙ e))
+      (λ own answer. Bind own None answer) name id s t (λ own answer. refl) (cyclic_id (named_at s.names name)) d) ∙ e))
   does_next k id level (steps.Reprogram r) s t (inl (moment, is, d)) fit e = absurd (none_some (sym (with_none (Unit {0})
       (λ own answer. reprograms r.cpu own moment answer) r.name id s t
-      (λ own answer. reprogram_level r.cpu own moment id answer) (id_of (named_at s.names r.name)) d) ∙ e))
+      (λ own answer. reprogram_level r.cpu own moment id answer) (cyclic_id (named_at s.names r.name)) d) ∙ e))
   does_next k id level (steps.Reprogram r) s t (inr nothing) fit e = absurd (none_some e)
   does_next k id level (steps.Remove name) s t d fit e = absurd (none_some (sym (with_none SystemRemoval
-      (λ own answer. BeginRemove own answer) name id s t (λ own answer. refl) (id_of (named_at s.names name)) d) ∙ e))
+      (λ own answer. BeginRemove own answer) name id s t (λ own answer. refl) (cyclic_id (named_at s.names name)) d) ∙ e))
   does_next k id level (steps.Advance now) s t (inl suspended) fit e = absurd (none_some e)
   does_next k id level (steps.Advance now) s t (inr f) fit e = absurd (none_some e)
   does_next k id level (steps.Softint i) s t d fit e = absurd (none_some e)
@@ -127,7 +130,7 @@ module _ {C R : Type 0} (handler : Calls C) (firing : Raise R) where
   steps_named [] id k level s t e fit is = absurd (none_some is)
   steps_named (x ∷ xs) id k level s t (u, (v, b, d), rest) fit is =
       by (λ after found. steps_named xs id (names_after k x) level u t rest after found) (level_in id own) refl
-      (sym (level_on id (before ++ own) after ∙ ap (λ o. first_of o (level_in id after))
+      (sym (level_on id (before ++ own) after ∙ ap (λ o. first_ring o (level_in id after))
       (level_later id before own (begin_none handler firing id (waits_first x) s v b))) ∙ is)
     where
       before : List LeadCall
@@ -140,7 +143,7 @@ module _ {C R : Type 0} (handler : Calls C) (firing : Raise R) where
       after = steps_calls handler firing u xs t rest
 
       by : (names_fit (names_after k x) xs ≡ true → level_in id after ≡ Some level → HasName (names_after k x) id xs u t rest)
-          → (o : Option Level) → level_in id own ≡ o → first_of o (level_in id after) ≡ Some level
+          → (o : Option Level) → level_in id own ≡ o → first_ring o (level_in id after) ≡ Some level
           → HasName k id (x ∷ xs) s t (u, (v, b, d), rest)
       by later (Some found) here e =
           let (fits, after_fits) = both_true (name_fits k x) (names_fit (names_after k x) xs) fit in

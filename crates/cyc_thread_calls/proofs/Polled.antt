@@ -29,14 +29,15 @@ use Rattle.cyc_threads.specs.SystemRemoval.{SystemRemoval}
 use Rattle.cyc_threads.specs.SystemRemoval.TheVariants.{Done, Kept}
 use Rattle.cyc_threads.specs.SystemSide.{SystemSide}
 use Rattle.cyc_threads.specs.Calls.{SystemCall, Bind, BeginRemove, PollRemove, reprograms}
-use Rattle.cyc_threads.specs.declared.named.Named.{Named}
-use Rattle.cyc_threads.specs.declared.named.Named.TheVariants.{Nothing, Cyclic, Leaving, Removed}
+use Rattle.cyc_words.specs.declared.named.Named.{Named}
+use Rattle.cyc_words.specs.declared.named.Named.TheVariants.{Nothing, Cyclic, Leaving, Removed}
 use Rattle.cyc_threads.specs.declared.progress.Progress.{Progress}
 use Rattle.cyc_threads.specs.StepCalls.{CallsFor, Poll, Polls, Waits, Fires}
-use Rattle.cyc_threads.specs.Names.{named_at, id_of, is_leaving as leaves, NoneLeaves, news, noted}
-use Rattle.cyc_threads.specs.Counting.{Told, Tells, TellsOf, Reports}
+use Rattle.cyc_words.specs.Names.{named_at, cyclic_id, has_open_removal as leaves, NoneLeaves, news, noted}
+use Rattle.cyc_threads.specs.Counting.{NameLine, Tells, TellsOf, Reports}
 use Rattle.cyc_threads.specs.declared.counting.Line.{Line}
-use Rattle.cyc_threads.specs.Words.{WithId, Does, Begins, waits_first}
+use Rattle.cyc_words.specs.Words.{WithId}
+use Rattle.cyc_threads.specs.Words.{DoesStep, Begins, waits_first}
 use Rattle.cyc_threads.specs.Steps.{TakesSteps, Runs}
 use Rattle.cyc_threads.specs.declared.running.Ended.{Ended}
 use Rattle.cyc_threads.specs.Running.{HasRun}
@@ -46,7 +47,7 @@ use Rattle.cyc_system_rings.proofs.Singles.{ok_err}
 use Rattle.cyc_system_rings.proofs.Runs.{sound_after, step_ready, refused_begin}
 use Rattle.cyc_system_rings.proofs.Quiet.{IsQuiet, is_open, quiet_untouched, quiet_begun, quiet_polled}
 use Rattle.cyc_system_rings.proofs.Firing.{quiet_fired, fired_removal}
-use Rattle.cyc_thread_calls.specs.Answering.{IsAnswered}
+use Rattle.cyc_thread_calls.specs.Answering.{IsAnsweredPoll}
 use Rattle.cyc_thread_calls.specs.Calling.{lead_calls}
 use Rattle.cyc_thread_calls.specs.Giving.{given_in, later_id}
 use Rattle.cyc_thread_calls.specs.Leading.{calls_in, poll_calls, wait_calls, begin_calls, call_with, call_of, steps_calls}
@@ -60,19 +61,19 @@ use Rattle.cyc_thread_calls.proofs.Starting.{first_ready}
 -- ---- calls
 
 abbrev AreAnswered : List LeadCall → Type 0
-AreAnswered calls = All IsAnswered calls
+AreAnswered calls = All IsAnsweredPoll calls
 
 none_answered : AreAnswered []
-none_answered = All-nil IsAnswered
+none_answered = All-nil IsAnsweredPoll
 
-one_answered : (call : LeadCall) → IsAnswered call → AreAnswered (call ∷ [])
-one_answered call answered = All-cons IsAnswered call [] answered none_answered
+one_answered : (call : LeadCall) → IsAnsweredPoll call → AreAnswered (call ∷ [])
+one_answered call answered = All-cons IsAnsweredPoll call [] answered none_answered
 
 both_answered : (xs ys : List LeadCall) → AreAnswered xs → AreAnswered ys → AreAnswered (xs ++ ys)
-both_answered xs ys a b = All-append IsAnswered xs ys a b
+both_answered xs ys a b = All-append IsAnsweredPoll xs ys a b
 
 set_answered : (cpu : Option ℕ) (id moment : ℕ) (answer : Result (Unit {0}) Refusal)
-    → IsAnswered (Make (reprograms cpu id moment answer))
+    → IsAnsweredPoll (Make (reprograms cpu id moment answer))
 set_answered None id moment answer = tt
 set_answered (Some n) id moment answer = tt
 
@@ -166,7 +167,8 @@ module _ {C R : Type 0} (handler : Calls C) (firing : Raise R) (many : ℕ) wher
   none_open s none name id is = absurd (not_leaving_now (named_at s.names name) id (none name) is)
 
   -- the id of a name is the one that it was given
-  own_given : (s : Progress R C) (k : Stands s) (name id : ℕ) → id_of (named_at s.names name) ≡ Some id → k.given name ≡ Some id
+  own_given : (s : Progress R C) (k : Stands s) (name id : ℕ) → cyclic_id (named_at s.names name) ≡ Some id
+      → k.given name ≡ Some id
   own_given s k name id is = (its_id many k.given k.way s.names s.side.system.last k.held (k.given name)
       (named_at s.names name) id is
       (k.held.fits name (its_place many k.given k.way s.names s.side.system.last k.held s.names name id is))).0
@@ -189,7 +191,7 @@ module _ {C R : Type 0} (handler : Calls C) (firing : Raise R) (many : ℕ) wher
 
   -- ---- a removal ends
 
-  removed_open : (name id : ℕ) (receipt : Receipt) (s t : Progress R C) → Stands s → id_of (named_at s.names name) ≡ Some id
+  removed_open : (name id : ℕ) (receipt : Receipt) (s t : Progress R C) → Stands s → cyclic_id (named_at s.names name) ≡ Some id
       → t.names ≡ slice_set s.names name (Removed receipt)
       → ((own : ℕ) → own ≢ id → IsUntouched own s.side.system t.side.system) → AllOpen t
   removed_open name id receipt s t k has told others m own is = by (set_at s.names name m (Removed receipt))
@@ -203,23 +205,23 @@ module _ {C R : Type 0} (handler : Calls C) (firing : Raise R) (many : ℕ) wher
 
       other : named_at s.names m ≡ Leaving own → own ≢ id
       other was e =
-          let same = k.held.apart m name id (own_given s k m id (ap id_of was ∙ ap Some e)) (own_given s k name id has) in
-          none_some (sym (ap id_of within)
-          ∙ ap (λ (j : ℕ). id_of (named_at (slice_set s.names name (Removed receipt)) j)) (sym same)
-          ∙ ap id_of now)
+          let same = k.held.apart m name id (own_given s k m id (ap cyclic_id was ∙ ap Some e)) (own_given s k name id has) in
+          none_some (sym (ap cyclic_id within)
+          ∙ ap (λ (j : ℕ). cyclic_id (named_at (slice_set s.names name (Removed receipt)) j)) (sym same)
+          ∙ ap cyclic_id now)
 
       by : (named_at (slice_set s.names name (Removed receipt)) m ≡ named_at s.names m)
           ⊎ ((m ≡ name) × (named_at (slice_set s.names name (Removed receipt)) m ≡ Removed receipt))
           → Opens firing own t.side.system
       by (inl e) = let was = sym e ∙ now in
           untouched_opens firing own s.side.system t.side.system (others own (other was)) (k.opens m own was)
-      by (inr (same, e)) = absurd (none_some (ap id_of (sym e ∙ now)))
+      by (inr (same, e)) = absurd (none_some (ap cyclic_id (sym e ∙ now)))
 
   -- ---- polls
 
   poll_open : (name id : ℕ) (answer : Option Receipt) (s t : Progress R C) → named_at s.names name ≡ Leaving id
       → CallsFor firing name (PollRemove id (Ok answer)) s t → Stands s → AllOpen t
-  poll_open name id (Some receipt) s t here did k m own is = removed_open name id receipt s t k (ap id_of here) did.told
+  poll_open name id (Some receipt) s t here did k m own is = removed_open name id receipt s t k (ap cyclic_id here) did.told
       (λ own ne. polls_others firing id own (Ok (Some receipt)) s.side.system t.side.system ne did.did) m own is
   poll_open name id None s t here did k m own is =
       let was = sym (ap (λ (l : List Named). named_at l m) did.told) ∙ is in dite (ℕ_discrete own id)
@@ -229,14 +231,14 @@ module _ {C R : Type 0} (handler : Calls C) (firing : Raise R) (many : ℕ) wher
       (polls_others firing id own (Ok None) s.side.system t.side.system ne did.did) (k.opens m own was))
 
   one_poll : (name id : ℕ) (answer : Result (Option Receipt) Refusal) (s t : Progress R C) → named_at s.names name ≡ Leaving id
-      → CallsFor firing name (PollRemove id answer) s t → Stands s → Stands t × IsAnswered (Make (PollRemove id answer))
+      → CallsFor firing name (PollRemove id answer) s t → Stands s → Stands t × IsAnsweredPoll (Make (PollRemove id answer))
   one_poll name id (Err why) s t here did k =
       absurd (never_refused firing id why s.side.system t.side.system did.did (k.opens name id here))
   one_poll name id (Ok answer) s t here did k = (
     record {
       given = k.given;
       way = k.way ++ Make (PollRemove id (Ok answer)) ∷ [];
-      held = polls_held_on handler firing many k.given k.way name id (Ok answer) s t (ap id_of here) did k.held;
+      held = polls_held_on handler firing many k.given k.way name id (Ok answer) s t (ap cyclic_id here) did k.held;
       sound = did.sound;
       ready = step_ready handler firing 0 s.side t.side (Make (PollRemove id (Ok answer)))
           ((did.did, did.leads), did.sound) k.ready;
@@ -249,7 +251,7 @@ module _ {C R : Type 0} (handler : Calls C) (firing : Raise R) (many : ℕ) wher
       → AreAnswered (poll_calls polls)
   all_polls [] s t e k = none_answered
   all_polls (p ∷ polls) s t (u, (here, did), rest) k = let (next, answered) = one_poll p.name p.id p.answer s u here did k in
-      All-cons IsAnswered (Make (PollRemove p.id p.answer)) (poll_calls polls) answered (all_polls polls u t rest next)
+      All-cons IsAnsweredPoll (Make (PollRemove p.id p.answer)) (poll_calls polls) answered (all_polls polls u t rest next)
 
   -- ---- the wait before a step
 
@@ -306,7 +308,7 @@ module _ {C R : Type 0} (handler : Calls C) (firing : Raise R) (many : ℕ) wher
 
   -- the removal of a name begins
   begun_open : (name id : ℕ) (answer : Result SystemRemoval Refusal) (s t : Progress R C)
-      → id_of (named_at s.names name) ≡ Some id → CallsFor firing name (BeginRemove id answer) s t → Stands s → AllOpen t
+      → cyclic_id (named_at s.names name) ≡ Some id → CallsFor firing name (BeginRemove id answer) s t → Stands s → AllOpen t
   begun_open name id (Ok (Done receipt)) s t has did k m own is = removed_open name id receipt s t k has did.told
       (λ own ne. begins_others firing id own (Ok (Done receipt)) s.side.system t.side.system ne did.did) m own is
   begun_open name id (Err why) s t has did k m own is =
@@ -325,9 +327,9 @@ module _ {C R : Type 0} (handler : Calls C) (firing : Raise R) (many : ℕ) wher
           ⊎ ((m ≡ name) × (named_at (slice_set s.names name (Leaving id)) m ≡ Leaving id)) → Opens firing own t.side.system
       by ne (inl e) = untouched_opens firing own s.side.system t.side.system
           (begins_others firing id own (Ok (Kept kept)) s.side.system t.side.system ne did.did) (k.opens m own (sym e ∙ now))
-      by ne (inr (same, e)) = absurd (ne (sym (same_some (ap id_of (sym e ∙ now)))))
+      by ne (inr (same, e)) = absurd (ne (sym (same_some (ap cyclic_id (sym e ∙ now)))))
 
-  remove_open : (name : ℕ) (s t : Progress R C) (id : Option ℕ) → id_of (named_at s.names name) ≡ id
+  remove_open : (name : ℕ) (s t : Progress R C) (id : Option ℕ) → cyclic_id (named_at s.names name) ≡ id
       → WithId id (λ own. (answer : Result SystemRemoval Refusal) × CallsFor firing name (BeginRemove own answer) s t) (t ≡ s)
       → Stands s → AllOpen t
   remove_open name s t (Some id) has (answer, did) k = begun_open name id answer s t has did k
@@ -346,7 +348,7 @@ module _ {C R : Type 0} (handler : Calls C) (firing : Raise R) (many : ℕ) wher
       )
 
   -- every word but `advance` and `remove` comes where no name is leaving, and makes none leave
-  does_open : (x : Step) (s t : Progress R C) → Does handler firing x s t
+  does_open : (x : Step) (s t : Progress R C) → DoesStep handler firing x s t
       → (waits_first x ≡ true → NoneLeaves s.names) → Stands s → AllOpen t
   does_open (steps.Add a) s t (inl (when, starts, lasts, long, (Ok id, did))) none k =
       none_open t (given_none a.name id _ s t did refl (none refl))
@@ -359,14 +361,14 @@ module _ {C R : Type 0} (handler : Calls C) (firing : Raise R) (many : ℕ) wher
       none_open t (one_none a.name _ s t did refl (none refl))
   does_open (steps.Omni a) s t (inr (odd, e)) none k = none_open t (same_none s t e (none refl))
   does_open (steps.Bind b) s t d none k = none_open t (with_none (Unit {0}) (λ id answer. Bind id (Some b.cpu) answer) b.name s t
-      (id_of (named_at s.names b.name)) d (λ own answer. refl) (none refl))
+      (cyclic_id (named_at s.names b.name)) d (λ own answer. refl) (none refl))
   does_open (steps.Unbind name) s t d none k = none_open t (with_none (Unit {0}) (λ id answer. Bind id None answer) name s t
-      (id_of (named_at s.names name)) d (λ own answer. refl) (none refl))
+      (cyclic_id (named_at s.names name)) d (λ own answer. refl) (none refl))
   does_open (steps.Reprogram r) s t (inl (moment, is, d)) none k =
       none_open t (with_none (Unit {0}) (λ id answer. reprograms r.cpu id moment answer) r.name s t
-      (id_of (named_at s.names r.name)) d (λ own answer. reprogram_news r.cpu own moment answer) (none refl))
+      (cyclic_id (named_at s.names r.name)) d (λ own answer. reprogram_news r.cpu own moment answer) (none refl))
   does_open (steps.Reprogram r) s t (inr (odd, e)) none k = none_open t (same_none s t e (none refl))
-  does_open (steps.Remove name) s t d none k = remove_open name s t (id_of (named_at s.names name)) refl d k
+  does_open (steps.Remove name) s t d none k = remove_open name s t (cyclic_id (named_at s.names name)) refl d k
   does_open (steps.Advance now) s t (inl (suspended, e)) none k = subst AllOpen (sym e) k.opens
   does_open (steps.Advance now) s t (inr f) none k = fires_open now s t f k
   does_open (steps.Softint i) s t e none k = none_open t (same_none s t e (none refl))
@@ -376,7 +378,7 @@ module _ {C R : Type 0} (handler : Calls C) (firing : Raise R) (many : ℕ) wher
   does_open steps.Suspend s t (answer, did) none k = none_open t (one_none 0 _ s t did refl (none refl))
   does_open steps.Resume s t (answer, did) none k = none_open t (one_none 0 _ s t did refl (none refl))
 
-  does_stands : (x : Step) (s t : Progress R C) → Does handler firing x s t
+  does_stands : (x : Step) (s t : Progress R C) → DoesStep handler firing x s t
       → (waits_first x ≡ true → NoneLeaves s.names) → Stands s → Stands t
   does_stands x s t d none k = record {
     given = λ n. later_id (k.given n) (given_in n x (call_of handler firing x s t d));
@@ -390,27 +392,27 @@ module _ {C R : Type 0} (handler : Calls C) (firing : Raise R) (many : ℕ) wher
   with_answered : (Answer : Type 0) (call : ℕ → Result Answer Refusal → SystemCall) (name : ℕ) (s t : Progress R C)
       (id : Option ℕ)
       (d : WithId id (λ own. (answer : Result Answer Refusal) × CallsFor firing name (call own answer) s t) (t ≡ s))
-      → ((own : ℕ) (answer : Result Answer Refusal) → IsAnswered (Make (call own answer)))
+      → ((own : ℕ) (answer : Result Answer Refusal) → IsAnsweredPoll (Make (call own answer)))
       → AreAnswered (calls_in (call_with firing Answer call name s t id d))
   with_answered Answer call name s t (Some own) (answer, did) each = one_answered (Make (call own answer)) (each own answer)
   with_answered Answer call name s t None e each = none_answered
 
-  does_answered : (x : Step) (s t : Progress R C) (d : Does handler firing x s t)
+  does_answered : (x : Step) (s t : Progress R C) (d : DoesStep handler firing x s t)
       → AreAnswered (calls_in (call_of handler firing x s t d))
   does_answered (steps.Add a) s t (inl (when, starts, lasts, long, (answer, did))) = one_answered _ tt
   does_answered (steps.Add a) s t (inr odd) = none_answered
   does_answered (steps.Omni a) s t (inl (when, starts, lasts, long, (answer, did))) = one_answered _ tt
   does_answered (steps.Omni a) s t (inr odd) = none_answered
   does_answered (steps.Bind b) s t d = with_answered (Unit {0}) (λ id answer. Bind id (Some b.cpu) answer) b.name s t
-      (id_of (named_at s.names b.name)) d (λ own answer. tt)
+      (cyclic_id (named_at s.names b.name)) d (λ own answer. tt)
   does_answered (steps.Unbind name) s t d = with_answered (Unit {0}) (λ id answer. Bind id None answer) name s t
-      (id_of (named_at s.names name)) d (λ own answer. tt)
+      (cyclic_id (named_at s.names name)) d (λ own answer. tt)
   does_answered (steps.Reprogram r) s t (inl (moment, is, d)) =
-      with_answered (Unit {0}) (λ id answer. reprograms r.cpu id moment answer) r.name s t (id_of (named_at s.names r.name)) d
+      with_answered (Unit {0}) (λ id answer. reprograms r.cpu id moment answer) r.name s t (cyclic_id (named_at s.names r.name)) d
       (λ own answer. set_answered r.cpu own moment answer)
   does_answered (steps.Reprogram r) s t (inr odd) = none_answered
   does_answered (steps.Remove name) s t d = with_answered SystemRemoval (λ id answer. BeginRemove id answer) name s t
-      (id_of (named_at s.names name)) d (λ own answer. tt)
+      (cyclic_id (named_at s.names name)) d (λ own answer. tt)
   does_answered (steps.Advance now) s t (inl suspended) = none_answered
   does_answered (steps.Advance now) s t (inr f) = one_answered _ tt
   does_answered (steps.Softint i) s t e = none_answered
@@ -445,7 +447,7 @@ module _ {C R : Type 0} (handler : Calls C) (firing : Raise R) (many : ℕ) wher
   line_answered (Leaving own) line s t (answer, did, is) = one_answered _ tt
   line_answered (Removed receipt) line s t w = none_answered
 
-  lines_answered : (all : List Told) (s t : Progress R C) (w : FoldsTo (Tells firing) s all t)
+  lines_answered : (all : List NameLine) (s t : Progress R C) (w : FoldsTo (Tells firing) s all t)
       → AreAnswered (told_calls firing all s t w)
   lines_answered [] s t w = none_answered
   lines_answered (one ∷ all) s t (u, tells, rest) = both_answered (told_calls_of firing one.named one.line s u tells)
@@ -461,8 +463,8 @@ module _ {C R : Type 0} (handler : Calls C) (firing : Raise R) (many : ℕ) wher
     sound = sound;
     ready = ready;
     opens = λ name id is. absurd (none_some
-        (its_id many (λ n. None) [] s.names s.side.system.last held None (named_at s.names name) id (ap id_of is)
-        (held.fits name (its_place many (λ n. None) [] s.names s.side.system.last held s.names name id (ap id_of is)))).0);
+        (its_id many (λ n. None) [] s.names s.side.system.last held None (named_at s.names name) id (ap cyclic_id is)
+        (held.fits name (its_place many (λ n. None) [] s.names s.side.system.last held s.names name id (ap cyclic_id is)))).0);
   }
 
   -- and the wait after them, and the report

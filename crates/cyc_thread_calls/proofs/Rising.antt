@@ -19,9 +19,10 @@ use Rattle.cyc_threads.proofs.Pieces.{made_of}
 use Rattle.cyc_system_rings.specs.Leading.{LeadCall, Make}
 use Rattle.cyc_system_rings.proofs.Singles.{ok_err}
 use Rattle.cyc_threads.specs.declared.progress.Progress.{Progress}
-use Rattle.cyc_threads.specs.Names.{named_at, id_of}
+use Rattle.cyc_words.specs.Names.{named_at, cyclic_id}
 use Rattle.cyc_threads.specs.StepCalls.{CallsFor, Poll, Polls}
-use Rattle.cyc_threads.specs.Words.{WithId, Does, Begins, waits_first}
+use Rattle.cyc_words.specs.Words.{WithId}
+use Rattle.cyc_threads.specs.Words.{DoesStep, Begins, waits_first}
 use Rattle.cyc_threads.specs.Steps.{TakesSteps}
 use Rattle.cyc_thread_calls.specs.Leading.{call_of}
 use Rattle.cyc_thread_calls.specs.Giving.{given_by}
@@ -75,20 +76,20 @@ module _ {C R : Type 0} (handler : Calls C) (firing : Raise R) where
   id_rises (Some own) name A call s t (answer, did) = call_rises name (call own answer) s t did
   id_rises None name A call s t e = unmoved s t e
 
-  pub does_rises : (x : Step) (s t : Progress R C) → Does handler firing x s t → Rises s t
+  pub does_rises : (x : Step) (s t : Progress R C) → DoesStep handler firing x s t → Rises s t
   does_rises (steps.Add a) s t (inl (when, starts, lasts, long, (answer, did))) = call_rises a.name _ s t did
   does_rises (steps.Add a) s t (inr (bad, e)) = unmoved s t e
   does_rises (steps.Omni a) s t (inl (when, starts, lasts, long, (answer, did))) = call_rises a.name _ s t did
   does_rises (steps.Omni a) s t (inr (bad, e)) = unmoved s t e
   does_rises (steps.Bind b) s t d =
-      id_rises (id_of (named_at s.names b.name)) b.name _ (λ id answer. Bind id (Some b.cpu) answer) s t d
+      id_rises (cyclic_id (named_at s.names b.name)) b.name _ (λ id answer. Bind id (Some b.cpu) answer) s t d
   does_rises (steps.Unbind name) s t d =
-      id_rises (id_of (named_at s.names name)) name _ (λ id answer. Bind id None answer) s t d
+      id_rises (cyclic_id (named_at s.names name)) name _ (λ id answer. Bind id None answer) s t d
   does_rises (steps.Reprogram r) s t (inl (moment, is, d)) =
-      id_rises (id_of (named_at s.names r.name)) r.name _ (λ id answer. reprograms r.cpu id moment answer) s t d
+      id_rises (cyclic_id (named_at s.names r.name)) r.name _ (λ id answer. reprograms r.cpu id moment answer) s t d
   does_rises (steps.Reprogram r) s t (inr (bad, e)) = unmoved s t e
   does_rises (steps.Remove name) s t d =
-      id_rises (id_of (named_at s.names name)) name _ (λ id answer. BeginRemove id answer) s t d
+      id_rises (cyclic_id (named_at s.names name)) name _ (λ id answer. BeginRemove id answer) s t d
   does_rises (steps.Advance now) s t (inl (suspended, e)) =
       let l = ap (λ (p : Progress R C). p.side.system.last) e in omega (arith, l)
   does_rises (steps.Advance now) s t (inr d) =
@@ -111,7 +112,7 @@ module _ {C R : Type 0} (handler : Calls C) (firing : Raise R) where
       let a = polls_rise polls s u polled in let b = settles.asked.last in omega (arith, a, b)
 
   -- what a step gives: the next name, and an id above those before it
-  pub does_gives : (n : ℕ) (x : Step) (s t : Progress R C) (d : Does handler firing x s t)
+  pub does_gives : (n : ℕ) (x : Step) (s t : Progress R C) (d : DoesStep handler firing x s t)
       → name_fits n x ≡ true → Gives (λ j id. (j ≡ n) × (s.side.system.last < id) × (id ≤ t.side.system.last)) x
       (call_of handler firing x s t d)
   does_gives n (steps.Add a) s t (inl (when, starts, lasts, long, (answer, did))) fits = λ d e.

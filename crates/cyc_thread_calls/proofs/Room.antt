@@ -15,9 +15,9 @@ use Rattle.cyc_types.specs.declared.refusal.Refusal.{Refusal}
 use Rattle.cyc_types.specs.declared.refusal.Refusal.TheVariants as why
 use Rattle.cyc_timers.specs.Rows.{Cyclic}
 use Rattle.cyc_types.specs.Reasons.{first_refusal, bad_now}
-use Rattle.cyc_cpu.specs.Cpu.{CpuView, HasRisingIds, running}
+use Rattle.cyc_cpu.specs.Cpu.{CpuView, HasRisingCyclics, running}
 use Rattle.cyc_cpu.specs.Moving.{IsSettled}
-use Rattle.cyc_cpu.specs.Calls.{Changes as CpuChanges, AskRoom, Reserve, no_interrupts}
+use Rattle.cyc_cpu.specs.Calls.{CpuChanges as CpuChanges, AskRoom, Reserve, no_interrupts}
 use Rattle.cyc_threads.specs.CpuLawsSettled.{IsUntil}
 use Rattle.cyc_threads.proofs.Staying.{settled_one, never_put_off}
 use Rattle.cyc_places.specs.declared.record.Record.{Record}
@@ -35,14 +35,14 @@ use Rattle.cyc_threads.proofs.Settles.{refused_here}
 use Rattle.cyc_threads.specs.Sound.{IsSound}
 
 -- ids that rise from above 0 are above their places
-ids_high : (cs : List Cyclic) → HasRisingIds cs → ((j : ℕ) (d : Cyclic) → j < length cs → 0 < (get_or cs j d).timer.id)
+ids_high : (cs : List Cyclic) → HasRisingCyclics cs → ((j : ℕ) (d : Cyclic) → j < length cs → 0 < (get_or cs j d).timer.id)
     → (j : ℕ) (d : Cyclic) → j < length cs → j < (get_or cs j d).timer.id
 ids_high cs rising some zero d low = some zero d low
 ids_high cs rising some (suc j) d low = let before = ids_high cs rising some j d (omega (arith, low)) in
     let less = rising j (suc j) d (omega arith) low in omega (arith, before, less)
 
 -- so there are at most as many as the last of them says
-few_ids : (cs : List Cyclic) (last : ℕ) → HasRisingIds cs
+few_ids : (cs : List Cyclic) (last : ℕ) → HasRisingCyclics cs
     → ((j : ℕ) (d : Cyclic) → j < length cs → (0 < (get_or cs j d).timer.id) × ((get_or cs j d).timer.id ≤ last))
     → length cs ≤ last
 few_ids [] last rising some = omega arith

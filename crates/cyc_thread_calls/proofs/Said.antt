@@ -6,17 +6,17 @@ use Rattle.cyc_types.specs.declared.Raise.{Ghosts as Raise}
 use Rattle.cyc_script.specs.declared.step.Step.{Step}
 use Rattle.cyc_script.specs.WellFormed.{IsWellFormed}
 use Rattle.cyc_expected.specs.Course.{Told, untold, told_by}
-use Rattle.cyc_expected.specs.Expected.{events_of, expected}
+use Rattle.cyc_expected.specs.Expected.{course_events, expected}
 use Rattle.cyc_system_rings.specs.Events.{events_in}
-use Rattle.cyc_threads.specs.declared.named.Named.{Named}
-use Rattle.cyc_threads.specs.declared.named.Named.TheVariants.{Nothing, Cyclic, Leaving, Removed}
+use Rattle.cyc_words.specs.declared.named.Named.{Named}
+use Rattle.cyc_words.specs.declared.named.Named.TheVariants.{Nothing, Cyclic, Leaving, Removed}
 use Rattle.cyc_threads.specs.declared.progress.Progress.{Progress}
 use Rattle.cyc_threads.specs.declared.counting.Line.{Line}
-use Rattle.cyc_threads.specs.Names.{named_at}
+use Rattle.cyc_words.specs.Names.{named_at}
 use Rattle.cyc_threads.specs.Steps.{Runs}
-use Rattle.cyc_threads.specs.Counting.{Told as Reported, Tells, TellsOf, Reports}
+use Rattle.cyc_threads.specs.Counting.{NameLine as Reported, Tells, TellsOf, Reports}
 use Rattle.cyc_thread_calls.specs.Leading.{wait_calls, steps_calls, told_calls_of, told_calls, report_calls, all_calls}
-use Rattle.cyc_thread_calls.specs.Meeting.{way_of}
+use Rattle.cyc_thread_calls.specs.Meeting.{way_of_run}
 use Rattle.cyc_thread_calls.specs.Giving.{id_given}
 use Rattle.cyc_thread_calls.proofs.Owners.{Owns, owns_none}
 use Rattle.cyc_thread_calls.proofs.Events.{events_more}
@@ -52,7 +52,7 @@ module _ {C R : Type 0} (handler : Calls C) (firing : Raise R) where
       → IsWellFormed xs names → s.names ≡ replicate names Nothing
       → id_given handler firing name s xs t runs ≡ Some id
       → told_by (events_in id (all_calls handler firing xs lines s t u runs reports)) told
-      ≡ told_by (events_of name s.clock (way_of handler firing s xs t runs)) told
+      ≡ told_by (course_events name s.clock (way_of_run handler firing s xs t runs)) told
   calls_tell xs lines s t u names name id (v, takes, waits) reports told good none is =
       let owns : Owns id name s.names = subst (Owns id name) (sym none) (owns_none id name (replicate names Nothing)
       (nothing_yet names)) in
@@ -68,6 +68,6 @@ module _ {C R : Type 0} (handler : Calls C) (firing : Raise R) where
 
   pub unnamed_tells : (xs : List Step) (s t : Progress R C) (cpus name : ℕ) (runs : Runs handler firing s xs t)
       → id_given handler firing name s xs t runs ≡ None
-      → expected cpus (way_of handler firing s xs t runs) name ≡ 0
+      → expected cpus (way_of_run handler firing s xs t runs) name ≡ 0
   unnamed_tells xs s t cpus name (v, takes, waits) is =
       (all_idle handler firing name s xs v takes is 0 (untold cpus) (refl, refl)).1

@@ -22,12 +22,12 @@ apart_rest : (x : Step) (xs : List Step) → Apart (x ∷ xs) → Apart xs
 apart_rest x xs h i j a b less p q = by (h (suc i) (suc j) a b (omega (arith, less)) p q)
   where
     by : AreParted (x ∷ xs) (suc i) (suc j) → AreParted xs i j
-    by r = at r.place r.step r.after r.before r.here r.parts
+    by r = at r.position r.step r.after r.before r.here r.parts
       where
         at : (k : ℕ) (y : Step) → suc i < k → k < suc j → IsStep (x ∷ xs) k y → Parts y → AreParted xs i j
         at zero y low high here parts = absurd (omega (arith, low))
         at (suc k) y low high here parts = record {
-          place = k;
+          position = k;
           step = y;
           after = omega (arith, low);
           before = omega (arith, high);
@@ -40,7 +40,7 @@ apart_before : (name : ℕ) (xs : List Step) → Apart (steps.Remove name ∷ xs
 apart_before name xs h j b q = by (h 0 (suc j) name b (omega arith) refl q)
   where
     by : AreParted (steps.Remove name ∷ xs) 0 (suc j) → (k : ℕ) × (x : Step) × (k < j) × IsStep xs k x × Parts x
-    by r = at r.place r.step r.after r.before r.here r.parts
+    by r = at r.position r.step r.after r.before r.here r.parts
       where
         at : (k : ℕ) (y : Step) → 0 < k → k < suc j → IsStep (steps.Remove name ∷ xs) k y → Parts y
             → (k : ℕ) × (x : Step) × (k < j) × IsStep xs k x × Parts x

@@ -6,7 +6,7 @@ use Rattle.cyc_types.specs.declared.Calls.{Ghosts as Calls}
 use Rattle.cyc_types.specs.declared.firing.Sent.{Sent}
 use Rattle.cyc_types.specs.declared.level.Level.{Level}
 use Rattle.cyc_types.specs.declared.level.Level.TheVariants.{Low, Lock, High}
-use Rattle.ring_rule.specs.Trail.{raises_of, losses_of}
+use Rattle.ring_rule.specs.Trail.{raises_of, losses_on_trail}
 use Rattle.cyc_ring.specs.declared.ends.RaiseEnd.{RaiseEnd}
 use Rattle.cyc_ring.specs.Ends.{raise_end, raise_trail}
 use Rattle.cyc_cpu.specs.Cpu.{CpuView}
@@ -38,7 +38,7 @@ module _ (ceiling id : ℕ) (end_at : CpuView RaiseEnd → RaiseEnd) where
   raised cpu = raises_of id (raise_trail (end_at cpu).seat)
 
   abbrev dropped : CpuView RaiseEnd → ℕ
-  dropped cpu = losses_of id (raise_trail (end_at cpu).seat)
+  dropped cpu = losses_on_trail id (raise_trail (end_at cpu).seat)
 
   -- of ends that spare, on all CPUs
   ends_spare : (xs : List (CpuView RaiseEnd)) → ((n : ℕ) (x : CpuView RaiseEnd) → slice_get xs n ≡ Some x
@@ -58,7 +58,7 @@ module _ {C : Type 0} (handler : Calls C) (script : Script)
   spare_new : (x : RaiseEnd) → x.seat.setting.ceiling ≡ script.ceiling → raise_trail x.seat ≡ [] → IsSpare script.ceiling x
   spare_new x same none = record {
     same = same;
-    spare = λ id some. (let a = ap (losses_of id) none in absurd (omega (arith, a, some)));
+    spare = λ id some. (let a = ap (losses_on_trail id) none in absurd (omega (arith, a, some)));
   }
 
   spare_first : OfAll raise_end (IsSpare script.ceiling)

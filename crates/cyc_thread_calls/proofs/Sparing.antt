@@ -6,7 +6,7 @@ use Rattle.cyc_types.specs.Firing.{FiringCall, Admits, Loads, Raises, Marks, Pol
 use Rattle.cyc_types.specs.declared.firing.Raised.TheVariants.{First, More, Lost}
 use Rattle.cyc_types.specs.Runs.{Goes, Taught, raised_by, lost_by}
 use Rattle.cyc_level.specs.Runs.{StayCounts, stay_calls}
-use Rattle.ring_rule.specs.Trail.{raises_of, losses_of, open_stay, seen_pend}
+use Rattle.ring_rule.specs.Trail.{raises_of, losses_on_trail, open_stay, seen_pend}
 use Rattle.cyc_ring.specs.declared.ends.RaiseEnd.{RaiseEnd}
 use Rattle.cyc_ring.specs.Views.{stay_with}
 use Rattle.cyc_ring.specs.Ends.{raise_end, end_view, raise_trail}
@@ -18,15 +18,15 @@ use native.Mathlib.Decide.{ℕ_discrete}
 -- the ceiling is this, and what lost an expiration was raised more often
 pub record IsSpare (ceiling : ℕ) (e : RaiseEnd) : Type 0 where
   pub same : e.seat.setting.ceiling ≡ ceiling
-  pub spare : (id : ℕ) → 0 < losses_of id (raise_trail e.seat) → ceiling < raises_of id (raise_trail e.seat)
+  pub spare : (id : ℕ) → 0 < losses_on_trail id (raise_trail e.seat) → ceiling < raises_of id (raise_trail e.seat)
 
 -- where as much was seen as the ceiling, so many were raised that were not lost
 seen_raised : (e : RaiseEnd) (id : ℕ) → seen_in ((end_view e).stays id) ≡ e.seat.setting.ceiling
-    → e.seat.setting.ceiling + losses_of id (raise_trail e.seat) ≤ raises_of id (raise_trail e.seat)
+    → e.seat.setting.ceiling + losses_on_trail id (raise_trail e.seat) ≤ raises_of id (raise_trail e.seat)
 seen_raised e id full = by (open_stay id (raise_trail e.seat)) refl
   where
     by : (o : Option StayCounts) → open_stay id (raise_trail e.seat) ≡ o
-        → e.seat.setting.ceiling + losses_of id (raise_trail e.seat) ≤ raises_of id (raise_trail e.seat)
+        → e.seat.setting.ceiling + losses_on_trail id (raise_trail e.seat) ≤ raises_of id (raise_trail e.seat)
     by None is = let some = e.seat.ranges.0 in
         let none = ap (λ o. seen_in (stay_with (seen_pend id (raise_trail e.seat)) o)) is in
         absurd (omega (arith, some, none, full))
@@ -38,16 +38,16 @@ seen_raised e id full = by (open_stay id (raise_trail e.seat)) refl
 module _ (ceiling : ℕ) where
   -- a call that loses nothing of the id
   grown : (e f : RaiseEnd) (id more : ℕ) → raises_of id (raise_trail f.seat) ≡ raises_of id (raise_trail e.seat) + more
-      → losses_of id (raise_trail f.seat) ≡ losses_of id (raise_trail e.seat) + 0 → IsSpare ceiling e
-      → 0 < losses_of id (raise_trail f.seat) → ceiling < raises_of id (raise_trail f.seat)
+      → losses_on_trail id (raise_trail f.seat) ≡ losses_on_trail id (raise_trail e.seat) + 0 → IsSpare ceiling e
+      → 0 < losses_on_trail id (raise_trail f.seat) → ceiling < raises_of id (raise_trail f.seat)
   grown e f id more up down own some = let s = own.spare id (omega (arith, down, some)) in omega (arith, up, s)
 
   -- one that loses one of an id
   lost_one : (e f : RaiseEnd) (id j : ℕ)
       → raises_of id (raise_trail f.seat) ≡ raises_of id (raise_trail e.seat) + (one_at id j + 0)
-      → losses_of id (raise_trail f.seat) ≡ losses_of id (raise_trail e.seat) + (one_at id j + 0) → IsSpare ceiling e
+      → losses_on_trail id (raise_trail f.seat) ≡ losses_on_trail id (raise_trail e.seat) + (one_at id j + 0) → IsSpare ceiling e
       → seen_in ((end_view e).stays j) ≡ e.seat.setting.ceiling
-      → 0 < losses_of id (raise_trail f.seat) → ceiling < raises_of id (raise_trail f.seat)
+      → 0 < losses_on_trail id (raise_trail f.seat) → ceiling < raises_of id (raise_trail f.seat)
   lost_one e f id j up down own full some = dite (ℕ_discrete id j)
       (λ is. (let same = own.same in let one = ap (λ b. cond {A = ℕ} b 1 0) (eq-eqb id j is) in
       let most = seen_raised e id (ap (λ k. seen_in ((end_view e).stays k)) is ∙ full) in
@@ -57,8 +57,8 @@ module _ (ceiling : ℕ) where
 
   one_counts : (e f : RaiseEnd) (id : ℕ) (call : FiringCall) → Learns (end_view e) call (end_view f)
       → raises_of id (raise_trail f.seat) ≡ raises_of id (raise_trail e.seat) + raised_by id (call ∷ [])
-      → losses_of id (raise_trail f.seat) ≡ losses_of id (raise_trail e.seat) + lost_by id (call ∷ [])
-      → IsSpare ceiling e → 0 < losses_of id (raise_trail f.seat) → ceiling < raises_of id (raise_trail f.seat)
+      → losses_on_trail id (raise_trail f.seat) ≡ losses_on_trail id (raise_trail e.seat) + lost_by id (call ∷ [])
+      → IsSpare ceiling e → 0 < losses_on_trail id (raise_trail f.seat) → ceiling < raises_of id (raise_trail f.seat)
   one_counts e f id (Raises j Lost) (full, is) up down own some = lost_one e f id j up down own full some
   one_counts e f id (Raises j More) d up down own some = grown e f id _ up (omega (arith, down)) own some
   one_counts e f id (Raises j First) d up down own some = grown e f id _ up (omega (arith, down)) own some

@@ -11,7 +11,7 @@ use Rattle.cyc_types.specs.declared.level.Level.{Level}
 use Rattle.ring_rule.specs.declared.RaiseStep.{RaiseStep}
 use Rattle.cyc_ring.specs.declared.ends.RaiseEnd.{RaiseEnd}
 use Rattle.cyc_ring.specs.declared.seats.RaiseSeat.{RaiseSeat}
-use Rattle.cyc_ring.specs.Views.{firing_view}
+use Rattle.cyc_ring.specs.Views.{trail_view}
 use Rattle.cyc_ring.specs.Ends.{end_view, raise_trail}
 use Rattle.cyc_threads.proofs.Beginning.{agrees_new}
 use Rattle.cyc_threads.proofs.Spots.{same_some, none_some}
@@ -24,13 +24,13 @@ use Rattle.cyc_threads.specs.Sound.{IsSound}
 use Rattle.cyc_threads.specs.Seated.{Seated}
 use Rattle.cyc_threads.specs.Rings.{AreNew, seats_of_ends, firing_seats}
 use Rattle.cyc_threads.specs.declared.progress.Progress.{Progress}
-use Rattle.cyc_threads.specs.StepCalls.{IsReady}
+use Rattle.cyc_threads.specs.StepCalls.{HasLeads}
 use Rattle.cyc_threads.specs.Running.{IsAtFirst, most}
 
 -- ---- one CPU
 
-sound_new : (k : ℕ) (t : List RaiseStep) → 0 < k → t ≡ [] → Sound (firing_view k t)
-sound_new k t some e = subst (λ (x : List RaiseStep). Sound (firing_view k x)) (sym e) (record {
+sound_new : (k : ℕ) (t : List RaiseStep) → 0 < k → t ≡ [] → Sound (trail_view k t)
+sound_new k t some e = subst (λ (x : List RaiseStep). Sound (trail_view k x)) (sym e) (record {
   some_ceiling = some;
   capped = λ id s is. absurd (none_some is);
   owed = λ id s is. absurd (none_some is);
@@ -39,8 +39,8 @@ sound_new k t some e = subst (λ (x : List RaiseStep). Sound (firing_view k x)) 
   greatest = omega arith;
 })
 
-admitted_new : (level : Level) (k : ℕ) (t : List RaiseStep) → t ≡ [] → AreAdmitted level (firing_view k t) []
-admitted_new level k t e = subst (λ (x : List RaiseStep). AreAdmitted level (firing_view k x) []) (sym e) (record {
+admitted_new : (level : Level) (k : ℕ) (t : List RaiseStep) → t ≡ [] → AreAdmitted level (trail_view k t) []
+admitted_new level k t e = subst (λ (x : List RaiseStep). AreAdmitted level (trail_view k x) []) (sym e) (record {
   here = λ j c at. absurd (let low = at.0 in omega (arith, low));
   only = λ id s is. absurd (none_some is);
   over = λ id s is. absurd (none_some is);
@@ -69,10 +69,10 @@ lawful_new bound lock low a b = record {
 }
   where
     unmarked : (e : RaiseEnd) → raise_trail e.seat ≡ [] → (id : ℕ) → (end_view e).marked ≡ Some id → None ≡ Some id
-    unmarked e none id is = ap (λ (x : List RaiseStep). (firing_view e.seat.setting.ceiling x).marked) (sym none) ∙ is
+    unmarked e none id is = ap (λ (x : List RaiseStep). (trail_view e.seat.setting.ceiling x).marked) (sym none) ∙ is
 
     bank : (e : RaiseEnd) → raise_trail e.seat ≡ [] → 1 ≡ 2 ^ (end_view e).bank
-    bank e none = ap (λ (x : List RaiseStep). 2 ^ (firing_view e.seat.setting.ceiling x).bank) (sym none)
+    bank e none = ap (λ (x : List RaiseStep). 2 ^ (trail_view e.seat.setting.ceiling x).bank) (sym none)
 
 -- ---- all of them
 
@@ -137,7 +137,7 @@ module _ {C : Type 0} (names k : ℕ) (all : List (Seated C)) (first : Progress 
       ∙ length-map b.ends (λ (e : RaiseEnd × RaiseEnd). new_cpu most e.0 e.1) ∙ many_ends
 
   -- something leads each CPU
-  pub first_ready : IsReady first
+  pub first_ready : HasLeads first
   first_ready = sym (length-map first.side.leads.items (λ l. l.calls)) ∙ ap (λ (l : List C). length l) b.high
       ∙ length-map all (λ (s : Seated C). s.calls.high) ∙ sym many_cpus
 

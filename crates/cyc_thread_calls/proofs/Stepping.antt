@@ -12,6 +12,7 @@ use Rattle.cyc_types.specs.Limits.{cyclics as most_cyclics, last_id}
 use Rattle.cyc_types.specs.declared.moment.When.{When}
 use Rattle.cyc_types.specs.declared.refusal.Refusal.{Refusal}
 use Rattle.cyc_types.specs.declared.refusal.Refusal.TheVariants as why
+use Rattle.cyc_types.proofs.Facts.{so_true}
 use Rattle.cyc_script.specs.declared.step.Step.{Step}
 use Rattle.cyc_script.specs.declared.step.Add.{Add as AddStep}
 use Rattle.cyc_script.specs.declared.step.Omni.{Omni as OmniStep}
@@ -22,14 +23,14 @@ use Rattle.cyc_places.specs.declared.record.Placement.TheVariants.{On, Everywher
 use Rattle.cyc_threads.proofs.Spots.{same_some}
 use Rattle.cyc_threads.specs.Calls.{SystemCall, Changes, Add, AddOmni}
 use Rattle.cyc_threads.specs.Keeping.{TouchesRecord}
-use Rattle.cyc_threads.specs.declared.named.Named.{Named}
-use Rattle.cyc_threads.specs.declared.named.Named.TheVariants.{Cyclic}
+use Rattle.cyc_words.specs.declared.named.Named.{Named}
+use Rattle.cyc_words.specs.declared.named.Named.TheVariants.{Cyclic}
 use Rattle.cyc_threads.specs.declared.progress.Progress.{Progress}
 use Rattle.cyc_threads.specs.StepCalls.{CallsFor}
-use Rattle.cyc_threads.specs.Names.{named_at, is_leaving, NoneLeaves}
-use Rattle.cyc_threads.specs.Words.{Does}
+use Rattle.cyc_words.specs.Names.{named_at, has_open_removal, NoneLeaves}
+use Rattle.cyc_threads.specs.Words.{DoesStep}
 use Rattle.cyc_thread_calls.specs.Leading.{call_of, calls_in}
-use Rattle.cyc_thread_calls.specs.Meeting.{accepted}
+use Rattle.cyc_thread_calls.specs.Meeting.{was_accepted}
 use Rattle.cyc_thread_calls.specs.Way.{Standing, OnOne, OnAll, is_series, is_moment, is_taken, after_step}
 use Rattle.cyc_thread_calls.specs.Way.{with_standing}
 use Rattle.cyc_thread_calls.specs.Memory.{NoMemoryRefused}
@@ -41,10 +42,6 @@ use Rattle.cyc_thread_calls.proofs.Waiting.{IsCalmNow, HasWaited, waited_room}
 use Rattle.cyc_thread_calls.proofs.Moving.{stays_same}
 
 -- ---- numbers of a step
-
-so_true : (b : Bool) → T b → b ≡ true
-so_true true t = refl
-so_true false t = absurd t
 
 not_under : (n : ℕ) → int_lt (pos n) (pos 0) ≡ false
 not_under n = grind (arith, nat_tests)
@@ -58,7 +55,7 @@ series_of start interval when a b long =
     (λ i. is_series (sym a i) (sym b i))
     ∙ (λ i. not (not_under when.start i) && not (not_short when.interval long i))
 
-no_series_of : (start interval : ℤ) → (start <ℤ pos 0) ⊎ (interval <ℤ pos 1) → is_series start interval ≡ false
+pub no_series_of : (start interval : ℤ) → (start <ℤ pos 0) ⊎ (interval <ℤ pos 1) → is_series start interval ≡ false
 no_series_of start interval (inl low) = ap (λ b. not b && not (int_lt interval (pos 1))) (so_true _ low.lt)
 no_series_of start interval (inr low) = by (int_lt start (pos 0)) (so_true _ low.lt)
   where
@@ -95,18 +92,19 @@ module _ {C R : Type 0} (handler : Calls C)
   none_noted : (all : List Named) (name id : ℕ) → name < length all → NoneLeaves all
       → NoneLeaves (slice_set all name (Cyclic id))
   none_noted all name id low none other = dite (ℕ_discrete other name)
-      (λ e. ap is_leaving (ap (λ (k : ℕ). named_at (slice_set all name (Cyclic id)) k) e ∙ set_here all name (Cyclic id) low))
-      (λ ne. ap is_leaving (set_beside all name other (Cyclic id) ne) ∙ none other)
+      (λ e. ap has_open_removal (ap (λ (k : ℕ). named_at (slice_set all name (Cyclic id)) k) e
+      ∙ set_here all name (Cyclic id) low))
+      (λ ne. ap has_open_removal (set_beside all name other (Cyclic id) ne) ∙ none other)
 
   -- A step was accepted as the closed form says, and what is true stays.
   pub record Next (given : ℕ) (has : ℕ → Standing) (x : Step) (s t : Progress R C)
-      (d : Does handler firing x s t) : Type 0 where
-    pub agree : OnlyMoves x ⊎ (accepted handler firing x s t d ≡ is_taken cpus suspended has x)
+      (d : DoesStep handler firing x s t) : Type 0 where
+    pub agree : OnlyMoves x ⊎ (was_accepted handler firing x s t d ≡ is_taken cpus suspended has x)
     pub fits : Fits firing cpus names (names_after given x) (cond (is_taken cpus suspended has x) (after_step x has) has) t
 
   -- and nothing is open after it, as before it
   pub record NextCalm (given : ℕ) (has : ℕ → Standing) (x : Step) (s t : Progress R C)
-      (d : Does handler firing x s t) : Type 0 where
+      (d : DoesStep handler firing x s t) : Type 0 where
     pub next : Next given has x s t d
     pub calm : IsCalmNow firing s → IsCalmNow firing t
 
@@ -164,7 +162,7 @@ module _ {C R : Type 0} (handler : Calls C)
       (waited_room firing cpus names given has s h w (omega (arith, low, few))) (λ q. mem (ap Err q)) did.did)
 
   pub add_next : (given : ℕ) (has : ℕ → Standing) (a : AddStep) (s t : Progress R C)
-      (d : Does handler firing (steps.Add a) s t) → Fits firing cpus names given has s
+      (d : DoesStep handler firing (steps.Add a) s t) → Fits firing cpus names given has s
       → HasWaited firing s → given + 1 ≤ names → a.name < names
       → NoMemoryRefused (calls_in (call_of handler firing (steps.Add a) s t d))
       → NextCalm given has (steps.Add a) s t d
@@ -222,7 +220,7 @@ module _ {C R : Type 0} (handler : Calls C)
       (waited_room firing cpus names given has s h w (omega (arith, low, few))) (λ q. mem (ap Err q)) did.did)
 
   pub omni_next : (given : ℕ) (has : ℕ → Standing) (a : OmniStep) (s t : Progress R C)
-      (d : Does handler firing (steps.Omni a) s t) → Fits firing cpus names given has s
+      (d : DoesStep handler firing (steps.Omni a) s t) → Fits firing cpus names given has s
       → HasWaited firing s → given + 1 ≤ names → a.name < names
       → NoMemoryRefused (calls_in (call_of handler firing (steps.Omni a) s t d))
       → NextCalm given has (steps.Omni a) s t d

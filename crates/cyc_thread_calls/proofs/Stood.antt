@@ -10,12 +10,12 @@ use Rattle.cyc_types.specs.declared.level.Soft.TheVariants.{Low, Lock}
 use Rattle.cyc_types.specs.Pairs.{EachTwo}
 use Rattle.cyc_level.specs.declared.Event.{Event}
 use Rattle.cyc_level.specs.Level.{AdmittedCyclic, count_in}
-use Rattle.cyc_level.specs.Runs.{StayCounts, firing_events, expirations, losses, past_calls, finishes}
+use Rattle.cyc_level.specs.Runs.{StayCounts, firing_events, expirations_of_id, losses, past_calls, finishes}
 use Rattle.cyc_level.proofs.Stays.{IsSplit, split_finishes, over_stays, expirations_firing, losses_firing, past_calls_firing}
 use Rattle.ring_rule.specs.declared.RaiseStep.{RaiseStep}
 use Rattle.ring_rule.specs.declared.Setting.{Setting}
-use Rattle.ring_rule.specs.Trail.{raise_events, open_stay, ended_calls, raises_of, losses_of, made_calls}
-use Rattle.ring_rule.specs.Log.{RingStep, raise_side, raise_positions, drain_side, drain_positions, events_of, level_after}
+use Rattle.ring_rule.specs.Trail.{raise_events, open_stay, ended_calls, raises_of, losses_on_trail, made_calls}
+use Rattle.ring_rule.specs.Log.{RingStep, raise_side, raise_positions, drain_side, drain_positions, events_of, level_after_steps}
 use Rattle.ring_rule.specs.Log.{replay}
 use Rattle.ring_rule.specs.Shown.{IsSameStay}
 use Rattle.ring_rule.specs.Conservation.{LevelStands, AllStood}
@@ -59,7 +59,7 @@ module _ (k : Setting) (log : List RingStep) (L : LevelStands k log) (id : ℕ) 
 
   -- an id with no open stay is not admitted, and the pend word of an open stay counts what is outstanding
   counted : (o : Option StayCounts) (p : Option AdmittedCyclic) → open_stay id raises ≡ o
-      → (level_after k.ceiling log).cyclics id ≡ p → IsSameStay made (ended_calls id raises) o p
+      → (level_after_steps k.ceiling log).cyclics id ≡ p → IsSameStay made (ended_calls id raises) o p
       → still_counted (replay k.start log) o ≡ count_in p
   counted None None stay here same = refl
   counted None (Some c) stay here same = absurd same
@@ -78,11 +78,11 @@ module _ (k : Setting) (log : List RingStep) (L : LevelStands k log) (id : ℕ) 
       omega (arith, past, done, split)
 
   raises_counted : raises_of id raises
-      ≡ made + still_counted (replay k.start log) (open_stay id raises) + losses_of id raises
+      ≡ made + still_counted (replay k.start log) (open_stay id raises) + losses_on_trail id raises
   raises_counted =
-      let p : Option AdmittedCyclic = (level_after k.ceiling log).cyclics id in let same = L.shows.stays id in
+      let p : Option AdmittedCyclic = (level_after_steps k.ceiling log).cyclics id in let same = L.shows.stays id in
       let total = (over_stays k.ceiling id events L.enabled).total in
-      let sent = of_events (expirations id) (expirations_firing id) in
+      let sent = of_events (expirations_of_id id) (expirations_firing id) in
       let lost = of_events (losses id) (losses_firing id) in
       let count = counted (open_stay id raises) p refl refl same in
       let done = finished (open_stay id raises) p same (split_finishes k.ceiling id events L.enabled) in

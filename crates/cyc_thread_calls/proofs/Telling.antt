@@ -23,11 +23,11 @@ use Rattle.cyc_threads.specs.Calls.{Changes, AskTotals}
 use Rattle.cyc_threads.specs.Sound.{IsSound}
 use Rattle.cyc_threads.specs.Keeping.{SameCounts}
 use Rattle.cyc_threads.proofs.Counts.{counts_same}
-use Rattle.cyc_threads.specs.declared.named.Named.{Named}
-use Rattle.cyc_threads.specs.declared.named.Named.TheVariants.{Nothing, Cyclic as Here, Leaving, Removed}
+use Rattle.cyc_words.specs.declared.named.Named.{Named}
+use Rattle.cyc_words.specs.declared.named.Named.TheVariants.{Nothing, Cyclic as Here, Leaving, Removed}
 use Rattle.cyc_threads.specs.declared.progress.Progress.{Progress}
 use Rattle.cyc_threads.specs.declared.counting.Line.{Line}
-use Rattle.cyc_threads.specs.Counting.{Told, Tells, TellsOf, Asks, Reports, no_line, receipt_line, totals_line}
+use Rattle.cyc_threads.specs.Counting.{NameLine, Tells, TellsOf, AsksTotalsOf, Reports, no_line, receipt_line, totals_line}
 use Rattle.cyc_threads.proofs.Quiet.{Rests, lines_quiet}
 
 -- the line of what a name has, by the counts of a system
@@ -97,7 +97,7 @@ module _ {C R : Type 0} (firing : Raise R) where
   line_same id (Removed receipt) line s t (is, e) sound =
       (subst Sound (sym e) sound, (ap (λ p. all_expired id p.side.system) e, ap (λ p. all_lost id p.side.system) e))
 
-  lines_same : (id : ℕ) (all : List Told) (s t : Progress R C) → FoldsTo (Tells firing) s all t → Sound s
+  lines_same : (id : ℕ) (all : List NameLine) (s t : Progress R C) → FoldsTo (Tells firing) s all t → Sound s
       → Sound t × SameCounts id s.side.system t.side.system
   lines_same id [] s t e sound =
       (subst Sound e sound, (ap (λ p. all_expired id p.side.system) (sym e), ap (λ p. all_lost id p.side.system) (sym e)))
@@ -106,7 +106,7 @@ module _ {C R : Type 0} (firing : Raise R) where
       let (last, (p, q)) = lines_same id all u t rest mid in (last, (p ∙ a, q ∙ b))
 
   -- each line says what the system has at the end
-  asks_is : (id : ℕ) (line : Line) (s t : Progress R C) → Asks firing id line s t → Sound s → line.pending ≡ 0
+  asks_is : (id : ℕ) (line : Line) (s t : Progress R C) → AsksTotalsOf firing id line s t → Sound s → line.pending ≡ 0
       → (e l : ℕ) → e ≡ all_expired id s.side.system → l ≡ all_lost id s.side.system
       → line ≡ record { expired = e; lost = l; pending = 0 }
   asks_is id line s t (answer, c, is) sound none e l a b =
@@ -126,8 +126,8 @@ module _ {C R : Type 0} (firing : Raise R) where
       asks_is id line s u d sound none (all_expired id t) (all_lost id t) (same id).0 (same id).1
   line_is (Removed receipt) line s u t (is, e) sound none same = is
 
-  pub lines_are : (all : List Told) (s t : Progress R C) → FoldsTo (Tells firing) s all t → Sound s → Rests firing s
-      → map (λ (w : Told). w.line) all ≡ map (λ named. line_at named t.side.system) (map (λ (w : Told). w.named) all)
+  pub lines_are : (all : List NameLine) (s t : Progress R C) → FoldsTo (Tells firing) s all t → Sound s → Rests firing s
+      → map (λ (w : NameLine). w.line) all ≡ map (λ named. line_at named t.side.system) (map (λ (w : NameLine). w.named) all)
   lines_are [] s t e sound rests = refl
   lines_are (told ∷ all) s t (u, d, rest) sound rests =
       let (calm, none) = lines_quiet firing (told ∷ []) s u (u, d, refl) rests in

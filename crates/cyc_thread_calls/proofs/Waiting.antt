@@ -12,11 +12,11 @@ use Rattle.cyc_threads.specs.Settled.{AllSettled}
 use Rattle.cyc_threads.specs.System.{SystemView}
 use Rattle.cyc_threads.specs.Calls.{PollRemove}
 use Rattle.cyc_threads.specs.Sound.{IsSound}
-use Rattle.cyc_threads.specs.declared.named.Named.{Named}
-use Rattle.cyc_threads.specs.declared.named.Named.TheVariants.{Leaving, Removed}
+use Rattle.cyc_words.specs.declared.named.Named.{Named}
+use Rattle.cyc_words.specs.declared.named.Named.TheVariants.{Leaving, Removed}
 use Rattle.cyc_threads.specs.declared.progress.Progress.{Progress}
-use Rattle.cyc_threads.specs.StepCalls.{CallsFor, Poll, Polls, Settles, Waits}
-use Rattle.cyc_threads.specs.Names.{named_at, id_of, NoneLeaves}
+use Rattle.cyc_threads.specs.StepCalls.{CallsFor, Poll, Polls, SettlesAll, Waits}
+use Rattle.cyc_words.specs.Names.{named_at, cyclic_id, NoneLeaves}
 use Rattle.cyc_thread_calls.specs.Way.{Standing, Absent, OnOne, OnAll}
 use Rattle.cyc_thread_calls.proofs.Keeping.{AllStill, polled_given}
 use Rattle.cyc_thread_calls.proofs.Room.{few_cyclics, AllHaveRoom}
@@ -51,13 +51,13 @@ module _ {C R : Type 0} (firing : Raise R) where
   poll_fits cpus names given has s name id (Ok (Some receipt)) t at c h =
       fits_set firing cpus names given has s t name (PollRemove id (Ok (Some receipt))) c h
       (polled_given firing id (Ok (Some receipt)) s.side.system t.side.system c.did).online
-      (Removed receipt) Absent given has c.told (name_low s.names name id (ap id_of at))
+      (Removed receipt) Absent given has c.told (name_low s.names name id (ap cyclic_id at))
       (subst (λ (k : ℕ). k ≤ given) (sym (polled_given firing id (Ok
       (Some receipt)) s.side.system t.side.system c.did).last) h.few) tt
       (leaving_absent (has name) id s.side.system
       (subst (λ (z : Named). Is (has name) z s.side.system) at (h.each name)))
       (λ other ne. refl) (λ own e. absurd (none_is e))
-      (λ other own ne e touches. ne (h.own other name id (e ∙ ap Some (sym touches)) (ap id_of at)))
+      (λ other own ne e touches. ne (h.own other name id (e ∙ ap Some (sym touches)) (ap cyclic_id at)))
     where
       none_is : {x : ℕ} → None ≡ Some x → ⊥
       none_is {x = x} e = cc
@@ -78,7 +78,7 @@ module _ {C R : Type 0} (firing : Raise R) where
   polls_fit cpus names given has (p ∷ polls) s t (u, (at, c), rest) h =
       polls_fit cpus names given has polls u t rest (poll_fits cpus names given has s p.name p.id p.answer u at c h)
 
-  settles_fit : (cpus names given : ℕ) (has : ℕ → Standing) (s t : Progress R C) → Settles firing s t
+  settles_fit : (cpus names given : ℕ) (has : ℕ → Standing) (s t : Progress R C) → SettlesAll firing s t
       → Fits firing cpus names given has s → Fits firing cpus names given has t
   settles_fit cpus names given has s t q h = record {
     rising = q.sound.fit.rising;
@@ -93,9 +93,9 @@ module _ {C R : Type 0} (firing : Raise R) where
         (is_kept (has a) (named_at s.names a) s.side.system t.side.system
         (λ id e. same_records s.side.system t.side.system q.asked.records id) (h.each a));
     ids = λ a id e. subst (λ (k : ℕ). id ≤ k) (sym q.asked.last)
-        (h.ids a id (sym (ap (λ ns. id_of (named_at ns a)) q.names) ∙ e));
-    own = λ a b id e f. h.own a b id (sym (ap (λ ns. id_of (named_at ns a)) q.names) ∙ e)
-        (sym (ap (λ ns. id_of (named_at ns b)) q.names) ∙ f);
+        (h.ids a id (sym (ap (λ ns. cyclic_id (named_at ns a)) q.names) ∙ e));
+    own = λ a b id e f. h.own a b id (sym (ap (λ ns. cyclic_id (named_at ns a)) q.names) ∙ e)
+        (sym (ap (λ ns. cyclic_id (named_at ns b)) q.names) ∙ f);
   }
 
   pub wait_fits : (cpus names given : ℕ) (has : ℕ → Standing) (s t : Progress R C) → Waits firing s t

@@ -13,17 +13,18 @@ use Rattle.cyc_types.specs.declared.Calls.{Ghosts as Calls}
 use Rattle.cyc_types.specs.declared.Raise.{Ghosts as Raise}
 use Rattle.cyc_types.specs.Limits.{cyclics as most_cyclics}
 use Rattle.cyc_types.specs.Series.{never}
+use Rattle.cyc_types.proofs.Facts.{lt_so}
 use Rattle.cyc_script.specs.declared.step.Step.{Step}
 use Rattle.cyc_script.specs.declared.step.Step.TheVariants as steps
 use Rattle.cyc_script.specs.WellFormed.{names_fit, names_after_all, moments_fit}
 use Rattle.cyc_expected.specs.Calm.{AgreeButMoves}
 use Rattle.cyc_threads.proofs.Lists.{eq_true}
 use Rattle.cyc_threads.specs.declared.progress.Progress.{Progress}
-use Rattle.cyc_threads.specs.Names.{named_at, id_of}
-use Rattle.cyc_threads.specs.Words.{Does}
+use Rattle.cyc_words.specs.Names.{named_at, cyclic_id}
+use Rattle.cyc_threads.specs.Words.{DoesStep}
 use Rattle.cyc_threads.specs.Steps.{TakesSteps, Runs}
 use Rattle.cyc_thread_calls.specs.Leading.{call_of, calls_in, wait_calls, step_calls, steps_calls, run_calls}
-use Rattle.cyc_thread_calls.specs.Meeting.{steps_met, way_of}
+use Rattle.cyc_thread_calls.specs.Meeting.{steps_met, way_of_run}
 use Rattle.cyc_thread_calls.specs.Way.{Standing, Absent, is_taken, after_step, taken_from, calm_way}
 use Rattle.cyc_thread_calls.specs.Memory.{NoMemoryRefused}
 use Rattle.cyc_thread_calls.proofs.Fitting.{Fits}
@@ -34,12 +35,10 @@ use Rattle.cyc_thread_calls.proofs.Ending.{remove_ended, advance_fits, advance_c
 use Rattle.cyc_thread_calls.proofs.Agreeing.{same_has, set_fits, marks_stay, Spaced, both, memory_split, more_names, stays_next}
 use Rattle.cyc_thread_calls.proofs.Agreeing.{reprogram_next, back_stays}
 
-lt_so : (a b : ℕ) → nat_lt a b ≡ true → a < b
-lt_so a b e = grind (arith, nat_tests, e)
-
 module _ {C R : Type 0} (handler : Calls C)
     (firing : Raise R) (cpus names : ℕ) (few : names ≤ most_cyclics) where
-  abbrev Next' : (suspended : Bool) (given : ℕ) (has : ℕ → Standing) (x : Step) (s t : Progress R C) → Does handler firing x s t
+  abbrev Next' : (suspended : Bool) (given : ℕ) (has : ℕ → Standing) (x : Step) (s t : Progress R C)
+      → DoesStep handler firing x s t
       → Type 0
   Next' suspended given has x s t d = NextCalm handler firing cpus names few suspended given has x s t d
 
@@ -122,7 +121,7 @@ module _ {C R : Type 0} (handler : Calls C)
       let (here, later) = both (nat_lt a.name given) (names_fit given xs) l.in_order in
       let n : Next' suspended given has (steps.Bind a) u v does = stays_next handler firing cpus names few suspended given has
       (steps.Bind a) u v does refl refl
-      (inl tt) (bind_stays firing cpus names given has a.name (Some a.cpu) u v (id_of (named_at u.names a.name)) does fits) in
+      (inl tt) (bind_stays firing cpus names given has a.name (Some a.cpu) u v (cyclic_id (named_at u.names a.name)) does fits) in
       let (more, ends) = agree true given m suspended (cond (is_taken cpus suspended has (steps.Bind a)) (after_step
       (steps.Bind a) has) has) xs v t rest (record {
         fits = n.next.fits;
@@ -142,7 +141,7 @@ module _ {C R : Type 0} (handler : Calls C)
       let (here, later) = both (nat_lt name given) (names_fit given xs) l.in_order in
       let n : Next' suspended given has (steps.Unbind name) u v does = stays_next handler firing cpus names few suspended given
       has (steps.Unbind name) u v does refl refl
-      (inl tt) (bind_stays firing cpus names given has name None u v (id_of (named_at u.names name)) does fits) in
+      (inl tt) (bind_stays firing cpus names given has name None u v (cyclic_id (named_at u.names name)) does fits) in
       let (more, ends) = agree true given m suspended (cond (is_taken cpus suspended has (steps.Unbind name)) (after_step
       (steps.Unbind name) has) has) xs v t rest (record {
         fits = n.next.fits;
@@ -349,7 +348,7 @@ module _ {C R : Type 0} (handler : Calls C)
       names_fit 0 xs ≡ true
       → names_after_all 0 xs ≡ names → moments_fit 0 xs ≡ true
       → NoMemoryRefused (run_calls handler firing s xs t runs)
-      → AgreeButMoves (way_of handler firing s xs t runs) (calm_way cpus xs) × (length t.names ≡ names)
+      → AgreeButMoves (way_of_run handler firing s xs t runs) (calm_way cpus xs) × (length t.names ≡ names)
   run_agrees xs s t (u, takes, waits) fits calm marks spaced order all moments memory =
       let (met, (given, has, ends)) = agree true 0 0 false (λ name. Absent) xs s u takes (record {
         fits = fits;

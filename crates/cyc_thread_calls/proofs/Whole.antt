@@ -13,7 +13,7 @@ use Rattle.cyc_threads.specs.declared.progress.Progress.{Progress}
 use Rattle.cyc_threads.specs.Steps.{Runs}
 use Rattle.cyc_threads.specs.Running.{IsAtFirst}
 use Rattle.cyc_thread_calls.specs.Leading.{run_calls}
-use Rattle.cyc_thread_calls.specs.Meeting.{way_of}
+use Rattle.cyc_thread_calls.specs.Meeting.{way_of_run}
 use Rattle.cyc_thread_calls.specs.Calm.{IsCalm}
 use Rattle.cyc_thread_calls.specs.Way.{calm_way}
 use Rattle.cyc_thread_calls.specs.Memory.{NoMemoryRefused}
@@ -26,7 +26,7 @@ module _ {C : Type 0} (handler : Calls C) (script : Script) (all : List (Seated 
     (calm : IsCalm script) (many : length all ≡ script.cpus)
     (begins : IsAtFirst (length script.names.items) all first)
     (memory : NoMemoryRefused (run_calls handler raise_end first script.steps.items last runs)) where
-  both : AgreeButMoves (way_of handler raise_end first script.steps.items last runs)
+  both : AgreeButMoves (way_of_run handler raise_end first script.steps.items last runs)
       (calm_way script.cpus script.steps.items) × (length last.names ≡ length script.names.items)
   both = run_agrees handler raise_end script.cpus (length script.names.items) calm.few
       script.steps.items first last runs (first_fits (length script.names.items) script.cpus all first begins many)
@@ -34,7 +34,7 @@ module _ {C : Type 0} (handler : Calls C) (script : Script) (all : List (Seated 
       (first_awake (length script.names.items) script.cpus all first begins many) (calm_spaced script calm)
       script.well_formed.names_in_order script.well_formed.names_introduced script.well_formed.moments_in_order memory
 
-  pub agrees : AgreeButMoves (way_of handler raise_end first script.steps.items last runs)
+  pub agrees : AgreeButMoves (way_of_run handler raise_end first script.steps.items last runs)
       (calm_way script.cpus script.steps.items)
   agrees = both.0
 
@@ -42,7 +42,7 @@ module _ {C : Type 0} (handler : Calls C) (script : Script) (all : List (Seated 
   names_stay = both.1
 
   pub expects : (name : ℕ) → expected script.cpus
-      (way_of handler raise_end first script.steps.items last runs) name
+      (way_of_run handler raise_end first script.steps.items last runs) name
       ≡ expected script.cpus (calm_way script.cpus script.steps.items) name
-  expects name = (λ i. (same_told name (way_of handler raise_end first script.steps.items last runs)
+  expects name = (λ i. (same_told name (way_of_run handler raise_end first script.steps.items last runs)
       (calm_way script.cpus script.steps.items) agrees 0 (untold script.cpus) i).expired)

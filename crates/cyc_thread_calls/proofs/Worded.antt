@@ -4,11 +4,11 @@ use Rattle.std.specs.Prelude.{true}
 use Rattle.std.specs.List.{slice_get, FoldsTo}
 use Rattle.cyc_types.specs.declared.Calls.{Ghosts as Calls}
 use Rattle.cyc_types.specs.declared.Raise.{Ghosts as Raise}
-use Rattle.cyc_system_rings.specs.Rings.{first_of}
-use Rattle.cyc_threads.specs.declared.named.Named.{Named}
-use Rattle.cyc_threads.specs.declared.named.Named.TheVariants.{Nothing, Cyclic, Leaving, Removed}
+use Rattle.cyc_system_rings.specs.Rings.{first_ring}
+use Rattle.cyc_words.specs.declared.named.Named.{Named}
+use Rattle.cyc_words.specs.declared.named.Named.TheVariants.{Nothing, Cyclic, Leaving, Removed}
 use Rattle.cyc_threads.specs.declared.progress.Progress.{Progress}
-use Rattle.cyc_threads.specs.Counting.{Told, Tells, TellsOf}
+use Rattle.cyc_threads.specs.Counting.{NameLine, Tells, TellsOf}
 use Rattle.cyc_thread_calls.proofs.Owning.{steps_named}
 use Rattle.cyc_types.specs.declared.level.Level.{Level}
 use Rattle.cyc_ring.specs.Ends.{raise_end}
@@ -18,9 +18,9 @@ use Rattle.cyc_system_rings.specs.ByLevel.{level_in}
 use Rattle.cyc_threads.specs.declared.counting.Line.{Line}
 use Rattle.cyc_threads.specs.Steps.{Runs}
 use Rattle.cyc_threads.specs.declared.running.Ended.{Ended}
-use Rattle.cyc_threads.specs.Reporting.{counts_of}
+use Rattle.cyc_threads.specs.Reporting.{counts_told}
 use Rattle.cyc_threads.specs.Running.{HasRun}
-use Rattle.cyc_thread_calls.specs.Calling.{calls_at, lead_calls, id_of_name}
+use Rattle.cyc_thread_calls.specs.Calling.{calls_at_level, lead_calls, id_of_name}
 use Rattle.cyc_thread_calls.specs.Giving.{id_given}
 use Rattle.cyc_thread_calls.specs.Leading.{steps_calls, run_calls, wait_calls, report_calls, told_calls_of, told_calls}
 use Rattle.cyc_thread_calls.specs.Levels.{level_named}
@@ -29,9 +29,9 @@ use Rattle.cyc_thread_calls.proofs.Leveled.{level_on, level_kept, level_later, n
 
 -- more calls that give it no level
 level_first : (id : ℕ) (xs ys : List LeadCall) → level_in id ys ≡ None → level_in id (xs ++ ys) ≡ level_in id xs
-level_first id xs ys e = level_on id xs ys ∙ ap (λ o. first_of (level_in id xs) o) e ∙ by (level_in id xs)
+level_first id xs ys e = level_on id xs ys ∙ ap (λ o. first_ring (level_in id xs) o) e ∙ by (level_in id xs)
   where
-    by : (o : Option Level) → first_of o None ≡ o
+    by : (o : Option Level) → first_ring o None ≡ o
     by None = refl
     by (Some level) = refl
 
@@ -43,7 +43,7 @@ module _ {C R : Type 0} (firing : Raise R) (id : ℕ) where
   line_level (Leaving own) line s t (answer, did, is) = refl
   line_level (Removed receipt) line s t d = refl
 
-  report_level : (all : List Told) (s t : Progress R C) (d : FoldsTo (Tells firing) s all t)
+  report_level : (all : List NameLine) (s t : Progress R C) (d : FoldsTo (Tells firing) s all t)
       → level_in id (told_calls firing all s t d) ≡ None
   report_level [] s t e = refl
   report_level (told ∷ all) s t (u, d, rest) =
@@ -90,7 +90,7 @@ module _ {C : Type 0} (handler : Calls C) (script : Script)
   -- as often as a name's line says, the handlers of its level were called for it
   pub word_called : (name id : ℕ) (level : Level) (line : Line) → slice_get r.lines name ≡ Some line → id_named name ≡ Some id
       → level_named name script.steps.items ≡ Some level
-      → calls_at handler.count level id r.after ≡ calls_at handler.count level id r.before + (counts_of line).called
+      → calls_at_level handler.count level id r.after ≡ calls_at_level handler.count level id r.before + (counts_told line).called
   word_called name id level line at given named =
       line_called handler script calls e text r name id level line at given
       (known_level name id level given named)
@@ -98,7 +98,7 @@ module _ {C : Type 0} (handler : Calls C) (script : Script)
   -- and those of another level were not
   pub word_elsewhere : (name id : ℕ) (level other : Level) → id_named name ≡ Some id
       → level_named name script.steps.items ≡ Some level → other ≢ level
-      → calls_at handler.count other id r.after ≡ calls_at handler.count other id r.before
+      → calls_at_level handler.count other id r.after ≡ calls_at_level handler.count other id r.before
   word_elsewhere name id level other given named ne =
       none_elsewhere handler script calls e text r id level other (known_level name id level given named) ne
 
@@ -130,6 +130,6 @@ module _ {C : Type 0} (handler : Calls C) (script : Script)
 
   -- for an id that no name got no handler was called
   pub none_called : (id : ℕ) (level : Level) → ((name : ℕ) → name < length script.names.items → id_named name ≡ Some id → ⊥)
-      → calls_at handler.count level id r.after ≡ calls_at handler.count level id r.before
+      → calls_at_level handler.count level id r.after ≡ calls_at_level handler.count level id r.before
   none_called id level nobody = none_ungiven handler script calls e text r id level
       (not_some (level_in id way) (λ found is. (let (name, low, given) = own_name id found is in nobody name low given)))

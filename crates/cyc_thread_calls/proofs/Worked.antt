@@ -119,7 +119,7 @@ a_juggle_parts_two_removes = record {
     apart zero zero a b less p q = absurd (omega (arith, less))
     apart zero (suc zero) a b less p q = absurd (let odd : Some (Juggle 0) ≡ Some (Remove b) = q in cc)
     apart zero (suc (suc zero)) a b less p q = record {
-      place = 1;
+      position = 1;
       step = Juggle 0;
       after = omega arith;
       before = omega arith;
@@ -154,7 +154,7 @@ an_advance_does_not calm = by (calm.apart 0 2 0 1 (omega arith) refl refl)
     at (suc (suc k)) x low high here parts = omega (arith, high)
 
     by : AreParted advanced 0 2 → ⊥
-    by r = at r.place r.step r.after r.before r.here r.parts
+    by r = at r.position r.step r.after r.before r.here r.parts
 
 -- nor is a script with an offline calm, or one with more names than a CPU can have cyclics
 an_offline_is_not_calm : AreCalm (Offline 0 ∷ []) 0 → ⊥

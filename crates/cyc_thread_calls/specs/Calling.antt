@@ -22,8 +22,8 @@ handlers_at Lock h = h.lock
 handlers_at Low h = h.low
 
 -- the calls of an id that those of a level had, on all CPUs
-abbrev pub calls_at : {C : Type 0} → (C → ℕ → ℕ) → Level → ℕ → List (Seated C) → ℕ
-calls_at {C} count level id all = sum_by (λ c. count c id) (map (λ s. handlers_at level s.calls) all)
+abbrev pub calls_at_level : {C : Type 0} → (C → ℕ → ℕ) → Level → ℕ → List (Seated C) → ℕ
+calls_at_level {C} count level id all = sum_by (λ c. count c id) (map (λ s. handlers_at level s.calls) all)
 
 module _ {C : Type 0} (handler : Calls C) (script : Script) (calls : List C) (e : Ended C) (text : List ℕ)
     (r : HasRun handler script calls e text) where

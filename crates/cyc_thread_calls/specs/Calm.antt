@@ -6,9 +6,9 @@ use Rattle.cyc_script.specs.declared.script.Script.{Script}
 use Rattle.cyc_script.specs.declared.step.Step.{Step}
 use Rattle.cyc_script.specs.declared.step.Step.TheVariants.{Remove, Advance, Offline}
 
--- this step has this place among the steps
+-- this step has this position among the steps
 abbrev pub IsStep : List Step → ℕ → Step → Type 0
-IsStep steps place step = slice_get steps place ≡ Some step
+IsStep steps position step = slice_get steps position ≡ Some step
 
 -- a step of another word than `advance` and `remove`: a run waits before it until no removal is open and each CPU has settled
 abbrev pub Parts : Step → Type 0
@@ -18,11 +18,11 @@ Parts step = ⊤
 
 -- such a step stands between these two places
 pub record AreParted (steps : List Step) (from to : ℕ) : Type 0 where
-  pub place : ℕ
+  pub position : ℕ
   pub step : Step
-  pub after : from < place
-  pub before : place < to
-  pub here : IsStep steps place step
+  pub after : from < position
+  pub before : position < to
+  pub here : IsStep steps position step
   pub parts : Parts step
 
 -- These steps, which introduce so many names, are calm: between any two `remove` steps stands a step of another word than

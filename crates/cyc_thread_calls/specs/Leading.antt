@@ -13,15 +13,16 @@ use Rattle.cyc_threads.specs.SystemRemoval.{SystemRemoval}
 use Rattle.cyc_threads.specs.Calls.{SystemCall, Add, AddOmni, Bind, BeginRemove, PollRemove, AskTotals, Juggle, Offline, Online}
 use Rattle.cyc_threads.specs.Calls.{reprograms}
 use Rattle.cyc_system_rings.specs.Leading.{LeadCall, Make, FireAll, AskAll}
-use Rattle.cyc_threads.specs.declared.named.Named.{Named}
-use Rattle.cyc_threads.specs.declared.named.Named.TheVariants.{Nothing, Cyclic, Leaving, Removed}
+use Rattle.cyc_words.specs.declared.named.Named.{Named}
+use Rattle.cyc_words.specs.declared.named.Named.TheVariants.{Nothing, Cyclic, Leaving, Removed}
 use Rattle.cyc_threads.specs.declared.progress.Progress.{Progress}
 use Rattle.cyc_threads.specs.declared.counting.Line.{Line}
 use Rattle.cyc_threads.specs.StepCalls.{CallsFor, Poll, Waits}
-use Rattle.cyc_threads.specs.Names.{named_at, id_of}
-use Rattle.cyc_threads.specs.Words.{WithId, Does, Begins, TakesStep, waits_first}
+use Rattle.cyc_words.specs.Names.{named_at, cyclic_id}
+use Rattle.cyc_words.specs.Words.{WithId}
+use Rattle.cyc_threads.specs.Words.{DoesStep, Begins, TakesStep, waits_first}
 use Rattle.cyc_threads.specs.Steps.{TakesSteps, Runs}
-use Rattle.cyc_threads.specs.Counting.{Told, Tells, TellsOf, Reports}
+use Rattle.cyc_threads.specs.Counting.{NameLine, Tells, TellsOf, Reports}
 
 -- a call, where there is one
 abbrev pub calls_in : Option LeadCall → List LeadCall
@@ -56,7 +57,7 @@ module _ {C R : Type 0} (firing : Raise R) where
   told_calls_of (Leaving id) line s t (answer, did, is) = Make (AskTotals id answer) ∷ []
   told_calls_of (Removed receipt) line s t tells = []
 
-  abbrev pub told_calls : (all : List Told) (s t : Progress R C) → FoldsTo (Tells firing) s all t → List LeadCall
+  abbrev pub told_calls : (all : List NameLine) (s t : Progress R C) → FoldsTo (Tells firing) s all t → List LeadCall
   told_calls [] s t tells = []
   told_calls (told ∷ all) s t (u, tells, rest) = told_calls_of told.named told.line s u tells ++ told_calls all u t rest
 
@@ -66,22 +67,22 @@ module _ {C R : Type 0} (firing : Raise R) where
 
 module _ {C R : Type 0} (handler : Calls C) (firing : Raise R) where
   -- the call that a step made; a step that did nothing made none
-  abbrev pub call_of : (x : Step) (s t : Progress R C) → Does handler firing x s t → Option LeadCall
+  abbrev pub call_of : (x : Step) (s t : Progress R C) → DoesStep handler firing x s t → Option LeadCall
   call_of (steps.Add a) s t (inl (when, starts, lasts, long, (answer, did))) = Some (Make (Add a.level when s.clock answer))
   call_of (steps.Add a) s t (inr nothing) = None
   call_of (steps.Omni a) s t (inl (when, starts, lasts, long, (answer, did))) =
       Some (Make (AddOmni a.level when a.skew s.clock answer))
   call_of (steps.Omni a) s t (inr nothing) = None
   call_of (steps.Bind b) s t does =
-      call_with firing (Unit {0}) (λ id answer. Bind id (Some b.cpu) answer) b.name s t (id_of (named_at s.names b.name)) does
+      call_with firing (Unit {0}) (λ id answer. Bind id (Some b.cpu) answer) b.name s t (cyclic_id (named_at s.names b.name)) does
   call_of (steps.Unbind name) s t does =
-      call_with firing (Unit {0}) (λ id answer. Bind id None answer) name s t (id_of (named_at s.names name)) does
+      call_with firing (Unit {0}) (λ id answer. Bind id None answer) name s t (cyclic_id (named_at s.names name)) does
   call_of (steps.Reprogram r) s t (inl (moment, is, does)) =
       call_with firing (Unit {0}) (λ id answer. reprograms r.cpu id moment answer) r.name s t
-      (id_of (named_at s.names r.name)) does
+      (cyclic_id (named_at s.names r.name)) does
   call_of (steps.Reprogram r) s t (inr nothing) = None
   call_of (steps.Remove name) s t does =
-      call_with firing SystemRemoval (λ id answer. BeginRemove id answer) name s t (id_of (named_at s.names name)) does
+      call_with firing SystemRemoval (λ id answer. BeginRemove id answer) name s t (cyclic_id (named_at s.names name)) does
   call_of (steps.Advance now) s t (inl suspended) = None
   call_of (steps.Advance now) s t (inr fires) = Some (FireAll now)
   call_of (steps.Softint i) s t does = None

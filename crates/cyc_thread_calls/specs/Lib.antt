@@ -17,14 +17,14 @@ pub use Rattle.cyc_threads.specs.declared.running.Ended
 pub use Rattle.cyc_threads.specs.Reporting
 pub use Rattle.cyc_threads.specs.Running
 pub use Rattle.cyc_system_rings.specs.Events
-pub use Rattle.cyc_threads.specs.declared.named.Named
+pub use Rattle.cyc_words.specs.declared.named.Named
 pub use Rattle.cyc_threads.specs.declared.progress.Progress
 pub use Rattle.cyc_threads.specs.Steps
 pub use Rattle.cyc_threads.specs.Counting
 pub use Rattle.cyc_threads.specs.SystemRemoval
 pub use Rattle.cyc_threads.specs.Calls
 pub use Rattle.cyc_system_rings.specs.Leading as SystemRingsLeading
-pub use Rattle.cyc_threads.specs.Names
+pub use Rattle.cyc_words.specs.Names
 pub use Rattle.cyc_threads.specs.StepCalls
 pub use Rattle.cyc_threads.specs.Words
 pub use Rattle.cyc_threads.specs.Sound

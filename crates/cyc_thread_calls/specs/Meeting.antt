@@ -12,7 +12,7 @@ use Rattle.cyc_threads.specs.Calls.{SystemCall, Add, AddOmni, Bind, BeginRemove,
 use Rattle.cyc_threads.specs.Calls.{Juggle, Offline, Online, FireOne, SoftInterrupt}
 use Rattle.cyc_system_rings.specs.Leading.{LeadCall, Make, FireAll, AskAll}
 use Rattle.cyc_threads.specs.declared.progress.Progress.{Progress}
-use Rattle.cyc_threads.specs.Words.{Does}
+use Rattle.cyc_threads.specs.Words.{DoesStep}
 use Rattle.cyc_threads.specs.Steps.{TakesSteps, Runs}
 use Rattle.cyc_thread_calls.specs.Leading.{call_of}
 
@@ -43,17 +43,17 @@ is_taken AskAll = true
 module _ {C R : Type 0} (handler : Calls C) (firing : Raise R) where
   -- A step was accepted where its call was not refused; one that made no call was not, as an `advance` while the system is
   -- suspended. A `softint` makes no call, and is never refused.
-  abbrev pub accepted : (x : Step) (s t : Progress R C) → Does handler firing x s t → Bool
-  accepted (Softint i) s t does = true
-  accepted x s t does = option_map_or is_taken (call_of handler firing x s t does) false
+  abbrev pub was_accepted : (x : Step) (s t : Progress R C) → DoesStep handler firing x s t → Bool
+  was_accepted (Softint i) s t does = true
+  was_accepted x s t does = option_map_or is_taken (call_of handler firing x s t does) false
 
   -- the steps, and which of them were accepted
   abbrev pub steps_met : (s : Progress R C) (xs : List Step) (t : Progress R C)
       → TakesSteps handler firing s xs t → List Met
   steps_met s [] t takes = []
   steps_met s (x ∷ xs) t ((u, (v, begins, does), rest)) =
-      record { step = x; accepted = accepted x v u does } ∷ steps_met u xs t rest
+      record { step = x; accepted = was_accepted x v u does } ∷ steps_met u xs t rest
 
   -- those of a run
-  abbrev pub way_of : (s : Progress R C) (xs : List Step) (t : Progress R C) → Runs handler firing s xs t → List Met
-  way_of s xs t (u, takes, waits) = steps_met s xs u takes
+  abbrev pub way_of_run : (s : Progress R C) (xs : List Step) (t : Progress R C) → Runs handler firing s xs t → List Met
+  way_of_run s xs t (u, takes, waits) = steps_met s xs u takes

@@ -6,7 +6,7 @@ use Rattle.cyc_types.specs.declared.level.Soft.TheVariants.{Low, Lock}
 use Rattle.cyc_level.specs.Runs.{StayCounts}
 use Rattle.ring_rule.specs.declared.Setting.{Setting}
 use Rattle.ring_rule.specs.Words.{pend_word, mark_bit}
-use Rattle.ring_rule.specs.Trail.{open_stay, raises_of, losses_of, made_calls}
+use Rattle.ring_rule.specs.Trail.{open_stay, raises_of, losses_on_trail, made_calls}
 use Rattle.ring_rule.specs.Log.{RingStep, raise_side, drain_side, replay}
 use Rattle.cyc_ring.specs.declared.closed.Closed.{Closed}
 use Rattle.cyc_ring.specs.Ends.{IsOrderOf}
@@ -40,4 +40,4 @@ still_counted words (Some s) = slice_index words (pend_word s.index) % mark_bit
 -- that the ring still counts, and those lost
 abbrev pub IsConservedAfter : Setting → List RingStep → Type 0
 IsConservedAfter k log = (id : ℕ) → raises_of id (raise_side log) ≡ made_calls id (drain_side log)
-    + still_counted (replay k.start log) (open_stay id (raise_side log)) + losses_of id (raise_side log)
+    + still_counted (replay k.start log) (open_stay id (raise_side log)) + losses_on_trail id (raise_side log)

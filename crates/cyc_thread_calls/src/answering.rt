@@ -4,7 +4,7 @@ ghost use Rattle.std.specs.Prelude.{ℕ, List, All};
 ghost use Rattle.cyc_script.specs.declared.script.Script.{Script as OneScript};
 ghost use Rattle.cyc_threads.specs.declared.running.Ended.{Ended as Ends};
 ghost use Rattle.cyc_threads.specs.Running.{HasRun};
-ghost use Rattle.cyc_thread_calls.specs.Answering.{IsAnswered};
+ghost use Rattle.cyc_thread_calls.specs.Answering.{IsAnsweredPoll};
 ghost use Rattle.cyc_thread_calls.specs.Calling.{lead_calls};
 
 use cyc_types::Calls;
@@ -16,5 +16,5 @@ use cyc_types::Calls;
 pub fn answering_law<C: Calls>()
     ensures { (script : OneScript) (calls : List C) (e : Ends C) (text : List ℕ)
         (r : HasRun C.Calls script calls e text)
-        → All IsAnswered (lead_calls C.Calls script calls e text r) }
+        → All IsAnsweredPoll (lead_calls C.Calls script calls e text r) }
 {}

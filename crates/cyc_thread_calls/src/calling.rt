@@ -8,7 +8,7 @@ ghost use Rattle.cyc_script.specs.declared.script.Script.{Script as OneScript};
 ghost use Rattle.cyc_system_rings.specs.ByLevel.{counts_at, made_at};
 ghost use Rattle.cyc_threads.specs.declared.running.Ended.{Ended as Ends};
 ghost use Rattle.cyc_threads.specs.Running.{HasRun};
-ghost use Rattle.cyc_thread_calls.specs.Calling.{calls_at, lead_calls, last_system};
+ghost use Rattle.cyc_thread_calls.specs.Calling.{calls_at_level, lead_calls, last_system};
 
 use cyc_types::Calls;
 
@@ -19,8 +19,8 @@ use cyc_types::Calls;
 pub fn called_law<C: Calls>()
     ensures called { (script : OneScript) (calls : List C) (e : Ends C) (text : List ℕ)
         (r : HasRun C.Calls script calls e text) (level : OneLevel) (id : ℕ)
-        → calls_at C.count level id r.after + (counts_at level id (lead_calls C.Calls script calls e text r)
-        (last_system C.Calls script calls e text r)).lost ≡ calls_at C.count level id r.before
+        → calls_at_level C.count level id r.after + (counts_at level id (lead_calls C.Calls script calls e text r)
+        (last_system C.Calls script calls e text r)).lost ≡ calls_at_level C.count level id r.before
         + (counts_at level id (lead_calls C.Calls script calls e text r)
         (last_system C.Calls script calls e text r)).sent }
     // As often the soft sides of the level's rings, which come back closed, made a call of it.

@@ -6,9 +6,9 @@ ghost use Rattle.cyc_ring.specs.Ends.{raise_end};
 ghost use Rattle.cyc_script.specs.declared.script.Script.{Script};
 ghost use Rattle.cyc_threads.specs.declared.counting.Line.{Line};
 ghost use Rattle.cyc_threads.specs.declared.running.Ended.{Ended};
-ghost use Rattle.cyc_threads.specs.Reporting.{counts_of};
+ghost use Rattle.cyc_threads.specs.Reporting.{counts_told};
 ghost use Rattle.cyc_threads.specs.Running.{HasRun};
-ghost use Rattle.cyc_thread_calls.specs.Meeting.{way_of};
+ghost use Rattle.cyc_thread_calls.specs.Meeting.{way_of_run};
 ghost use Rattle.cyc_thread_calls.specs.Reported.{IsReported};
 
 use cyc_types::Calls;
@@ -25,6 +25,6 @@ pub fn report_law<C: Calls>()
     ensures each { (script : Script) (calls : List C) (e : Ended C) (text : List ℕ)
         (r : HasRun C.Calls script calls e text) (name : ℕ) (line : Line)
         → slice_get r.lines name ≡ Some line → IsReported script.cpus script.ceiling
-        (way_of C.Calls raise_end r.played.first script.steps.items r.played.last r.played.runs)
-        name (counts_of line) }
+        (way_of_run C.Calls raise_end r.played.first script.steps.items r.played.last r.played.runs)
+        name (counts_told line) }
 {}

@@ -2,7 +2,7 @@
 
 ghost use Rattle.std.specs.Prelude.{◌≡◌, ◌<◌, ℕ, List, Some, length, replicate};
 ghost use Rattle.cyc_script.specs.declared.step.Step.{Step};
-ghost use Rattle.cyc_threads.specs.declared.named.Named.TheVariants.{Nothing};
+ghost use Rattle.cyc_words.specs.declared.named.Named.TheVariants.{Nothing};
 ghost use Rattle.cyc_threads.specs.declared.progress.Progress.{Progress};
 ghost use Rattle.cyc_threads.specs.Steps.{Runs};
 ghost use Rattle.cyc_thread_calls.specs.Giving.{id_given};

@@ -11,7 +11,7 @@ ghost use Rattle.cyc_system_rings.specs.Events.{AcceptedSteps};
 ghost use Rattle.cyc_ring.specs.Ends.{raise_end};
 ghost use Rattle.cyc_script.specs.declared.script.Script.{Script as OneScript};
 ghost use Rattle.cyc_system_rings.specs.ByLevel.{LeadsFromNew, HasNewEnds};
-ghost use Rattle.cyc_system_rings.specs.Rings.{AreClosed};
+ghost use Rattle.cyc_system_rings.specs.Rings.{AreSettledAndClosed};
 ghost use Rattle.cyc_threads.specs.declared.running.Ended.{Ended as Ends};
 ghost use Rattle.cyc_threads.specs.Running.{HasRun};
 ghost use Rattle.cyc_thread_calls.specs.Calling.{lead_calls, last_system};
@@ -47,5 +47,5 @@ pub fn opened_law<C: Calls>()
         (r : HasRun C.Calls script calls e text) → HasNewEnds r.played.first.side.system }
     ensures closed { (script : OneScript) (calls : List C) (e : Ends C) (text : List ℕ)
         (r : HasRun C.Calls script calls e text)
-        → AreClosed (last_system C.Calls script calls e text r).cpus.cpus e.rings.items }
+        → AreSettledAndClosed (last_system C.Calls script calls e text r).cpus.cpus e.rings.items }
 {}

@@ -6,9 +6,9 @@ ghost use Rattle.cyc_types.specs.declared.level.Level.{Level as OneLevel};
 ghost use Rattle.cyc_script.specs.declared.script.Script.{Script as OneScript};
 ghost use Rattle.cyc_threads.specs.declared.counting.Line.{Line as OneLine};
 ghost use Rattle.cyc_threads.specs.declared.running.Ended.{Ended as Ends};
-ghost use Rattle.cyc_threads.specs.Reporting.{counts_of};
+ghost use Rattle.cyc_threads.specs.Reporting.{counts_told};
 ghost use Rattle.cyc_threads.specs.Running.{HasRun};
-ghost use Rattle.cyc_thread_calls.specs.Calling.{calls_at, lead_calls, last_system, id_of_name};
+ghost use Rattle.cyc_thread_calls.specs.Calling.{calls_at_level, lead_calls, last_system, id_of_name};
 ghost use Rattle.cyc_thread_calls.specs.Levels.{level_named};
 ghost use Rattle.cyc_thread_calls.specs.Lines.{line_in};
 
@@ -35,16 +35,16 @@ pub fn named_law<C: Calls>()
         (r : HasRun C.Calls script calls e text) (name id : ℕ) (level : OneLevel) (line : OneLine)
         → slice_get r.lines name ≡ Some line → id_of_name C.Calls script calls e text r name ≡ Some id
         → level_named name script.steps.items ≡ Some level
-        → calls_at C.count level id r.after ≡ calls_at C.count level id r.before + (counts_of line).called }
+        → calls_at_level C.count level id r.after ≡ calls_at_level C.count level id r.before + (counts_told line).called }
     ensures elsewhere { (script : OneScript) (calls : List C) (e : Ends C) (text : List ℕ)
         (r : HasRun C.Calls script calls e text) (name id : ℕ) (level other : OneLevel)
         → id_of_name C.Calls script calls e text r name ≡ Some id
         → level_named name script.steps.items ≡ Some level → other ≢ level
-        → calls_at C.count other id r.after ≡ calls_at C.count other id r.before }
+        → calls_at_level C.count other id r.after ≡ calls_at_level C.count other id r.before }
     // For an id that no name got no handler was called.
     ensures ungiven { (script : OneScript) (calls : List C) (e : Ends C) (text : List ℕ)
         (r : HasRun C.Calls script calls e text) (id : ℕ) (level : OneLevel)
         → ((name : ℕ) → name < length script.names.items
         → id_of_name C.Calls script calls e text r name ≡ Some id → ⊥)
-        → calls_at C.count level id r.after ≡ calls_at C.count level id r.before }
+        → calls_at_level C.count level id r.after ≡ calls_at_level C.count level id r.before }
 {}

@@ -5,7 +5,7 @@ ghost use Rattle.std.specs.List.{slice_get};
 ghost use Rattle.cyc_ring.specs.declared.ends.RaiseEnd.{RaiseEnd as AnEnd};
 ghost use Rattle.cyc_ring.specs.Ends.{raise_end};
 ghost use Rattle.cyc_script.specs.declared.step.Step.{Step};
-ghost use Rattle.cyc_threads.specs.declared.named.Named.TheVariants.{Nothing};
+ghost use Rattle.cyc_words.specs.declared.named.Named.TheVariants.{Nothing};
 ghost use Rattle.cyc_threads.specs.declared.progress.Progress.{Progress};
 ghost use Rattle.cyc_threads.specs.declared.counting.Line.{Line};
 ghost use Rattle.cyc_threads.specs.Steps.{Runs};

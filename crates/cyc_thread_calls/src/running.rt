@@ -11,7 +11,7 @@ ghost use Rattle.cyc_threads.specs.declared.progress.Progress.{Progress};
 ghost use Rattle.cyc_threads.specs.Steps.{Runs};
 ghost use Rattle.cyc_threads.specs.Running.{IsAtFirst};
 ghost use Rattle.cyc_thread_calls.specs.Leading.{run_calls};
-ghost use Rattle.cyc_thread_calls.specs.Meeting.{way_of};
+ghost use Rattle.cyc_thread_calls.specs.Meeting.{way_of_run};
 ghost use Rattle.cyc_thread_calls.specs.Calm.{IsCalm};
 ghost use Rattle.cyc_thread_calls.specs.Way.{calm_way};
 ghost use Rattle.cyc_thread_calls.specs.Memory.{NoMemoryRefused};
@@ -29,7 +29,7 @@ pub fn calm_run_law<C: Calls>()
         → IsCalm script → length all ≡ script.cpus
         → IsAtFirst (length script.names.items) all first
         → NoMemoryRefused (run_calls C.Calls raise_end first script.steps.items last runs)
-        → AgreeButMoves (way_of C.Calls raise_end first script.steps.items last runs)
+        → AgreeButMoves (way_of_run C.Calls raise_end first script.steps.items last runs)
         (calm_way script.cpus script.steps.items) }
 {}
 
@@ -43,6 +43,6 @@ pub fn calm_expected_law<C: Calls>()
         → IsAtFirst (length script.names.items) all first
         → NoMemoryRefused (run_calls C.Calls raise_end first script.steps.items last runs)
         → expected script.cpus
-        (way_of C.Calls raise_end first script.steps.items last runs) name
+        (way_of_run C.Calls raise_end first script.steps.items last runs) name
         ≡ expected script.cpus (calm_way script.cpus script.steps.items) name }
 {}

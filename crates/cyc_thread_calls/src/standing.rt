@@ -15,9 +15,9 @@ ghost use Rattle.cyc_thread_calls.specs.Standing.{seats_of, IsRingOf, setting_of
 
 use cyc_types::Calls;
 
-/// Between any two atomic steps of any ring of a run of a script in threads a lawful level stands, and no expiration is forgotten:
-/// the raises of each id are the calls that are finished, those that the ring still counts (pending, in hand, or kept for its
-/// removal), and those lost at the ceiling of the script.
+/// Between any two atomic steps of any ring of a run of a script in threads a lawful level stands, and no expiration is
+/// forgotten: the raises of each id are the calls that are finished, those that the ring still counts (pending, in hand, or kept
+/// for its removal), and those lost at the ceiling of the script.
 ///
 /// It does nothing when it runs: its clauses are the law.
 pub fn standing_law<C: Calls>()

@@ -15,6 +15,7 @@ use Rattle.cyc_types.specs.declared.level.Level.{Level}
 use Rattle.cyc_types.specs.declared.moment.When.{When}
 use Rattle.cyc_types.specs.declared.refusal.Refusal.{Refusal}
 use Rattle.cyc_types.specs.declared.refusal.Refusal.TheVariants as why
+use Rattle.cyc_types.proofs.Facts.{so_true}
 use Rattle.cyc_places.specs.declared.record.Placement.TheVariants.{On, Everywhere}
 use Rattle.cyc_script.specs.declared.step.Add.{Add as AddStep}
 use Rattle.cyc_script.specs.declared.step.Omni.{Omni as OmniStep}
@@ -28,8 +29,8 @@ use Rattle.cyc_thread_calls.specs.Calls.{SystemCall, Changes, Add, AddOmni}
 use Rattle.cyc_thread_calls.specs.Named.TheVariants.{Cyclic}
 use Rattle.cyc_thread_calls.specs.Progress.{Progress}
 use Rattle.cyc_thread_calls.specs.StepCalls.{CallsFor}
-use Rattle.cyc_thread_calls.specs.Names.{named_at, id_of, is_leaving}
-use Rattle.cyc_thread_calls.specs.Words.{Does}
+use Rattle.cyc_thread_calls.specs.Names.{named_at, cyclic_id, has_open_removal}
+use Rattle.cyc_thread_calls.specs.Words.{DoesStep}
 use Rattle.cyc_thread_calls.specs.SystemRingsLeading.{Make}
 use Rattle.cyc_thread_calls.specs.Leading.{call_of}
 use Rattle.cyc_thread_calls.specs.Way.{is_series}
@@ -47,18 +48,7 @@ use Rattle.cyc_thread_reasons.proofs.Naming.{until_not}
 use Rattle.cyc_thread_reasons.proofs.Full.{IsFull, add_why, omni_why}
 use Rattle.cyc_thread_reasons.proofs.Crowding.{number_online, all_full}
 use Rattle.cyc_thread_reasons.proofs.Room.{full_told, one_too_many}
-
-so_true : (b : Bool) → T b → b ≡ true
-so_true true t = refl
-so_true false t = absurd t
-
-no_series_of : (start interval : ℤ) → (start <ℤ pos 0) ⊎ (interval <ℤ pos 1) → is_series start interval ≡ false
-no_series_of start interval (inl low) = ap (λ b. not b && not (int_lt interval (pos 1))) (so_true _ low.lt)
-no_series_of start interval (inr low) = by (int_lt start (pos 0)) (so_true _ low.lt)
-  where
-    by : (b : Bool) → int_lt interval (pos 1) ≡ true → (not b && not (int_lt interval (pos 1))) ≡ false
-    by true e = refl
-    by false e = ap not e
+use Rattle.cyc_thread_calls.proofs.Stepping.{no_series_of}
 
 -- one of several passes
 any_after : (test : ℕ → Bool) (before rest : List ℕ) (n : ℕ) → test n ≡ true → list_any test (before ++ n ∷ rest) ≡ true
@@ -92,17 +82,22 @@ module _ {C R : Type 0} (handler : Calls C) (firing : Raise R) (names given : �
         at_other = λ a ne. ap (λ ns. named_at ns a) set ∙ set_beside s.names name a (Cyclic id) ne;
         last = (let a = h.few in omega (arith, a, next, last));
         is = is;
-        there = λ own e. subst (λ (k : ℕ). is_there (stands k t.side.system) ≡ true) (same_some (ap id_of e))
+        there = λ own e. subst (λ (k : ℕ). is_there (stands k t.side.system) ≡ true) (same_some (ap cyclic_id e))
             (ap is_there is ∙ there);
         new = λ own e. (let same : id ≡ own = same_some e in (
           omega (arith, last, same),
           λ other ne at. (let old = h.ids other own at in omega (arith, old, next, same)),
         ));
-        others = λ other own ne e. kept own (λ same. (let old = h.ids other own (ap id_of e) in omega (arith, old, next, same)));
+        others = λ other own ne e. kept own (λ same. (let old = h.ids other own (ap cyclic_id e) in omega (
+          arith,
+          old,
+          next,
+          same,
+        )));
         known = λ own e. dite (ℕ_discrete own id) (λ q. inl (ap Some (sym q)))
             (λ ne. inr (
               sym (ap is_there (kept own ne)) ∙ e,
-              λ at. none_some (sym (ap id_of (h.fresh name (omega (arith, here)))) ∙ at),
+              λ at. none_some (sym (ap cyclic_id (h.fresh name (omega (arith, here)))) ∙ at),
             ));
         fresh = λ a high same. omega (arith, high, same, here);
       })
@@ -113,10 +108,10 @@ module _ {C R : Type 0} (handler : Calls C) (firing : Raise R) (names given : �
   got_calm : (name id : ℕ) → name ≡ given → t.names ≡ slice_set s.names name (Cyclic id)
       → AllStill t.side.system.cpus → IsCalmNow firing t
   got_calm name id here set still = record {
-    none = λ other. ap (λ ns. is_leaving (named_at ns other)) set ∙ dite (ℕ_discrete other name)
-        (λ e. ap (λ (k : ℕ). is_leaving (named_at (slice_set s.names name (Cyclic id)) k)) e
-        ∙ ap is_leaving (set_here s.names name (Cyclic id) (let long = h.long in omega (arith, here, long, space))))
-        (λ ne. ap is_leaving (set_beside s.names name other (Cyclic id) ne) ∙ w.none other);
+    none = λ other. ap (λ ns. has_open_removal (named_at ns other)) set ∙ dite (ℕ_discrete other name)
+        (λ e. ap (λ (k : ℕ). has_open_removal (named_at (slice_set s.names name (Cyclic id)) k)) e
+        ∙ ap has_open_removal (set_here s.names name (Cyclic id) (let long = h.long in omega (arith, here, long, space))))
+        (λ ne. ap has_open_removal (set_beside s.names name other (Cyclic id) ne) ∙ w.none other);
     still = still;
   }
 
@@ -168,7 +163,7 @@ module _ {C R : Type 0} (handler : Calls C) (firing : Raise R) (names given : �
       by (inr (d, chosen, full)) = inl (or_right (not (is_series a.start a.interval))
           (are_too_many (how_many is_single told + 1) (many_online told) told) (too_many d chosen full))
 
-  pub add_next : (a : AddStep) (d : Does handler firing (steps.Add a) s t) → a.name ≡ given
+  pub add_next : (a : AddStep) (d : DoesStep handler firing (steps.Add a) s t) → a.name ≡ given
       → Outcome firing names (given + 1) told (steps.Add a) t (call_of handler firing (steps.Add a) s t d) ⊥
   add_next a (inl (when, starts, lasts, long, (answer, did))) here = added a when answer here did
   add_next a (inr (numbers, same)) here = refused firing names (given + 1) told (steps.Add a) t None ⊥ refl
@@ -229,7 +224,7 @@ module _ {C R : Type 0} (handler : Calls C) (firing : Raise R) (names given : �
       by (inr (before, n, after, full)) = inl (or_right (not (is_series a.start a.interval)) (one_is_full told)
           (one_full before n after full))
 
-  pub omni_next : (a : OmniStep) (d : Does handler firing (steps.Omni a) s t) → a.name ≡ given
+  pub omni_next : (a : OmniStep) (d : DoesStep handler firing (steps.Omni a) s t) → a.name ≡ given
       → Outcome firing names (given + 1) told (steps.Omni a) t (call_of handler firing (steps.Omni a) s t d) ⊥
   omni_next a (inl (when, starts, lasts, long, (answer, did))) here = added_everywhere a when answer here did
   omni_next a (inr (numbers, same)) here = refused firing names (given + 1) told (steps.Omni a) t None ⊥ refl

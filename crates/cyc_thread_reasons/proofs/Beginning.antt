@@ -11,7 +11,7 @@ use Rattle.cyc_thread_calls.specs.Seated.{Seated}
 use Rattle.cyc_thread_calls.specs.Named.{Named}
 use Rattle.cyc_thread_calls.specs.Named.TheVariants.{Nothing}
 use Rattle.cyc_thread_calls.specs.Progress.{Progress}
-use Rattle.cyc_thread_calls.specs.Names.{named_at, id_of}
+use Rattle.cyc_thread_calls.specs.Names.{named_at, cyclic_id}
 use Rattle.cyc_thread_calls.specs.Running.{IsAtFirst}
 use Rattle.cyc_thread_calls.proofs.Beginning.{first_fits as calm_fits}
 use Rattle.cyc_thread_reasons.specs.Known.{Absent, known_first}
@@ -41,7 +41,7 @@ module _ {C : Type 0} (names cpus : ℕ) (all : List (Seated C)) (p : Progress R
     ready = f.ready;
     fresh = λ a high. nothing_at a;
     each = λ a. all_alike Absent names a ∙ sym (ap (λ (n : Named). given_of n p.side.system) (nothing_at a));
-    there = λ a id e. absurd (none_some (sym (ap id_of (nothing_at a)) ∙ ap id_of e));
+    there = λ a id e. absurd (none_some (sym (ap cyclic_id (nothing_at a)) ∙ ap cyclic_id e));
     ids = f.ids;
     own = f.own;
     known = λ id e. absurd (let odd : false ≡ true = sym (ap (λ rs. is_there (stands_in id rs)) first.records) ∙ e in cc);

@@ -5,6 +5,7 @@ use Rattle.std.proofs.Common.{None, List, [], ◌∷◌, length, get_or, set, ma
 use Rattle.std.proofs.Common.{ne_eqb}
 use Rattle.std.proofs.lemmas.List.{length-set, get_or-set_other, length-map, get_or-map}
 use Rattle.std.proofs.lemmas.List.Sums.{sum_by-cons, sum_by-set, count_by-le-length}
+use Rattle.cyc_types.proofs.Facts.{false_true}
 use Rattle.cyc_agreement.specs.Cpus.{numbers_from}
 
 -- no number stands at two places
@@ -26,9 +27,6 @@ value b = cond b 1 0
 is_false : (b : Bool) → (b ≡ true → ⊥) → b ≡ false
 is_false true fails = absurd (fails refl)
 is_false false fails = refl
-
-false_true : false ≡ true → ⊥
-false_true e = cc
 
 same_some : (a b : ℕ) → Some a ≡ Some b → a ≡ b
 same_some a b e = ap (λ (o : Option ℕ). elim o [ None ↦ a | Some z ↦ z ]) e

@@ -27,8 +27,8 @@ use Rattle.cyc_thread_calls.specs.Named.{Named}
 use Rattle.cyc_thread_calls.specs.Named.TheVariants.{Nothing, Cyclic, Leaving, Removed}
 use Rattle.cyc_thread_calls.specs.Progress.{Progress}
 use Rattle.cyc_thread_calls.specs.StepCalls.{CallsFor, Fires}
-use Rattle.cyc_thread_calls.specs.Names.{named_at, id_of, is_leaving, NoneLeaves}
-use Rattle.cyc_thread_calls.specs.Words.{WithId}
+use Rattle.cyc_thread_calls.specs.Names.{named_at, cyclic_id, has_open_removal, NoneLeaves}
+use Rattle.cyc_words.specs.Words.{WithId}
 use Rattle.cyc_thread_calls.specs.SystemRingsLeading.{LeadCall, Make}
 use Rattle.cyc_thread_calls.specs.Leading.{call_with}
 use Rattle.cyc_thread_calls.proofs.Keeping.{AllStill, begun_given}
@@ -40,15 +40,10 @@ use Rattle.cyc_thread_reasons.proofs.Whereabouts.{stands, stands_same, stands_as
 use Rattle.cyc_thread_reasons.proofs.Fitting.{given_of, Fits, base_call, fits_same, fits_set, sets_own}
 use Rattle.cyc_thread_reasons.proofs.Waiting.{Calm, not_here}
 use Rattle.cyc_thread_reasons.proofs.Outcomes.{Outcome, taken, refused, fits_as, calm_as}
+use Rattle.cyc_thread_calls.proofs.Ending.{none_busy}
 
-none_busy : {R : Type 0} (s : SystemView R) (ns : List ℕ) → AllStill s.cpus
-    → first_refusal (map (λ (n : ℕ). busy (removal_on n s.cpus)) ns) ≡ None
-none_busy s [] still = refl
-none_busy s (n ∷ ns) still = passes (busy (removal_on n s.cpus)) (map (λ (m : ℕ). busy (removal_on m s.cpus)) ns) None
-    (ap busy (none_removed s.cpus n still)) (none_busy s ns still)
-
-cyclic_stays : {named : Named} {id : ℕ} → is_leaving named ≡ true → named ≡ Cyclic id → ⊥
-cyclic_stays leaves e = (let odd : false ≡ true = sym (ap is_leaving e) ∙ leaves in cc)
+cyclic_stays : {named : Named} {id : ℕ} → has_open_removal named ≡ true → named ≡ Cyclic id → ⊥
+cyclic_stays leaves e = (let odd : false ≡ true = sym (ap has_open_removal e) ∙ leaves in cc)
 
 module _ {C R : Type 0} (firing : Raise R) (names given : ℕ) (told : Known) (name : ℕ) (s t : Progress R C)
     (h : Fits firing names given told s) (q : Calm firing told s) where
@@ -94,7 +89,7 @@ module _ {C R : Type 0} (firing : Raise R) (names given : ℕ) (told : Known) (n
         still = subst (λ (x : SystemView R). AllStill x.cpus) (sym same) (q quiet).still;
       })
 
-  begins : (id : ℕ) (answer : Result SystemRemoval Refusal) → id_of (named_at s.names name) ≡ Some id
+  begins : (id : ℕ) (answer : Result SystemRemoval Refusal) → cyclic_id (named_at s.names name) ≡ Some id
       → CallsFor firing name (BeginRemove id answer) s t
       → ((e : Refusal) → Changes firing s.side.system (BeginRemove id (Err e)) t.side.system
       → has_reason (steps.Remove name) told ≡ true)
@@ -105,7 +100,7 @@ module _ {C R : Type 0} (firing : Raise R) (names given : ℕ) (told : Known) (n
       (fits_set firing names given given told (after_accepted (steps.Remove name) told) s t name (Removed receipt) Absent
       (base_call firing names given told name (BeginRemove id (Ok (Done receipt))) s t c h) h (omega arith)
       (sets_own firing names given told (after_accepted (steps.Remove name) told) s t name id (Removed receipt) Absent h refl
-      (g.online ∙ h.online) has c.told g.last refl (λ own e. absurd (none_some (ap id_of e))) (λ own e. absurd (none_some e))
+      (g.online ∙ h.online) has c.told g.last refl (λ own e. absurd (none_some (ap cyclic_id e))) (λ own e. absurd (none_some e))
       (λ own ne. stands_kept firing s.side.system t.side.system (BeginRemove id (Ok (Done receipt))) own tt h.rising c.did ne)
       (λ e. absurd (not_here (stands id t.side.system)
       (removed_stands firing s.side.system t.side.system id receipt h.rising c.did) e))))
@@ -123,18 +118,18 @@ module _ {C R : Type 0} (firing : Raise R) (names given : ℕ) (told : Known) (n
   begins id (Err e) has c reason = stays_there id e c (reason e c.did)
 
   pub remove_of : (named : Named) → named_at s.names name ≡ named
-      → (d : WithId (id_of named)
+      → (d : WithId (cyclic_id named)
       (λ id. (answer : Result SystemRemoval Refusal) × CallsFor firing name (BeginRemove id answer) s t) (t ≡ s))
-      → OutHere (call_with firing SystemRemoval (λ id answer. BeginRemove id answer) name s t (id_of named) d)
+      → OutHere (call_with firing SystemRemoval (λ id answer. BeginRemove id answer) name s t (cyclic_id named) d)
   remove_of Nothing at d = refused firing names given told (steps.Remove name) t None ⊥ refl
       (inl (nothing_reason (h.each name ∙ ap (λ (n : Named). given_of n s.side.system) at)))
       (fits_as firing names given told s t d h) (calm_as firing names told s t d q)
   remove_of (Removed receipt) at d = refused firing names given told (steps.Remove name) t None ⊥ refl
       (inl (nothing_reason (h.each name ∙ ap (λ (n : Named). given_of n s.side.system) at)))
       (fits_as firing names given told s t d h) (calm_as firing names told s t d q)
-  remove_of (Leaving id) at (answer, c) = begins id answer (ap id_of at) c
+  remove_of (Leaving id) at (answer, c) = begins id answer (ap cyclic_id at) c
       (λ e d. nothing_reason (h.each name ∙ ap (λ (n : Named). given_of n s.side.system) at))
-  remove_of (Cyclic id) at (answer, c) = begins id answer (ap id_of at) c (λ e d. open_reason id e at d)
+  remove_of (Cyclic id) at (answer, c) = begins id answer (ap cyclic_id at) c (λ e d. open_reason id e at d)
 
 -- ---- an advance
 

@@ -16,12 +16,13 @@ use Rattle.cyc_thread_calls.specs.Calls.{SystemCall}
 use Rattle.cyc_thread_calls.specs.Named.{Named}
 use Rattle.cyc_thread_calls.specs.Named.TheVariants.{Nothing, Cyclic, Leaving, Removed}
 use Rattle.cyc_thread_calls.specs.Progress.{Progress}
-use Rattle.cyc_thread_calls.specs.StepCalls.{CallsFor, IsReady}
-use Rattle.cyc_thread_calls.specs.Names.{named_at, id_of, is_leaving}
+use Rattle.cyc_thread_calls.specs.StepCalls.{CallsFor, HasLeads}
+use Rattle.cyc_thread_calls.specs.Names.{named_at, cyclic_id, has_open_removal}
 use Rattle.cyc_thread_calls.proofs.Fitting.{set_here, set_beside}
 use Rattle.cyc_thread_reasons.specs.Known.{Whereabouts, Absent, Known, name_has}
 use Rattle.cyc_thread_reasons.specs.Reasons.{is_there}
 use Rattle.cyc_thread_reasons.proofs.Whereabouts.{stands, SameStands}
+pub use Rattle.cyc_thread_calls.proofs.Fitting.{name_low}
 
 -- what the system has of what a name has
 abbrev pub given_of : {R : Type 0} → Named → SystemView R → Whereabouts
@@ -38,16 +39,11 @@ given_kept (Leaving id) s t same = refl
 given_kept (Removed receipt) s t same = refl
 
 -- a name that has an id, and is not leaving
-pub cyclic_of : (named : Named) (id : ℕ) → id_of named ≡ Some id → is_leaving named ≡ false → named ≡ Cyclic id
+pub cyclic_of : (named : Named) (id : ℕ) → cyclic_id named ≡ Some id → has_open_removal named ≡ false → named ≡ Cyclic id
 cyclic_of Nothing id has stays = absurd (none_some has)
 cyclic_of (Cyclic own) id has stays = ap Cyclic (same_some has)
 cyclic_of (Leaving own) id has stays = absurd (let odd : true ≡ false = stays in cc)
 cyclic_of (Removed receipt) id has stays = absurd (none_some has)
-
-pub name_low : (names : List Named) (name id : ℕ) → id_of (named_at names name) ≡ Some id → name < length names
-name_low names name id has = dite (ℕ_discrete (length names - name) 0)
-    (λ z. absurd (none_some (sym (ap id_of (get_or_past names name Nothing (omega (arith, z)))) ∙ has)))
-    (λ p. omega (arith, p))
 
 module _ {C R : Type 0} (firing : Raise R) (names : ℕ) where
   -- Of so many names so many were introduced, and what the accepted steps told of the CPUs and of the names is so.
@@ -59,20 +55,20 @@ module _ {C R : Type 0} (firing : Raise R) (names : ℕ) where
     pub told_long : length told.names ≡ names
     pub online : p.side.system.cpus.online ≡ told.online
     pub ups : length p.side.system.cpus.online ≡ length p.side.system.cpus.cpus
-    pub ready : IsReady p
+    pub ready : HasLeads p
     pub fresh : (a : ℕ) → given ≤ a → named_at p.names a ≡ Nothing
     pub each : (a : ℕ) → name_has a told ≡ given_of (named_at p.names a) p.side.system
     pub there : (a id : ℕ) → named_at p.names a ≡ Cyclic id → is_there (stands id p.side.system) ≡ true
-    pub ids : (a id : ℕ) → id_of (named_at p.names a) ≡ Some id → id ≤ p.side.system.last
-    pub own : (a b id : ℕ) → id_of (named_at p.names a) ≡ Some id → id_of (named_at p.names b) ≡ Some id → a ≡ b
-    pub known : (id : ℕ) → is_there (stands id p.side.system) ≡ true → (a : ℕ) × (id_of (named_at p.names a) ≡ Some id)
+    pub ids : (a id : ℕ) → cyclic_id (named_at p.names a) ≡ Some id → id ≤ p.side.system.last
+    pub own : (a b id : ℕ) → cyclic_id (named_at p.names a) ≡ Some id → cyclic_id (named_at p.names b) ≡ Some id → a ≡ b
+    pub known : (id : ℕ) → is_there (stands id p.side.system) ≡ true → (a : ℕ) × (cyclic_id (named_at p.names a) ≡ Some id)
 
   -- what every call keeps of it
   pub record Base (s t : Progress R C) : Type 0 where
     pub rising : HasRisingIds t.side.system.records
     pub early : t.clock < never
     pub ups : length t.side.system.cpus.online ≡ length t.side.system.cpus.cpus
-    pub ready : IsReady t
+    pub ready : HasLeads t
     pub more : s.side.system.last ≤ t.side.system.last
 
   pub base_call : (given : ℕ) (told : Known) (name : ℕ) (call : SystemCall) (s t : Progress R C) → CallsFor firing name call s t
@@ -103,12 +99,12 @@ module _ {C R : Type 0} (firing : Raise R) (names : ℕ) where
         ∙ sym (given_kept (named_at s.names a) s.side.system t.side.system (λ id e. alike id))
         ∙ ap (λ ns. given_of (named_at ns a) t.side.system) (sym same);
     there = λ a id e. ap is_there (alike id) ∙ h.there a id (sym (ap (λ ns. named_at ns a) same) ∙ e);
-    ids = λ a id e. (let low = h.ids a id (sym (ap (λ ns. id_of (named_at ns a)) same) ∙ e) in
+    ids = λ a id e. (let low = h.ids a id (sym (ap (λ ns. cyclic_id (named_at ns a)) same) ∙ e) in
         let more = b.more in omega (arith, low, more));
-    own = λ x y id e f. h.own x y id (sym (ap (λ ns. id_of (named_at ns x)) same) ∙ e)
-        (sym (ap (λ ns. id_of (named_at ns y)) same) ∙ f);
+    own = λ x y id e f. h.own x y id (sym (ap (λ ns. cyclic_id (named_at ns x)) same) ∙ e)
+        (sym (ap (λ ns. cyclic_id (named_at ns y)) same) ∙ f);
     known = λ id e. (let (a, has) = h.known id (sym (ap is_there (alike id)) ∙ e) in
-        (a, ap (λ ns. id_of (named_at ns a)) same ∙ has));
+        (a, ap (λ ns. cyclic_id (named_at ns a)) same ∙ has));
   }
 
   -- one name has another thing now
@@ -123,12 +119,13 @@ module _ {C R : Type 0} (firing : Raise R) (names : ℕ) where
     pub last : t.side.system.last ≤ given'
     pub is : given_of now t.side.system ≡ st
     pub there : (id : ℕ) → now ≡ Cyclic id → is_there (stands id t.side.system) ≡ true
-    pub new : (id : ℕ) → id_of now ≡ Some id → (id ≤ t.side.system.last)
-        × ((other : ℕ) → other ≢ name → id_of (named_at s.names other) ≡ Some id → ⊥)
+    pub new : (id : ℕ) → cyclic_id now ≡ Some id → (id ≤ t.side.system.last)
+        × ((other : ℕ) → other ≢ name → cyclic_id (named_at s.names other) ≡ Some id → ⊥)
     pub others : (other id : ℕ) → other ≢ name → named_at s.names other ≡ Cyclic id
         → stands id t.side.system ≡ stands id s.side.system
     pub known : (id : ℕ) → is_there (stands id t.side.system) ≡ true
-        → (id_of now ≡ Some id) ⊎ ((is_there (stands id s.side.system) ≡ true) × (id_of (named_at s.names name) ≡ Some id → ⊥))
+        → (cyclic_id now ≡ Some id) ⊎ ((is_there (stands id s.side.system) ≡ true)
+        × (cyclic_id (named_at s.names name) ≡ Some id → ⊥))
     pub fresh : (a : ℕ) → given' ≤ a → a ≢ name
 
   pub fits_set : (given given' : ℕ) (told told' : Known) (s t : Progress R C) (name : ℕ) (now : Named) (st : Whereabouts)
@@ -155,16 +152,16 @@ module _ {C R : Type 0} (firing : Raise R) (names : ℕ) where
         (λ q. z.there id (sym z.at_name ∙ subst (λ (k : ℕ). named_at t.names k ≡ Cyclic id) q e))
         (λ ne. (let was = sym (z.at_other a ne) ∙ e in ap is_there (z.others a id ne was) ∙ h.there a id was));
     ids = λ a id e. dite (ℕ_discrete a name)
-        (λ q. (z.new id (sym (ap id_of z.at_name) ∙ subst (λ (k : ℕ). id_of (named_at t.names k) ≡ Some id) q e)).0)
-        (λ ne. (let low = h.ids a id (sym (ap id_of (z.at_other a ne)) ∙ e) in let up = b.more in omega (arith, low, up)));
+        (λ q. (z.new id (sym (ap cyclic_id z.at_name) ∙ subst (λ (k : ℕ). cyclic_id (named_at t.names k) ≡ Some id) q e)).0)
+        (λ ne. (let low = h.ids a id (sym (ap cyclic_id (z.at_other a ne)) ∙ e) in let up = b.more in omega (arith, low, up)));
     own = λ x y id e f. dite (ℕ_discrete x name)
         (λ p. dite (ℕ_discrete y name) (λ q. p ∙ sym q)
-        (λ nq. absurd ((z.new id (sym (ap id_of z.at_name)
-        ∙ subst (λ (k : ℕ). id_of (named_at t.names k) ≡ Some id) p e)).1 y nq (sym (ap id_of (z.at_other y nq)) ∙ f))))
+        (λ nq. absurd ((z.new id (sym (ap cyclic_id z.at_name)
+        ∙ subst (λ (k : ℕ). cyclic_id (named_at t.names k) ≡ Some id) p e)).1 y nq (sym (ap cyclic_id (z.at_other y nq)) ∙ f))))
         (λ np. dite (ℕ_discrete y name)
-        (λ q. absurd ((z.new id (sym (ap id_of z.at_name)
-        ∙ subst (λ (k : ℕ). id_of (named_at t.names k) ≡ Some id) q f)).1 x np (sym (ap id_of (z.at_other x np)) ∙ e)))
-        (λ nq. h.own x y id (sym (ap id_of (z.at_other x np)) ∙ e) (sym (ap id_of (z.at_other y nq)) ∙ f)));
+        (λ q. absurd ((z.new id (sym (ap cyclic_id z.at_name)
+        ∙ subst (λ (k : ℕ). cyclic_id (named_at t.names k) ≡ Some id) q f)).1 x np (sym (ap cyclic_id (z.at_other x np)) ∙ e)))
+        (λ nq. h.own x y id (sym (ap cyclic_id (z.at_other x np)) ∙ e) (sym (ap cyclic_id (z.at_other y nq)) ∙ f)));
     known = λ id e. by_known id (z.known id e);
   }
     where
@@ -172,22 +169,23 @@ module _ {C R : Type 0} (firing : Raise R) (names : ℕ) where
       told_low = let a = z.low in let l = h.long in let k = h.told_long in omega (arith, a, l, k)
 
       by_known : (id : ℕ)
-          → (id_of now ≡ Some id) ⊎ ((is_there (stands id s.side.system) ≡ true) × (id_of (named_at s.names name) ≡ Some id → ⊥))
-          → (a : ℕ) × (id_of (named_at t.names a) ≡ Some id)
-      by_known id (inl is) = (name, ap id_of z.at_name ∙ is)
+          → (cyclic_id now ≡ Some id) ⊎ ((is_there (stands id s.side.system) ≡ true)
+          × (cyclic_id (named_at s.names name) ≡ Some id → ⊥))
+          → (a : ℕ) × (cyclic_id (named_at t.names a) ≡ Some id)
+      by_known id (inl is) = (name, ap cyclic_id z.at_name ∙ is)
       by_known id (inr (here, other)) = let (a, has) = h.known id here in
-          let ne : a ≢ name = (λ q. other (subst (λ (k : ℕ). id_of (named_at s.names k) ≡ Some id) q has)) in
-          (a, ap id_of (z.at_other a ne) ∙ has)
+          let ne : a ≢ name = (λ q. other (subst (λ (k : ℕ). cyclic_id (named_at s.names k) ≡ Some id) q has)) in
+          (a, ap cyclic_id (z.at_other a ne) ∙ has)
 
   -- a name that has an id has another thing now, and no other id is touched
   pub sets_own : (given : ℕ) (told told' : Known) (s t : Progress R C) (name id : ℕ) (now : Named) (st : Whereabouts)
       → Fits given told s → told'.names ≡ slice_set told.names name st → t.side.system.cpus.online ≡ told'.online
-      → id_of (named_at s.names name) ≡ Some id → t.names ≡ slice_set s.names name now
+      → cyclic_id (named_at s.names name) ≡ Some id → t.names ≡ slice_set s.names name now
       → t.side.system.last ≡ s.side.system.last → given_of now t.side.system ≡ st
       → ((own : ℕ) → now ≡ Cyclic own → is_there (stands own t.side.system) ≡ true)
-      → ((own : ℕ) → id_of now ≡ Some own → id ≡ own)
+      → ((own : ℕ) → cyclic_id now ≡ Some own → id ≡ own)
       → ((own : ℕ) → id ≢ own → stands own t.side.system ≡ stands own s.side.system)
-      → (is_there (stands id t.side.system) ≡ true → id_of now ≡ Some id)
+      → (is_there (stands id t.side.system) ≡ true → cyclic_id now ≡ Some id)
       → Sets given told told' s t name now st
   sets_own given told told' s t name id now st h told_names online has names_are last is there mine kept left = record {
     told_names = told_names;
@@ -203,11 +201,11 @@ module _ {C R : Type 0} (firing : Raise R) (names : ℕ) where
       subst (λ (k : ℕ). own ≤ k) (sym last) (h.ids name own (has ∙ ap Some same)),
       λ other ne at. ne (h.own other name own at (has ∙ ap Some same)),
     ));
-    others = λ other own ne e. kept own (λ same. ne (h.own other name own (ap id_of e) (has ∙ ap Some same)));
+    others = λ other own ne e. kept own (λ same. ne (h.own other name own (ap cyclic_id e) (has ∙ ap Some same)));
     known = λ own e. dite (ℕ_discrete id own)
         (λ q. inl (left (subst (λ (k : ℕ). is_there (stands k t.side.system) ≡ true) (sym q) e) ∙ ap Some q))
         (λ ne. inr (sym (ap is_there (kept own ne)) ∙ e, λ at. ne (same_some (sym has ∙ at))));
-    fresh = λ a high same. none_some (sym (ap id_of (h.fresh a high)) ∙ ap (λ k. id_of (named_at s.names k)) same ∙ has);
+    fresh = λ a high same. none_some (sym (ap cyclic_id (h.fresh a high)) ∙ ap (λ k. cyclic_id (named_at s.names k)) same ∙ has);
   }
     where
       low : name < length s.names

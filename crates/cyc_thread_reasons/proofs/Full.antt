@@ -12,7 +12,7 @@ use Rattle.cyc_types.specs.declared.refusal.Refusal.{Refusal}
 use Rattle.cyc_types.specs.declared.refusal.Refusal.TheVariants as why
 use Rattle.cyc_types.specs.Reasons.{first_refusal, bad_now}
 use Rattle.cyc_cpu.specs.Cpu.{CpuView}
-use Rattle.cyc_cpu.specs.Calls.{Changes as CpuChanges, AskRoom, Reserve}
+use Rattle.cyc_cpu.specs.Calls.{CpuChanges as CpuChanges, AskRoom, Reserve}
 use Rattle.cyc_agreement.specs.Cpus.{CpusView, IsCpu, on, ChangesAt, Works, online_cpus}
 use Rattle.cyc_agreement.specs.Destination.{destination}
 use Rattle.cyc_agreement.specs.Reserving.{rooms, StandsAfter}

@@ -46,7 +46,7 @@ module _ {R : Type 0} (firing : Raise R) where
 
   returns_keep : (n now : ℕ) (rs : List Record) (v w : CpusView R) → Works firing (returns n now rs) v w → Keeps firing v w
   returns_keep n now [] v w run = keeps_same firing v w (sym run)
-  returns_keep n now (r ∷ rs) v w run = by r.place (returns_keep n now rs) run
+  returns_keep n now (r ∷ rs) v w run = by r.placement (returns_keep n now rs) run
     where
       by : (p : Placement) → ((x y : CpusView R) → Works firing (returns n now rs) x y → Keeps firing x y)
           → Works firing (return_at n now r.id r.level (ended_on n r) p ++ returns n now rs) v w → Keeps firing v w

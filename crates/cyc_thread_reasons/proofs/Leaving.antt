@@ -16,7 +16,7 @@ use Rattle.cyc_places.specs.declared.record.Record.{Record}
 use Rattle.cyc_places.specs.Places.{IsRecord, HasRisingIds, is_everywhere as is_placed_everywhere}
 use Rattle.cyc_agreement.specs.Cpus.{IsCpu, IsOnline, online_cpus}
 use Rattle.cyc_agreement.specs.Agreement.{Stands}
-use Rattle.cyc_agreement.specs.Binding.{HasPlace}
+use Rattle.cyc_agreement.specs.Binding.{HasPlacement}
 use Rattle.cyc_agreement.specs.Destination.{destination}
 use Rattle.cyc_agreement.specs.Juggling.{juggle_refusals}
 use Rattle.cyc_agreement.specs.System.{ids_on, has}
@@ -35,7 +35,7 @@ use Rattle.cyc_thread_calls.specs.Settled.{AllSettled}
 use Rattle.cyc_thread_calls.specs.Named.{Named}
 use Rattle.cyc_thread_calls.specs.Named.TheVariants.{Cyclic}
 use Rattle.cyc_thread_calls.specs.Progress.{Progress}
-use Rattle.cyc_thread_calls.specs.Names.{named_at, id_of, NoneLeaves}
+use Rattle.cyc_thread_calls.specs.Names.{named_at, cyclic_id, NoneLeaves}
 use Rattle.cyc_thread_reasons.specs.Known.{Absent, Known}
 use Rattle.cyc_thread_reasons.specs.Reasons.{is_single, is_bound_to, how_many, many_online, are_too_many}
 use Rattle.cyc_thread_reasons.specs.Explained.{IsTurnPutOff, IsLeft}
@@ -84,9 +84,10 @@ all_at : {A : Type 0} (P : A → Type 0) (xs : List A) (k : ℕ) (x : A) → All
 all_at P xs k x all at = subst P (get_or_from_slice_get xs k x x at) (all k x (slice_get_within xs k x at))
 
 omni_is : {R : Type 0} (s : SystemView R) (k id : ℕ) (r : Record) → HasRisingIds s.records → IsRecord s.records k r → r.id ≡ id
-    → is_omnipresent id s ≡ is_placed_everywhere r.place
+    → is_omnipresent id s ≡ is_placed_everywhere r.placement
 omni_is s k id r rising is named =
-    ap (λ o. option_map_or (λ (q : Record). is_placed_everywhere q.place) o false) (record_here id k r s.records rising is named)
+    ap (λ o. option_map_or (λ (q : Record). is_placed_everywhere q.placement) o false) (record_here id k r s.records rising is
+    named)
 
 module _ {C R : Type 0} (firing : Raise R) (names given : ℕ) (told : Known) (s : SystemView R) (p : Progress R C)
     (rising : HasRisingIds s.records) (settled : AllSettled firing.view s.cpus.cpus)
@@ -133,7 +134,7 @@ module _ {C R : Type 0} (firing : Raise R) (names given : ℕ) (told : Known) (s
         (subst (λ m. IsOnline m t.cpus) is (number_online t.cpus j less))
 
     crowded : (a own k : ℕ) (r : Record) → named_at p.names a ≡ Cyclic own → IsRecord t.records k r → r.id ≡ own
-        → r.place ≡ On n false → is_up n t.cpus ≡ true
+        → r.placement ≡ On n false → is_up n t.cpus ≡ true
         → are_too_many (how_many is_single told) (many_online told - 1) told ≡ true
     crowded a own k r is at named place on =
         subst (λ c. are_too_many (how_many is_single told) c told ≡ true) (others_count on)
@@ -146,7 +147,7 @@ module _ {C R : Type 0} (firing : Raise R) (names given : ℕ) (told : Known) (s
 
   -- a turn that was refused
   turn_why : (a own k : ℕ) (r : Record) → named_at p.names a ≡ Cyclic own → IsRecord t.records k r → r.id ≡ own
-      → r.place ≡ On n false → is_up n t.cpus ≡ true → (place : ℕ) (turn : RefusedTurn R)
+      → r.placement ≡ On n false → is_up n t.cpus ≡ true → (place : ℕ) (turn : RefusedTurn R)
       → slice_get (refused_turns firing n (single_ids n s) report s moved moves) place ≡ Some turn
       → Later firing n turn.before.cpus moved.cpus → WhyLeft
   turn_why a own k r is at named home on place turn there later =
@@ -184,7 +185,7 @@ module _ {C R : Type 0} (firing : Raise R) (names given : ℕ) (told : Known) (s
           ))
 
   stopped_why : (a own k : ℕ) (r : Record) → named_at p.names a ≡ Cyclic own → IsRecord t.records k r → r.id ≡ own
-      → r.place ≡ On n false → is_up n t.cpus ≡ true
+      → r.placement ≡ On n false → is_up n t.cpus ≡ true
       → Stopped firing n (single_ids n s) report s moved moves → WhyLeft
   stopped_why a own k r is at named home on (inl pending) = absurd (
       let zero = left_none firing n report s t (inr (clear, (report, moved, moves, inl (some, refl, same))))
@@ -193,22 +194,22 @@ module _ {C R : Type 0} (firing : Raise R) (names given : ℕ) (told : Known) (s
       turn_why a own k r is at named home on place turn there later
 
   -- a cyclic that is left was among those that had turns
-  was_among : (own : ℕ) → HasPlace own n false moved → among own (single_ids n s) ≡ true
+  was_among : (own : ℕ) → HasPlacement own n false moved → among own (single_ids n s) ≡ true
   was_among own home = by (home_turns firing n own false (single_ids n s) report s moved moves home)
     where
-      by : HasPlace own n false s → among own (single_ids n s) ≡ true
+      by : HasPlacement own n false s → among own (single_ids n s) ≡ true
       by (k, r, is, named, place) = among_filter (λ id. not (is_omnipresent id s)) own (ids_on n s.cpus)
           (ap not (omni_is s k own r rising is named ∙ ap is_placed_everywhere place))
           (subst (λ i. has n i s.cpus ≡ true) named (before.agrees.home k n false r is place))
 
   bound_why : (b : Bool) (a own k : ℕ) (r : Record) → named_at p.names a ≡ Cyclic own → IsRecord t.records k r → r.id ≡ own
-      → r.place ≡ On n b → is_up n t.cpus ≡ true → WhyLeft
+      → r.placement ≡ On n b → is_up n t.cpus ≡ true → WhyLeft
   bound_why true a own k r is at named place on = inl (inl (any_at (is_bound_to n) told.names a Absent
-      (let low = name_low p.names a own (ap id_of is) in let x = h.long in let y = h.told_long in omega (arith, low, x, y))
+      (let low = name_low p.names a own (ap cyclic_id is) in let x = h.long in let y = h.told_long in omega (arith, low, x, y))
       (ap (is_bound_to n) (h.each a ∙ ap (λ (z : Named). given_of z t) is ∙ stands_at t.records k r own h.rising at named
       ∙ ap whereabouts_of place) ∙ true_eq n n refl)))
   bound_why false a own k r is at named place on =
-      let home = subst (λ x. HasPlace own n false x) same (k, r, at, named, place) in
+      let home = subst (λ x. HasPlacement own n false x) same (k, r, at, named, place) in
       stopped_why a own k r is at named place on
       (left_turn firing n own (single_ids n s) report s moved moves (was_among own home) rising home)
 
@@ -223,6 +224,6 @@ module _ {C R : Type 0} (firing : Raise R) (names given : ℕ) (told : Known) (s
           (true_eq _ own (get_or_from_slice_get (ids_on n t.cpus) k own own at)) in
           let (i, q, there, same_id, stood, on) = sound.agrees.known n own here in
           let (a, is, j, r, at_record, named, stands_there) = named_on firing names given told p h none sound n own here in
-          let (b, place) = single_on n r.place stands_there
+          let (b, place) = single_on n r.placement stands_there
           (sym (omni_is t j own r h.rising at_record named) ∙ not_so (is_omnipresent own t) single) in
           bound_why b a own j r is at_record named place on

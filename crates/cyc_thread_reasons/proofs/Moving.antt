@@ -11,13 +11,13 @@ use native.Mathlib.Decide.{ℕ_discrete}
 use Rattle.cyc_types.specs.declared.Raise.{Ghosts as Raise}
 use Rattle.cyc_types.specs.declared.refusal.JuggleReport.{JuggleReport}
 use Rattle.cyc_cpu.specs.Cpu.{CpuView, cyclic_with}
-use Rattle.cyc_cpu.specs.Calls.{CpuCall, Changes as CpuChanges, AskPending, Reserve, Widen, Place}
+use Rattle.cyc_cpu.specs.Calls.{CpuCall, CpuChanges as CpuChanges, AskPending, Reserve, Widen, Place}
 use Rattle.cyc_places.specs.declared.record.Placement.{Placement}
 use Rattle.cyc_places.specs.declared.record.Placement.TheVariants.{On, Everywhere}
 use Rattle.cyc_places.specs.declared.record.Record.{Record}
-use Rattle.cyc_places.specs.Places.{IsRecord, HasRisingIds, with_place}
+use Rattle.cyc_places.specs.Places.{IsRecord, HasRisingIds, with_placement}
 use Rattle.cyc_agreement.specs.Cpus.{CpusView, IsCpu, ChangesAt}
-use Rattle.cyc_agreement.specs.Binding.{HasPlace}
+use Rattle.cyc_agreement.specs.Binding.{HasPlacement}
 use Rattle.cyc_agreement.proofs.CpuSpots.{one_cpu, cpu_there, cpu_after, get_set_same, get_set_other}
 use Rattle.cyc_agreement.proofs.Destinations.{destination_fits}
 use Rattle.cyc_agreement.proofs.Lists.{among, false_ne}
@@ -56,7 +56,7 @@ module _ {R : Type 0} (firing : Raise R) (n : ℕ) where
   grows x y (Reserve more (Err e)) d put = let q = ap length d.0.cyclics in omega (arith, q)
   grows x y (Widen more) d put = let e = ap length d.1.cyclics in omega (arith, e)
   grows x y (Place own level interval moment carried) d put =
-      let e = ap length d.1.cyclics in let more = length-insert x.cyclics d.1.place
+      let e = ap length d.1.cyclics in let more = length-insert x.cyclics d.1.position
       (cyclic_with own level interval moment carried.sent carried.lost) d.1.within in omega (arith, e, more)
   grows x y call d put = absurd put
 
@@ -124,24 +124,24 @@ module _ {R : Type 0} (firing : Raise R) (n : ℕ) where
 
   module _ (id : ℕ) (bound : Bool) where
     abbrev Home : SystemView R → Type 0
-    Home s = HasPlace id n bound s
+    Home s = HasPlacement id n bound s
 
     home_records : (s t : SystemView R) → t.records ≡ s.records → Home t → Home s
     home_records s t e (k, r, is, named, place) = (k, r, subst (λ rs. IsRecord rs k r) e is, named, place)
 
     -- it has not moved itself
     home_moved : (own d : ℕ) (s t : SystemView R) (k : ℕ) (r : Record) → n ≢ d → IsRecord s.records k r
-        → t.records ≡ slice_set s.records k (with_place (On d false) r) → Home t
-        → (j : ℕ) × (q : Record) × (j ≢ k) × IsRecord s.records j q × (q.id ≡ id) × (q.place ≡ On n bound)
+        → t.records ≡ slice_set s.records k (with_placement (On d false) r) → Home t
+        → (j : ℕ) × (q : Record) × (j ≢ k) × IsRecord s.records j q × (q.id ≡ id) × (q.placement ≡ On n bound)
     home_moved own d s t k r apart here e (j, q, is, named, place) =
-        let at : IsRecord (slice_set s.records k (with_place (On d false) r)) j q = subst (λ rs. IsRecord rs j q) e is in
-        let other : j ≢ k = (λ same. apart (sym (on_same (sym (ap (λ (x : Record). x.place) (now same at)) ∙ place)))) in
-        (j, q, other, sym (get_set_other s.records k j (with_place (On d false) r) other) ∙ at, named, place)
+        let at : IsRecord (slice_set s.records k (with_placement (On d false) r)) j q = subst (λ rs. IsRecord rs j q) e is in
+        let other : j ≢ k = (λ same. apart (sym (on_same (sym (ap (λ (x : Record). x.placement) (now same at)) ∙ place)))) in
+        (j, q, other, sym (get_set_other s.records k j (with_placement (On d false) r) other) ∙ at, named, place)
       where
-        now : j ≡ k → IsRecord (slice_set s.records k (with_place (On d false) r)) j q → q ≡ with_place (On d false) r
+        now : j ≡ k → IsRecord (slice_set s.records k (with_placement (On d false) r)) j q → q ≡ with_placement (On d false) r
         now same at = same_some (sym at
-            ∙ ap (λ i. slice_get (slice_set s.records k (with_place (On d false) r)) i) same
-            ∙ get_set_same s.records k (with_place (On d false) r) (slice_get_within s.records k r here))
+            ∙ ap (λ i. slice_get (slice_set s.records k (with_placement (On d false) r)) i) same
+            ∙ get_set_same s.records k (with_placement (On d false) r) (slice_get_within s.records k r here))
 
     home_turn : (own : ℕ) (turn : Turn) (s t : SystemView R) → TakesTurn firing n own turn s t → Home t → Home s
     home_turn own StaysBound s t (place, same) h = subst Home same h
@@ -163,19 +163,20 @@ module _ {R : Type 0} (firing : Raise R) (n : ℕ) where
   Stopped ids report s t turns = (0 < report.pending) ⊎ ((place : ℕ) × (turn : RefusedTurn R)
       × (slice_get (refused_turns firing n ids report s t turns) place ≡ Some turn) × Later turn.before.cpus t.cpus)
 
-  one_place : (s : SystemView R) (id : ℕ) (a b : Bool) → HasRisingIds s.records → HasPlace id n a s → HasPlace id n b s → a ≡ b
+  one_place : (s : SystemView R) (id : ℕ) (a b : Bool) → HasRisingIds s.records → HasPlacement id n a s
+      → HasPlacement id n b s → a ≡ b
   one_place s id a b rising (k, r, is, named, place) (j, q, at, same, there) =
       let e = one_record s.records k j r q rising is at (same ∙ sym named) in
-      bound_same (sym place ∙ ap (λ (x : Record). x.place)
+      bound_same (sym place ∙ ap (λ (x : Record). x.placement)
       (same_some (sym is ∙ ap (λ i. slice_get s.records i) (sym e) ∙ at)) ∙ there)
 
   pub left_turn : (id : ℕ) (ids : List ℕ) (report : JuggleReport) (s t : SystemView R) (turns : Turns firing n ids report s t)
-      → among id ids ≡ true → HasRisingIds s.records → HasPlace id n false t → Stopped ids report s t turns
+      → among id ids ≡ true → HasRisingIds s.records → HasPlacement id n false t → Stopped ids report s t turns
   left_turn id [] report s t turns among_them rising home = absurd (let odd : false ≡ true = among_them in cc)
   left_turn id (own ∷ ids) report s t (StaysBound, u, rest, takes, counted, more) among_them rising home =
       dite (ℕ_discrete own id)
       (λ e. absurd (let odd : true ≡ false = one_place s id true false rising
-      (subst (λ k. HasPlace k n true s) e takes.0)
+      (subst (λ k. HasPlacement k n true s) e takes.0)
       (home_turn id false own StaysBound s u takes (home_turns id false ids rest u t more home)) in cc))
       (λ ne. by (left_turn id ids rest u t more (others own ids ne among_them)
       (turn_stands firing n own StaysBound s u rising takes).1 home))

@@ -19,8 +19,8 @@ use Rattle.cyc_thread_calls.specs.Named.{Named}
 use Rattle.cyc_thread_calls.specs.Named.TheVariants.{Nothing, Cyclic, Leaving, Removed}
 use Rattle.cyc_thread_calls.specs.Progress.{Progress}
 use Rattle.cyc_thread_calls.specs.StepCalls.{CallsFor}
-use Rattle.cyc_thread_calls.specs.Names.{named_at, id_of, is_leaving}
-use Rattle.cyc_thread_calls.specs.Words.{WithId}
+use Rattle.cyc_thread_calls.specs.Names.{named_at, cyclic_id, has_open_removal}
+use Rattle.cyc_words.specs.Words.{WithId}
 use Rattle.cyc_thread_calls.specs.SystemRingsLeading.{LeadCall, Make}
 use Rattle.cyc_thread_calls.specs.Leading.{call_with}
 use Rattle.cyc_thread_calls.proofs.Keeping.{keeps_call, last_move}
@@ -78,9 +78,9 @@ module _ {C R : Type 0} (firing : Raise R) (names given : ℕ) (told : Known) (s
       (fits_set firing names given given told (after_accepted (steps.Bind b) told) s t b.name (Cyclic id) (OnOne (Some b.cpu))
       (base_call firing names given told b.name (Bind id (Some b.cpu) (Ok done)) s t c h) h (omega arith)
       (sets_own firing names given told (after_accepted (steps.Bind b) told) s t b.name id (Cyclic id) (OnOne (Some b.cpu)) h refl
-      (k.online ∙ h.online) (ap id_of at) (c.told ∙ same_name s.names b.name (Cyclic id) at)
+      (k.online ∙ h.online) (ap cyclic_id at) (c.told ∙ same_name s.names b.name (Cyclic id) at)
       (last_move firing s.side.system t.side.system (Bind id (Some b.cpu) (Ok done)) c.did tt) now
-      (λ own e. subst (λ (j : ℕ). is_there (stands j t.side.system) ≡ true) (same_some (ap id_of e)) (ap is_there now))
+      (λ own e. subst (λ (j : ℕ). is_there (stands j t.side.system) ≡ true) (same_some (ap cyclic_id e)) (ap is_there now))
       (λ own e. same_some e)
       (λ own ne. stands_kept firing s.side.system t.side.system (Bind id (Some b.cpu) (Ok done)) own tt h.rising c.did ne)
       (λ e. refl)))
@@ -107,10 +107,10 @@ module _ {C R : Type 0} (firing : Raise R) (names given : ℕ) (told : Known) (s
       by (inr (clear, binds)) = late (bind_why firing id b.cpu e s.side.system t.side.system
           (λ until. until_not firing s (Bind id (Some b.cpu) (Err e)) t.side.system w (inr (clear, binds)) until) binds)
 
-  pub bind_of : (b : BindStep) (named : Named) → named_at s.names b.name ≡ named → is_leaving named ≡ false
-      → (d : WithId (id_of named)
+  pub bind_of : (b : BindStep) (named : Named) → named_at s.names b.name ≡ named → has_open_removal named ≡ false
+      → (d : WithId (cyclic_id named)
       (λ id. (answer : Result (Unit {0}) Refusal) × CallsFor firing b.name (Bind id (Some b.cpu) answer) s t) (t ≡ s))
-      → Out (steps.Bind b) (call_with firing (Unit {0}) (λ id answer. Bind id (Some b.cpu) answer) b.name s t (id_of named) d)
+      → Out (steps.Bind b) (call_with firing (Unit {0}) (λ id answer. Bind id (Some b.cpu) answer) b.name s t (cyclic_id named) d)
   bind_of b Nothing at stays d = idle (steps.Bind b) d (or_left _ (may_be_full b.cpu told)
       (or_left _ (not (is_known_up b.cpu told))
       (nothing_single (name_has b.name told) (standing_is b.name Nothing at))))
@@ -129,9 +129,9 @@ module _ {C R : Type 0} (firing : Raise R) (names given : ℕ) (told : Known) (s
       (fits_set firing names given given told (after_accepted (steps.Unbind name) told) s t name (Cyclic id) (OnOne None)
       (base_call firing names given told name (Bind id None (Ok done)) s t c h) h (omega arith)
       (sets_own firing names given told (after_accepted (steps.Unbind name) told) s t name id (Cyclic id) (OnOne None) h refl
-      (k.online ∙ h.online) (ap id_of at) (c.told ∙ same_name s.names name (Cyclic id) at)
+      (k.online ∙ h.online) (ap cyclic_id at) (c.told ∙ same_name s.names name (Cyclic id) at)
       (last_move firing s.side.system t.side.system (Bind id None (Ok done)) c.did tt) now
-      (λ own e. subst (λ (j : ℕ). is_there (stands j t.side.system) ≡ true) (same_some (ap id_of e)) (ap is_there now))
+      (λ own e. subst (λ (j : ℕ). is_there (stands j t.side.system) ≡ true) (same_some (ap cyclic_id e)) (ap is_there now))
       (λ own e. same_some e)
       (λ own ne. stands_kept firing s.side.system t.side.system (Bind id None (Ok done)) own tt h.rising c.did ne)
       (λ e. refl)))
@@ -147,10 +147,10 @@ module _ {C R : Type 0} (firing : Raise R) (names given : ℕ) (told : Known) (s
           ∙ single_told firing names given told s h id x (h.there name id at) calm_now.still first
       by (inr (clear, (is, n, home, cpus, records))) = absurd (err_ok is)
 
-  pub unbind_of : (name : ℕ) (named : Named) → named_at s.names name ≡ named → is_leaving named ≡ false
-      → (d : WithId (id_of named)
+  pub unbind_of : (name : ℕ) (named : Named) → named_at s.names name ≡ named → has_open_removal named ≡ false
+      → (d : WithId (cyclic_id named)
       (λ id. (answer : Result (Unit {0}) Refusal) × CallsFor firing name (Bind id None answer) s t) (t ≡ s))
-      → Out (steps.Unbind name) (call_with firing (Unit {0}) (λ id answer. Bind id None answer) name s t (id_of named) d)
+      → Out (steps.Unbind name) (call_with firing (Unit {0}) (λ id answer. Bind id None answer) name s t (cyclic_id named) d)
   unbind_of name Nothing at stays d =
       idle (steps.Unbind name) d (nothing_single (name_has name told) (standing_is name Nothing at))
   unbind_of name (Removed receipt) at stays d =

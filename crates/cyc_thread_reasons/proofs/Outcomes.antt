@@ -10,8 +10,8 @@ use Rattle.cyc_thread_calls.specs.SystemRingsLeading.{LeadCall}
 use Rattle.cyc_thread_calls.specs.Progress.{Progress}
 use Rattle.cyc_thread_calls.specs.StepCalls.{CallsFor}
 use Rattle.cyc_thread_calls.specs.Names.{NoneLeaves}
-use Rattle.cyc_thread_calls.specs.Words.{Does}
-use Rattle.cyc_thread_calls.specs.Meeting.{accepted, is_taken}
+use Rattle.cyc_thread_calls.specs.Words.{DoesStep}
+use Rattle.cyc_thread_calls.specs.Meeting.{was_accepted, is_taken}
 use Rattle.cyc_thread_calls.proofs.Keeping.{IsQuiet, keeps_call}
 use Rattle.cyc_thread_calls.proofs.Waiting.{IsCalmNow}
 use Rattle.cyc_thread_reasons.specs.Known.{Known, after_accepted}
@@ -78,7 +78,8 @@ module _ {C R : Type 0} (firing : Raise R) (names : ℕ) where
 
 module _ {C R : Type 0} (handler : Calls C) (firing : Raise R) (names : ℕ) where
   -- what is shown of each step
-  pub record Next (given : ℕ) (told : Known) (x : Step) (s t : Progress R C) (does : Does handler firing x s t) : Type 0 where
-    pub why : accepted handler firing x s t does ≡ false → WhyNot handler firing told x s t does
-    pub fits : Fits firing names (names_after given x) (cond (accepted handler firing x s t does) (after_accepted x told) told) t
-    pub calm : Calm firing (cond (accepted handler firing x s t does) (after_accepted x told) told) t
+  pub record Next (given : ℕ) (told : Known) (x : Step) (s t : Progress R C) (does : DoesStep handler firing x s t) : Type 0 where
+    pub why : was_accepted handler firing x s t does ≡ false → WhyNot handler firing told x s t does
+    pub fits : Fits firing names (names_after given x) (cond (was_accepted handler firing x s t does) (after_accepted x told)
+        told) t
+    pub calm : Calm firing (cond (was_accepted handler firing x s t does) (after_accepted x told) told) t

@@ -23,8 +23,8 @@ use Rattle.cyc_thread_calls.specs.Named.{Named}
 use Rattle.cyc_thread_calls.specs.Named.TheVariants.{Nothing, Cyclic, Leaving, Removed}
 use Rattle.cyc_thread_calls.specs.Progress.{Progress}
 use Rattle.cyc_thread_calls.specs.StepCalls.{CallsFor}
-use Rattle.cyc_thread_calls.specs.Names.{named_at, id_of, is_leaving}
-use Rattle.cyc_thread_calls.specs.Words.{WithId}
+use Rattle.cyc_thread_calls.specs.Names.{named_at, cyclic_id, has_open_removal}
+use Rattle.cyc_words.specs.Words.{WithId}
 use Rattle.cyc_thread_calls.specs.SystemRingsLeading.{Make}
 use Rattle.cyc_thread_calls.specs.Leading.{call_with}
 use Rattle.cyc_thread_calls.specs.Way.{is_moment}
@@ -70,7 +70,8 @@ module _ {C R : Type 0} (firing : Raise R) (names given : ℕ) (told : Known) (s
 
       by : (k : ℕ) × (r : Record) × IsRecord s.side.system.records k r × (r.id ≡ id) → has_on n id s.side.system.cpus ≡ true
       by (k, r, is, named) = either r named (w.sound.agrees.everywhere k n r is
-          (everywhere_place r.place ∙ ap has_components (sym (stands_at s.side.system.records k r id h.rising is named)) ∙ all)
+          (everywhere_place r.placement ∙ ap has_components (sym (stands_at s.side.system.records k r id h.rising is named))
+          ∙ all)
           (up firing names given told s h n ∙ on))
 
   on_low : (n : ℕ) → is_known_up n told ≡ true → n < length s.side.system.cpus.cpus
@@ -154,11 +155,12 @@ module _ {C R : Type 0} (firing : Raise R) (names given : ℕ) (told : Known) (s
   nothing_reset r named at e = or_right (not (is_moment r.moment)) (not (can_be_reprogrammed r.cpu (name_has r.name told) told))
       (absent_not r.cpu (name_has r.name told) told (h.each r.name ∙ ap (λ (n : Named). given_of n s.side.system) at ∙ e))
 
-  pub reset_of : (r : ReprogramStep) (moment : ℕ) (named : Named) → named_at s.names r.name ≡ named → is_leaving named ≡ false
-      → (d : WithId (id_of named)
+  pub reset_of : (r : ReprogramStep) (moment : ℕ) (named : Named) → named_at s.names r.name ≡ named
+      → has_open_removal named ≡ false
+      → (d : WithId (cyclic_id named)
       (λ id. (answer : Result (Unit {0}) Refusal) × CallsFor firing r.name (reprograms r.cpu id moment answer) s t) (t ≡ s))
       → Out firing names given told s t h w (steps.Reprogram r)
-      (call_with firing (Unit {0}) (λ id answer. reprograms r.cpu id moment answer) r.name s t (id_of named) d)
+      (call_with firing (Unit {0}) (λ id answer. reprograms r.cpu id moment answer) r.name s t (cyclic_id named) d)
   reset_of r moment Nothing at stays d =
       idle firing names given told s t h w (steps.Reprogram r) d (nothing_reset r Nothing at refl)
   reset_of r moment (Removed receipt) at stays d =

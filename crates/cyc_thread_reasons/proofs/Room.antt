@@ -9,6 +9,7 @@ use mathlib.Core.Logic.{dite}
 use native.Mathlib.Decide.{ℕ_discrete}
 use Rattle.cyc_types.specs.declared.Raise.{Ghosts as Raise}
 use Rattle.cyc_types.specs.Limits.{cyclics as most_cyclics}
+use Rattle.cyc_types.proofs.Facts.{lt_true}
 use Rattle.cyc_cpu.specs.Cpu.{CpuView}
 use Rattle.cyc_places.specs.declared.record.Placement.{Placement}
 use Rattle.cyc_places.specs.declared.record.Placement.TheVariants.{On, Everywhere}
@@ -26,7 +27,7 @@ use Rattle.cyc_thread_calls.specs.System.{SystemView}
 use Rattle.cyc_thread_calls.specs.Named.{Named}
 use Rattle.cyc_thread_calls.specs.Named.TheVariants.{Nothing, Cyclic, Leaving, Removed}
 use Rattle.cyc_thread_calls.specs.Progress.{Progress}
-use Rattle.cyc_thread_calls.specs.Names.{named_at, id_of, NoneLeaves}
+use Rattle.cyc_thread_calls.specs.Names.{named_at, cyclic_id, NoneLeaves}
 use Rattle.cyc_thread_calls.specs.Sound.{IsSound}
 use Rattle.cyc_thread_reasons.specs.Known.{Absent, Known}
 use Rattle.cyc_thread_reasons.specs.Reasons.{is_single, has_components, may_be_on, how_many, may_be_full, are_too_many}
@@ -56,7 +57,7 @@ count_same f g a b (x ∷ xs) (y ∷ ys) long same = by (f x) (g y) (same 0 (ome
 -- where the cyclic of a name is
 abbrev pub place_of : {R : Type 0} → Named → SystemView R → Option Placement
 place_of Nothing s = None
-place_of (Cyclic id) s = option_map (λ (r : Record). r.place) (found id s.records)
+place_of (Cyclic id) s = option_map (λ (r : Record). r.placement) (found id s.records)
 place_of (Leaving id) s = None
 place_of (Removed receipt) s = None
 
@@ -85,20 +86,20 @@ no_place None is all n = refl
 no_place (Some (On k bound)) is all n = absurd (let odd : true ≡ false = is in cc)
 no_place (Some (Everywhere first skew)) is all n = absurd (let odd : true ≡ false = all in cc)
 
-single_place : (o : Option Record) → is_one (option_map (λ (r : Record). r.place) o)
-    ≡ is_single (option_map_or (λ (r : Record). whereabouts_of r.place) o Absent)
+single_place : (o : Option Record) → is_one (option_map (λ (r : Record). r.placement) o)
+    ≡ is_single (option_map_or (λ (r : Record). whereabouts_of r.placement) o Absent)
 single_place None = refl
-single_place (Some r) = by r.place
+single_place (Some r) = by r.placement
   where
     by : (p : Placement) → is_one (Some p) ≡ is_single (whereabouts_of p)
     by (On n false) = refl
     by (On n true) = refl
     by (Everywhere first skew) = refl
 
-all_place : (o : Option Record) → is_all (option_map (λ (r : Record). r.place) o)
-    ≡ has_components (option_map_or (λ (r : Record). whereabouts_of r.place) o Absent)
+all_place : (o : Option Record) → is_all (option_map (λ (r : Record). r.placement) o)
+    ≡ has_components (option_map_or (λ (r : Record). whereabouts_of r.placement) o Absent)
 all_place None = refl
-all_place (Some r) = by r.place
+all_place (Some r) = by r.placement
   where
     by : (p : Placement) → is_all (Some p) ≡ has_components (whereabouts_of p)
     by (On n false) = refl
@@ -130,9 +131,6 @@ may_stand n (Everywhere first skew) same = refl
 le_then : (a b c : ℕ) → a ≤ b → b ≤ c → a ≤ c
 le_then a b c l m = omega (arith, l, m)
 
-lt_true : (a b : ℕ) → a < b → nat_lt a b ≡ true
-lt_true a b h = grind (arith, nat_tests, h)
-
 module _ {C R : Type 0} (firing : Raise R) (names given : ℕ) (told : Known) (p : Progress R C)
     (h : Fits firing names given told p) (none : NoneLeaves p.names) (sound : IsSound firing.view p.side.system) where
   abbrev s : SystemView R
@@ -140,17 +138,17 @@ module _ {C R : Type 0} (firing : Raise R) (names given : ℕ) (told : Known) (p
 
   -- the name of a cyclic that is on a CPU, and its record
   pub named_on : (n id : ℕ) → has n id s.cpus ≡ true → (a : ℕ) × (named_at p.names a ≡ Cyclic id)
-      × (k : ℕ) × (r : Record) × IsRecord s.records k r × (r.id ≡ id) × Stands n r.place
+      × (k : ℕ) × (r : Record) × IsRecord s.records k r × (r.id ≡ id) × Stands n r.placement
   named_on n id here = let (k, r, is, named, there, on) = sound.agrees.known n id here in
       let (a, has_id) = h.known id (here_at s.records k r id h.rising is named) in
       (a, cyclic_of (named_at p.names a) id has_id (none a), k, r, is, named, there)
 
   counted_on : {A : Type 0} (test : A → Bool) (d : A) (xs : List A) → length xs ≡ names → (n : ℕ) (x : CpuView R)
       → IsCpu n x s.cpus → ((a id k : ℕ) (r : Record) → named_at p.names a ≡ Cyclic id → IsRecord s.records k r → r.id ≡ id
-      → Stands n r.place → test (get_or xs a d) ≡ true)
+      → Stands n r.placement → test (get_or xs a d) ≡ true)
       → length x.cyclics ≤ length (filter test xs)
   counted_on test d xs long n x at passes =
-      let few = pigeons_of test d xs (ids_of x) (λ a. id_of (named_at p.names a)) apart stand in
+      let few = pigeons_of test d xs (ids_of x) (λ a. cyclic_id (named_at p.names a)) apart stand in
       let e = length-map x.cyclics (λ c. c.timer.id) in omega (arith, few, e)
     where
       apart : HasNoDoubles (ids_of x)
@@ -166,10 +164,10 @@ module _ {C R : Type 0} (firing : Raise R) (names given : ℕ) (told : Known) (p
           ∙ any_at (λ own. own == get_or (ids_of x) i 0) (ids_of x) i 0 low (true_eq _ _ refl)
 
       stand : (i : ℕ) → i < length (ids_of x) → (a : ℕ) × (a < length xs) × (test (get_or xs a d) ≡ true)
-          × (id_of (named_at p.names a) ≡ Some (get_or (ids_of x) i 0))
+          × (cyclic_id (named_at p.names a) ≡ Some (get_or (ids_of x) i 0))
       stand i low = let id = get_or (ids_of x) i 0 in let (a, is, k, r, at_record, named, there) = named_on n id (here i low) in
-          let under = name_low p.names a id (ap id_of is) in let l = h.long in
-          (a, omega (arith, under, l, long), passes a id k r is at_record named there, ap id_of is)
+          let under = name_low p.names a id (ap cyclic_id is) in let l = h.long in
+          (a, omega (arith, under, l, long), passes a id k r is at_record named there, ap cyclic_id is)
 
   -- the CPU may be full
   pub full_told : (n : ℕ) (x : CpuView R) → IsCpu n x s.cpus → most_cyclics ≤ length x.cyclics → may_be_full n told ≡ true
@@ -177,9 +175,9 @@ module _ {C R : Type 0} (firing : Raise R) (names given : ℕ) (told : Known) (p
       (how_many (may_be_on n) told) full (counted_on (may_be_on n) Absent told.names h.told_long n x at passes))
     where
       passes : (a id k : ℕ) (r : Record) → named_at p.names a ≡ Cyclic id → IsRecord s.records k r → r.id ≡ id
-          → Stands n r.place → may_be_on n (get_or told.names a Absent) ≡ true
+          → Stands n r.placement → may_be_on n (get_or told.names a Absent) ≡ true
       passes a id k r is at_record named there = ap (may_be_on n) (h.each a ∙ ap (λ (z : Named). given_of z s) is
-          ∙ stands_at s.records k r id h.rising at_record named) ∙ may_stand n r.place there
+          ∙ stands_at s.records k r id h.rising at_record named) ∙ may_stand n r.placement there
 
   -- ---- all CPUs
 
@@ -190,15 +188,15 @@ module _ {C R : Type 0} (firing : Raise R) (names given : ℕ) (told : Known) (p
   places_long = length-map p.names (λ named. place_of named s) ∙ h.long
 
   pub place_at : (a id k : ℕ) (r : Record) → named_at p.names a ≡ Cyclic id → IsRecord s.records k r → r.id ≡ id
-      → get_or places a None ≡ Some r.place
+      → get_or places a None ≡ Some r.placement
   place_at a id k r is at_record named =
-      get_or-map (λ named. place_of named s) p.names a Nothing None (name_low p.names a id (ap id_of is))
+      get_or-map (λ named. place_of named s) p.names a Nothing None (name_low p.names a id (ap cyclic_id is))
       ∙ ap (λ (z : Named). place_of z s) is
-      ∙ ap (λ o. option_map (λ (q : Record). q.place) o) (record_here id k r s.records h.rising at_record named)
+      ∙ ap (λ o. option_map (λ (q : Record). q.placement) o) (record_here id k r s.records h.rising at_record named)
 
   on_count : (n : ℕ) (x : CpuView R) → IsCpu n x s.cpus → length x.cyclics ≤ length (filter (is_on n) places)
   on_count n x at = counted_on (is_on n) None places places_long n x at
-      (λ a id k r is at_record named there. ap (is_on n) (place_at a id k r is at_record named) ∙ on_stands n r.place there)
+      (λ a id k r is at_record named there. ap (is_on n) (place_at a id k r is at_record named) ∙ on_stands n r.placement there)
 
   singles : length (filter is_one places) ≡ how_many is_single told
   singles = count_same is_one is_single None Absent places told.names (places_long ∙ sym h.told_long)
@@ -239,7 +237,7 @@ module _ {C R : Type 0} (firing : Raise R) (names given : ℕ) (told : Known) (p
 
   -- so they have no room for all, where one is on none of them
   pub all_too_many : (ns : List ℕ) (a id k n : ℕ) (bound : Bool) (r : Record) → HasNoDoubles ns → AreFull ns
-      → named_at p.names a ≡ Cyclic id → IsRecord s.records k r → r.id ≡ id → r.place ≡ On n bound
+      → named_at p.names a ≡ Cyclic id → IsRecord s.records k r → r.id ≡ id → r.placement ≡ On n bound
       → ((i : ℕ) → i < length ns → get_or ns i 0 ≢ n)
       → are_too_many (how_many is_single told) (length ns) told ≡ true
   all_too_many ns a id k n bound r apart full is at_record named place beside = lt_true (length ns * most_cyclics)
@@ -248,7 +246,7 @@ module _ {C R : Type 0} (firing : Raise R) (names given : ℕ) (told : Known) (p
       (less_but_one (length ns * most_cyclics) (sum_by (λ n. length (filter (is_on n) places)) ns)
       (length (filter is_one places)) (length ns * length (filter is_all places)) (how_many is_single told) (sum_low ns full)
       (sum_on_but_one is_on is_one is_all one_place no_place ns apart None places a
-      (let under = name_low p.names a id (ap id_of is) in let b = h.long in let c = places_long in omega (arith, under, b, c))
+      (let under = name_low p.names a id (ap cyclic_id is) in let b = h.long in let c = places_long in omega (arith, under, b, c))
       (ap is_one here) (λ i low. ap (is_on (get_or ns i 0)) here ∙ false_ne n (get_or ns i 0) (λ e. beside i low (sym e))))
       singles))
     where

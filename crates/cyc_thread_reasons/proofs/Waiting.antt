@@ -13,8 +13,8 @@ use Rattle.cyc_thread_calls.specs.Calls.{PollRemove}
 use Rattle.cyc_thread_calls.specs.Named.{Named}
 use Rattle.cyc_thread_calls.specs.Named.TheVariants.{Leaving, Removed}
 use Rattle.cyc_thread_calls.specs.Progress.{Progress}
-use Rattle.cyc_thread_calls.specs.StepCalls.{CallsFor, Poll, Polls, Settles, Waits}
-use Rattle.cyc_thread_calls.specs.Names.{named_at, id_of}
+use Rattle.cyc_thread_calls.specs.StepCalls.{CallsFor, Poll, Polls, SettlesAll, Waits}
+use Rattle.cyc_thread_calls.specs.Names.{named_at, cyclic_id}
 use Rattle.cyc_thread_calls.specs.Words.{Begins, waits_first}
 use Rattle.cyc_thread_calls.proofs.Keeping.{polled_given}
 use Rattle.cyc_thread_calls.proofs.Waiting.{IsCalmNow, HasWaited, waited_calm}
@@ -41,7 +41,7 @@ module _ {C R : Type 0} (firing : Raise R) (names given : ℕ) (told : Known) wh
       (base_call firing names given told name (PollRemove id (Ok (Some receipt))) s t c h) h (omega arith)
       (sets_own firing names given told told s t name id (Removed receipt) Absent h
       (absent_told told name (h.each name ∙ ap (λ (n : Named). given_of n s.side.system) at)) (g.online ∙ h.online)
-      (ap id_of at) c.told g.last refl (λ own e. absurd (none_some (ap id_of e))) (λ own e. absurd (none_some e))
+      (ap cyclic_id at) c.told g.last refl (λ own e. absurd (none_some (ap cyclic_id e))) (λ own e. absurd (none_some e))
       (λ own ne. stands_kept firing s.side.system t.side.system (PollRemove id (Ok (Some receipt))) own tt h.rising c.did ne)
       (λ e. absurd (not_here (stands id t.side.system) gone e)))
   poll_fits s name id (Ok None) t at c h =
@@ -60,7 +60,7 @@ module _ {C R : Type 0} (firing : Raise R) (names given : ℕ) (told : Known) wh
   polls_fit [] s t e h = subst (λ (p : Progress R C). Fits firing names given told p) e h
   polls_fit (p ∷ polls) s t (u, (at, c), rest) h = polls_fit polls u t rest (poll_fits s p.name p.id p.answer u at c h)
 
-  settles_fit : (s t : Progress R C) → Settles firing s t → Fits firing names given told s → Fits firing names given told t
+  settles_fit : (s t : Progress R C) → SettlesAll firing s t → Fits firing names given told s → Fits firing names given told t
   settles_fit s t q h = fits_same firing names given told told s t (record {
     rising = q.sound.fit.rising;
     early = subst (λ (k : ℕ). k < never) (sym q.clock) h.early;

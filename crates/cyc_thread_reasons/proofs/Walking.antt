@@ -10,6 +10,7 @@ use Rattle.std.proofs.lemmas.Bool.Decides.{nat_tests}
 use Rattle.cyc_types.specs.declared.Calls.{Ghosts as Calls}
 use Rattle.cyc_types.specs.declared.Raise.{Ghosts as Raise}
 use Rattle.cyc_types.specs.Series.{never}
+use Rattle.cyc_types.proofs.Facts.{lt_so}
 use Rattle.cyc_script.specs.declared.step.Step.{Step}
 use Rattle.cyc_script.specs.declared.step.Step.TheVariants as steps
 use Rattle.cyc_script.specs.WellFormed.{name_fits, names_after, names_fit, names_after_all, moment_fits, moment_after}
@@ -17,9 +18,9 @@ use Rattle.cyc_script.specs.WellFormed.{moments_fit}
 use Rattle.cyc_thread_calls.proofs.Lists.{eq_true}
 use Rattle.cyc_thread_calls.specs.Progress.{Progress}
 use Rattle.cyc_thread_calls.specs.Names.{named_at}
-use Rattle.cyc_thread_calls.specs.Words.{Does, waits_first}
+use Rattle.cyc_thread_calls.specs.Words.{DoesStep, waits_first}
 use Rattle.cyc_thread_calls.specs.Steps.{TakesSteps, Runs}
-use Rattle.cyc_thread_calls.specs.Meeting.{accepted}
+use Rattle.cyc_thread_calls.specs.Meeting.{was_accepted}
 use Rattle.cyc_thread_calls.specs.Way.{is_moment}
 use Rattle.cyc_thread_calls.proofs.Waiting.{HasWaited, IsCalmNow}
 use Rattle.cyc_thread_calls.proofs.Stepping.{no_moment_of}
@@ -35,9 +36,6 @@ use Rattle.cyc_thread_reasons.proofs.Naming.{bind_of, unbind_of, idle}
 use Rattle.cyc_thread_reasons.proofs.Resetting.{reset_of}
 use Rattle.cyc_thread_reasons.proofs.Ending.{remove_of, advance_fits, advance_calm}
 use Rattle.cyc_thread_reasons.proofs.Numbering.{juggle_of, offline_of, online_of}
-
-lt_so : (a b : ℕ) → nat_lt a b ≡ true → a < b
-lt_so a b e = grind (arith, nat_tests, e)
 
 one_name : (k : ℕ) (x : Step) → names_after k x ≤ k + 1
 one_name k (steps.Add a) = omega arith
@@ -61,7 +59,7 @@ few_names k (x ∷ xs) = let a = one_name k x in let b = few_names (names_after 
 
 module _ {C R : Type 0} (handler : Calls C) (firing : Raise R) (names : ℕ) (few : names ≤ 65536) where
   -- each word
-  next : (given m : ℕ) (told : Known) (x : Step) (s t : Progress R C) (d : Does handler firing x s t)
+  next : (given m : ℕ) (told : Known) (x : Step) (s t : Progress R C) (d : DoesStep handler firing x s t)
       → Fits firing names given told s → Calm firing told s → is_suspended s.side.system ≡ told.suspended
       → (waits_first x ≡ true → HasWaited firing s)
       → name_fits given x ≡ true → names_after given x ≤ names → moment_fits m x ≡ true
@@ -147,14 +145,14 @@ module _ {C R : Type 0} (handler : Calls C) (firing : Raise R) (names : ℕ) (fe
   plain_mark told steps.Suspend true plain = absurd plain
   plain_mark told steps.Resume true plain = absurd plain
 
-  quiet_mark : (told : Known) (x : Step) (s t : Progress R C) (d : Does handler firing x s t) → LeavesSuspended x
-      → is_suspended s.side.system ≡ told.suspended → Mark told x (accepted handler firing x s t d) t
+  quiet_mark : (told : Known) (x : Step) (s t : Progress R C) (d : DoesStep handler firing x s t) → LeavesSuspended x
+      → is_suspended s.side.system ≡ told.suspended → Mark told x (was_accepted handler firing x s t d) t
   quiet_mark told x s t d plain marks = does_same handler firing x s t plain d ∙ marks
-      ∙ sym (plain_mark told x (accepted handler firing x s t d) plain)
+      ∙ sym (plain_mark told x (was_accepted handler firing x s t d) plain)
 
-  mark_after : (given : ℕ) (told : Known) (x : Step) (s t : Progress R C) (d : Does handler firing x s t)
+  mark_after : (given : ℕ) (told : Known) (x : Step) (s t : Progress R C) (d : DoesStep handler firing x s t)
       → Fits firing names given told s → is_suspended s.side.system ≡ told.suspended
-      → (waits_first x ≡ true → HasWaited firing s) → Mark told x (accepted handler firing x s t d) t
+      → (waits_first x ≡ true → HasWaited firing s) → Mark told x (was_accepted handler firing x s t d) t
   mark_after given told (steps.Advance now) s t (inl (asleep, e)) h marks waited =
       ap (λ (p : Progress R C). is_suspended p.side.system) e ∙ marks
   mark_after given told (steps.Advance now) s t (inr f) h marks waited =
@@ -195,7 +193,7 @@ module _ {C R : Type 0} (handler : Calls C) (firing : Raise R) (names : ℕ) (fe
       let n = next given m (before_step x told) x u v does b.fits b.calm now b.waited here (omega (arith, more, all)) early in (
         n.why,
         explain (names_after given x) (moment_after m x)
-            (known_after (record { step = x; accepted = accepted handler firing x u v does }) told) xs v t rest (record {
+            (known_after (record { step = x; accepted = was_accepted handler firing x u v does }) told) xs v t rest (record {
               fits = n.fits;
               calm = n.calm;
               marks = mark_after given (before_step x told) x u v does b.fits now b.waited;

@@ -19,12 +19,12 @@ use Rattle.cyc_cpu.specs.declared.removing.Removal.TheVariants.{Done, Kept}
 use Rattle.cyc_places.specs.declared.record.Placement.{Placement}
 use Rattle.cyc_places.specs.declared.record.Placement.TheVariants.{On, Everywhere}
 use Rattle.cyc_places.specs.declared.record.Record.{Record}
-use Rattle.cyc_places.specs.Places.{IsRecord, HasRisingIds, new_record, with_place, with_ended}
+use Rattle.cyc_places.specs.Places.{IsRecord, HasRisingIds, new_record, with_placement, with_ended}
 use Rattle.cyc_places.specs.Places.{is_everywhere as is_placed_everywhere}
 use Rattle.cyc_agreement.specs.Cpus.{CpusView}
-use Rattle.cyc_agreement.specs.Binding.{Records, HasPlace, Binds}
+use Rattle.cyc_agreement.specs.Binding.{Records, HasPlacement, Binds}
 use Rattle.cyc_agreement.specs.RemovalLaws.{IsUntouched}
-use Rattle.cyc_agreement.specs.GoingOffline.{Retires, Leaves}
+use Rattle.cyc_agreement.specs.GoingOffline.{Retires, EndsOffline}
 use Rattle.cyc_agreement.specs.Online.{GoesOnline, is_staying, after_return}
 use Rattle.cyc_agreement.specs.System.{ids_on}
 use Rattle.cyc_agreement.proofs.CpuSpots.{get_set_same}
@@ -48,6 +48,7 @@ use Rattle.cyc_thread_calls.specs.Calls.{SystemCall, Changes, Add, AddOmni, Bind
 use Rattle.cyc_thread_calls.specs.Calls.{ReprogramOn, Juggle, Offline, Online}
 use Rattle.cyc_thread_reasons.specs.Known.{Whereabouts, Absent, OnOne, OnAll}
 use Rattle.cyc_thread_reasons.specs.Reasons.{is_there, has_components}
+use Rattle.cyc_system_laws.proofs.Looked.{find_more, look_map, look_set}
 
 abbrev pub whereabouts_of : Placement → Whereabouts
 whereabouts_of (On n false) = OnOne None
@@ -55,7 +56,7 @@ whereabouts_of (On n true) = OnOne (Some n)
 whereabouts_of (Everywhere first skew) = OnAll
 
 abbrev pub stands_in : ℕ → List Record → Whereabouts
-stands_in id rs = option_map_or (λ (r : Record). whereabouts_of r.place) (found id rs) Absent
+stands_in id rs = option_map_or (λ (r : Record). whereabouts_of r.placement) (found id rs) Absent
 
 -- what the record of an id says
 abbrev pub stands : {R : Type 0} → ℕ → SystemView R → Whereabouts
@@ -80,26 +81,27 @@ everywhere_place (Everywhere first skew) = refl
 pub unknown_stands : {R : Type 0} (id : ℕ) (s : SystemView R) → is_unknown id s ≡ not (is_there (stands id s))
 unknown_stands id s = by (record_of id s)
   where
-    by : (o : Option Record) → not (is_some o) ≡ not (is_there (option_map_or (λ (r : Record). whereabouts_of r.place) o Absent))
+    by : (o : Option Record) → not (is_some o) ≡ not (is_there (option_map_or (λ (r : Record). whereabouts_of r.placement) o
+        Absent))
     by None = refl
-    by (Some r) = sym (ap not (here_place r.place))
+    by (Some r) = sym (ap not (here_place r.placement))
 
 pub omni_stands : {R : Type 0} (id : ℕ) (s : SystemView R) → is_omnipresent id s ≡ has_components (stands id s)
 omni_stands id s = by (record_of id s)
   where
-    by : (o : Option Record) → option_map_or (λ (r : Record). is_placed_everywhere r.place) o false
-        ≡ has_components (option_map_or (λ (r : Record). whereabouts_of r.place) o Absent)
+    by : (o : Option Record) → option_map_or (λ (r : Record). is_placed_everywhere r.placement) o false
+        ≡ has_components (option_map_or (λ (r : Record). whereabouts_of r.placement) o Absent)
     by None = refl
-    by (Some r) = everywhere_place r.place
+    by (Some r) = everywhere_place r.placement
 
 pub stands_at : (rs : List Record) (k : ℕ) (r : Record) (id : ℕ) → HasRisingIds rs → IsRecord rs k r → r.id ≡ id
-    → stands_in id rs ≡ whereabouts_of r.place
+    → stands_in id rs ≡ whereabouts_of r.placement
 stands_at rs k r id rising is named =
-    ap (λ o. option_map_or (λ (q : Record). whereabouts_of q.place) o Absent) (record_here id k r rs rising is named)
+    ap (λ o. option_map_or (λ (q : Record). whereabouts_of q.placement) o Absent) (record_here id k r rs rising is named)
 
 pub here_at : (rs : List Record) (k : ℕ) (r : Record) (id : ℕ) → HasRisingIds rs → IsRecord rs k r → r.id ≡ id
     → is_there (stands_in id rs) ≡ true
-here_at rs k r id rising is named = ap is_there (stands_at rs k r id rising is named) ∙ here_place r.place
+here_at rs k r id rising is named = ap is_there (stands_at rs k r id rising is named) ∙ here_place r.placement
 
 -- an answer is no refusal
 pub ok_err : {A : Type 0} {a : A} {x : Refusal} → ◌≡◌ {A = Result A Refusal} (Ok a) (Err x) → ⊥
@@ -117,28 +119,11 @@ record_there [] id here = absurd (let odd : false ≡ true = here in cc)
 record_there (x ∷ rs) id here = by (x.id == id) refl here (record_there rs id)
   where
     by : (b : Bool) → (x.id == id) ≡ b
-        → is_there (option_map_or (λ (r : Record). whereabouts_of r.place) (cond b (Some x) (found id rs)) Absent) ≡ true
+        → is_there (option_map_or (λ (r : Record). whereabouts_of r.placement) (cond b (Some x) (found id rs)) Absent) ≡ true
         → (is_there (stands_in id rs) ≡ true → (k : ℕ) × (r : Record) × IsRecord rs k r × (r.id ≡ id))
         → (k : ℕ) × (r : Record) × IsRecord (x ∷ rs) k r × (r.id ≡ id)
     by true is h rest = (0, x, refl, eq_true x.id id is)
     by false is h rest = let (k, r, at, named) = rest h in (suc k, r, at, named)
-
-look_set : {A B : Type 0} (p : A → Bool) (h : A → B) (d : B) (xs : List A) (k : ℕ) (x y : A) → slice_get xs k ≡ Some x
-    → p y ≡ p x → h y ≡ h x
-    → option_map_or h (find p (slice_set xs k y)) d ≡ option_map_or h (find p xs) d
-look_set p h d [] k x y is a b = refl
-look_set p h d (z ∷ xs) zero x y is a b = ap (λ t. option_map_or h (cond t (Some y) (find p xs)) d)
-    (a ∙ ap p (sym (same_some is))) ∙ by (p z)
-  where
-    by : (t : Bool) → option_map_or h (cond t (Some y) (find p xs)) d ≡ option_map_or h (cond t (Some z) (find p xs)) d
-    by true = b ∙ ap h (sym (same_some is))
-    by false = refl
-look_set p h d (z ∷ xs) (suc k) x y is a b = by (p z) (look_set p h d xs k x y is a b)
-  where
-    by : (t : Bool) → option_map_or h (find p (slice_set xs k y)) d ≡ option_map_or h (find p xs) d
-        → option_map_or h (cond t (Some z) (find p (slice_set xs k y))) d ≡ option_map_or h (cond t (Some z) (find p xs)) d
-    by true rest = refl
-    by false rest = rest
 
 find_beside : {A : Type 0} (p : A → Bool) (xs : List A) (k : ℕ) (x y : A) → slice_get xs k ≡ Some x → p x ≡ false
     → p y ≡ false → find p (slice_set xs k y) ≡ find p xs
@@ -147,43 +132,28 @@ find_beside p (z ∷ xs) zero x y is a b = ap (λ t. cond t (Some y) (find p xs)
     ∙ sym (ap (λ t. cond t (Some z) (find p xs)) (ap p (same_some is) ∙ a))
 find_beside p (z ∷ xs) (suc k) x y is a b = ap (λ o. cond (p z) (Some z) o) (find_beside p xs k x y is a b)
 
-look_map : {A B : Type 0} (p : A → Bool) (h : A → B) (d : B) (f : A → A) → ((x : A) → p (f x) ≡ p x)
-    → ((x : A) → h (f x) ≡ h x) → (xs : List A)
-    → option_map_or h (find p (map f xs)) d ≡ option_map_or h (find p xs) d
-look_map p h d f a b [] = refl
-look_map p h d f a b (x ∷ xs) = ap (λ t. option_map_or h (cond t (Some (f x)) (find p (map f xs))) d) (a x)
-    ∙ by (p x) (look_map p h d f a b xs)
-  where
-    by : (t : Bool) → option_map_or h (find p (map f xs)) d ≡ option_map_or h (find p xs) d
-        → option_map_or h (cond t (Some (f x)) (find p (map f xs))) d ≡ option_map_or h (cond t (Some x) (find p xs)) d
-    by true rest = b x
-    by false rest = rest
-
-find_more : {A : Type 0} (p : A → Bool) (xs : List A) (x : A) → p x ≡ false → find p (xs ++ x ∷ []) ≡ find p xs
-find_more p [] x fails = ap (λ t. cond t (Some x) None) fails
-find_more p (z ∷ xs) x fails = ap (λ o. cond (p z) (Some z) o) (find_more p xs x fails)
-
 module _ (id : ℕ) where
   -- a record that has the same whereabouts
   set_same : (rs : List Record) (k : ℕ) (r x : Record) → IsRecord rs k r → x.id ≡ r.id
-      → whereabouts_of x.place ≡ whereabouts_of r.place → stands_in id (slice_set rs k x) ≡ stands_in id rs
-  set_same rs k r x is same place = look_set (λ (q : Record). q.id == id) (λ (q : Record). whereabouts_of q.place) Absent rs k r x
+      → whereabouts_of x.placement ≡ whereabouts_of r.placement → stands_in id (slice_set rs k x) ≡ stands_in id rs
+  set_same rs k r x is same place = look_set (λ (q : Record). q.id == id) (λ (q : Record). whereabouts_of q.placement) Absent
+      rs k r x
       is (ap (λ (i : ℕ). i == id) same) place
 
   -- a record of another id
   set_other : (rs : List Record) (k : ℕ) (r x : Record) → IsRecord rs k r → x.id ≡ r.id → r.id ≢ id
       → stands_in id (slice_set rs k x) ≡ stands_in id rs
-  set_other rs k r x is same ne = ap (λ o. option_map_or (λ (q : Record). whereabouts_of q.place) o Absent)
+  set_other rs k r x is same ne = ap (λ o. option_map_or (λ (q : Record). whereabouts_of q.placement) o Absent)
       (find_beside (λ (q : Record). q.id == id) rs k r x is (false_ne r.id id ne) (false_ne x.id id (λ e. ne (sym same ∙ e))))
 
   set_here : (rs : List Record) (k : ℕ) (r x : Record) → HasRisingIds rs → IsRecord rs k r → x.id ≡ r.id → r.id ≡ id
-      → stands_in id (slice_set rs k x) ≡ whereabouts_of x.place
+      → stands_in id (slice_set rs k x) ≡ whereabouts_of x.placement
   set_here rs k r x rising is same named = stands_at (slice_set rs k x) k x id (rising_set rs k r x rising is same)
       (get_set_same rs k x (slice_get_within rs k r is)) (same ∙ named)
 
   push_other : (rs : List Record) (own : ℕ) (level : Level) (place : Placement) → own ≢ id
       → stands_in id (rs ++ new_record own level place ∷ []) ≡ stands_in id rs
-  push_other rs own level place ne = ap (λ o. option_map_or (λ (q : Record). whereabouts_of q.place) o Absent)
+  push_other rs own level place ne = ap (λ o. option_map_or (λ (q : Record). whereabouts_of q.placement) o Absent)
       (find_more (λ (q : Record). q.id == id) rs (new_record own level place) (false_ne own id ne))
 
 pub new_stands : {R : Type 0} (id : ℕ) (level : Level) (place : Placement) (before : List Record) (t : SystemView R)
@@ -215,10 +185,10 @@ module _ {R : Type 0} (firing : Raise R) where
 
   -- where this one is
   place_here : (s : SystemView R) (own n k : ℕ) (bound : Bool) (r : Record) → HasRisingIds s.records
-      → HasPlace own n bound s → IsRecord s.records k r → r.id ≡ own → r.place ≡ On n bound
+      → HasPlacement own n bound s → IsRecord s.records k r → r.id ≡ own → r.placement ≡ On n bound
   place_here s own n k bound r rising (j, q, is, named, place) here same =
       let at = one_record s.records k j r q rising here is (named ∙ sym same) in
-      ap (λ (x : Record). x.place) (same_some (sym here ∙ ap (λ i. slice_get s.records i) (sym at) ∙ is)) ∙ place
+      ap (λ (x : Record). x.placement) (same_some (sym here ∙ ap (λ i. slice_get s.records i) (sym at) ∙ is)) ∙ place
 
   pub turn_stands : (n own : ℕ) (turn : Turn) (s t : SystemView R) → HasRisingIds s.records → TakesTurn firing n own turn s t
       → SameStands s t × HasRisingIds t.records
@@ -229,9 +199,9 @@ module _ {R : Type 0} (firing : Raise R) where
   turn_stands n own StaysRefused s t rising (place, d, chosen, e, only) =
       (stands_same s t only.1, subst HasRisingIds (sym only.1) rising)
   turn_stands n own Moves s t rising (place, d, chosen, moves, (k, r, here, named, records, last)) = (
-    λ id. ap (stands_in id) records ∙ set_same id s.records k r (with_place (On d false) r) here refl
+    λ id. ap (stands_in id) records ∙ set_same id s.records k r (with_placement (On d false) r) here refl
         (sym (ap whereabouts_of (place_here s own n k false r rising place here named))),
-    subst HasRisingIds (sym records) (rising_set s.records k r (with_place (On d false) r) rising here refl),
+    subst HasRisingIds (sym records) (rising_set s.records k r (with_placement (On d false) r) rising here refl),
   )
 
   pub turns_stand : (n : ℕ) (ids : List ℕ) (report : JuggleReport) (s t : SystemView R) → HasRisingIds s.records
@@ -253,7 +223,7 @@ module _ {R : Type 0} (firing : Raise R) where
       stands_then s u t (ended_stand s u k n r _ here records) (retires_stand n ids u t rest)
 
   pub leaves_stand : (n : ℕ) (report : JuggleReport) (answer : Result (Unit {0}) Refusal) (s t : SystemView R)
-      → Leaves firing n report answer s t → SameStands s t
+      → EndsOffline firing n report answer s t → SameStands s t
   leaves_stand n report answer s t (inl (left, is, same)) id = stands_as s t same id
   leaves_stand n report answer s t (inr (inl (nothing, is, (before, own, after, number, some, only)))) id =
       stands_same s t only.1 id
@@ -262,18 +232,18 @@ module _ {R : Type 0} (firing : Raise R) where
       ∙ (retires_stand n (ids_on n s.cpus) u empty each id ∙ stands_same s u only.1 id)
 
   return_stand : (n : ℕ) (v : CpusView R) (r : Record) → ((after_return n v r).id ≡ r.id)
-      × (whereabouts_of (after_return n v r).place ≡ whereabouts_of r.place)
+      × (whereabouts_of (after_return n v r).placement ≡ whereabouts_of r.placement)
   return_stand n v r = by (is_staying v r)
     where
       by : (b : Bool) → ((cond b (with_ended n no_counts r) r).id ≡ r.id)
-          × (whereabouts_of (cond b (with_ended n no_counts r) r).place ≡ whereabouts_of r.place)
+          × (whereabouts_of (cond b (with_ended n no_counts r) r).placement ≡ whereabouts_of r.placement)
       by true = (refl, refl)
       by false = (refl, refl)
 
   online_stand : (n now : ℕ) (answer : Result (Unit {0}) Refusal) (s t : SystemView R) → GoesOnline firing n now answer s t
       → SameStands s t
   online_stand n now (Ok done) s t (works, records, last) id = ap (stands_in id) records
-      ∙ look_map (λ (x : Record). x.id == id) (λ (x : Record). whereabouts_of x.place) Absent (after_return n s.cpus)
+      ∙ look_map (λ (x : Record). x.id == id) (λ (x : Record). whereabouts_of x.placement) Absent (after_return n s.cpus)
       (λ r. ap (λ (j : ℕ). j == id) (return_stand n s.cpus r).0) (λ r. (return_stand n s.cpus r).1) s.records
   online_stand n now (Err e) s t (why, (works, records, last)) id = stands_same s t records id
 
@@ -287,7 +257,7 @@ module _ {R : Type 0} (firing : Raise R) where
   polls_on_stand own n None s t (does, records, last) = stands_same s t records
 
   untouched_stands : (id : ℕ) (s t : SystemView R) → IsUntouched id s t → stands id t ≡ stands id s
-  untouched_stands id s t u = ap (λ o. option_map_or (λ (r : Record). whereabouts_of r.place) o Absent) u.own
+  untouched_stands id s t u = ap (λ o. option_map_or (λ (r : Record). whereabouts_of r.placement) o Absent) u.own
 
   begins_stand : (own : ℕ) (answer : Result SystemRemoval Refusal) (s t : SystemView R) (id : ℕ)
       → (Touches id (BeginRemove own answer) → ⊥) → BeginsRemoval firing own answer s t → stands id t ≡ stands id s
@@ -329,12 +299,12 @@ module _ {R : Type 0} (firing : Raise R) where
   records_other : (own : ℕ) (place : Placement) (s t : SystemView R) (id : ℕ) → own ≢ id → Records own place s t
       → stands id t ≡ stands id s
   records_other own place s t id ne (k, r, here, named, records, last) = ap (stands_in id) records
-      ∙ set_other id s.records k r (with_place place r) here refl (λ e. ne (sym named ∙ e))
+      ∙ set_other id s.records k r (with_placement place r) here refl (λ e. ne (sym named ∙ e))
 
   records_here : (own : ℕ) (place : Placement) (s t : SystemView R) → HasRisingIds s.records → Records own place s t
       → stands own t ≡ whereabouts_of place
   records_here own place s t rising (k, r, here, named, records, last) = ap (stands_in own) records
-      ∙ set_here own s.records k r (with_place place r) rising here refl named
+      ∙ set_here own s.records k r (with_placement place r) rising here refl named
 
   binds_stand : (own n : ℕ) (answer : Result (Unit {0}) Refusal) (s t : SystemView R) (id : ℕ)
       → (Touches id (Bind own (Some n) answer) → ⊥) → Binds firing own n answer s t → stands id t ≡ stands id s
@@ -412,10 +382,10 @@ module _ {R : Type 0} (firing : Raise R) where
 
   pub removed_stands : (s t : SystemView R) (own : ℕ) (receipt : Receipt) → HasRisingIds s.records
       → Changes firing s (BeginRemove own (Ok (over.Done receipt))) t → stands own t ≡ Absent
-  removed_stands s t own receipt rising d = ap (λ o. option_map_or (λ (r : Record). whereabouts_of r.place) o Absent)
+  removed_stands s t own receipt rising d = ap (λ o. option_map_or (λ (r : Record). whereabouts_of r.placement) o Absent)
       (begins_forgotten firing own receipt s t rising d).unknown
 
   pub polled_stands : (s t : SystemView R) (own : ℕ) (receipt : Receipt) → HasRisingIds s.records
       → Changes firing s (PollRemove own (Ok (Some receipt))) t → stands own t ≡ Absent
-  polled_stands s t own receipt rising d = ap (λ o. option_map_or (λ (r : Record). whereabouts_of r.place) o Absent)
+  polled_stands s t own receipt rising d = ap (λ o. option_map_or (λ (r : Record). whereabouts_of r.placement) o Absent)
       (polls_forgotten firing own receipt s t rising d).unknown

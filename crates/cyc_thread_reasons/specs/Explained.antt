@@ -16,10 +16,10 @@ use Rattle.cyc_thread_calls.specs.Juggling.{MovesAway, single_ids}
 use Rattle.cyc_thread_calls.specs.Calls.{SystemCall, Add, AddOmni, Bind, Online}
 use Rattle.cyc_thread_calls.specs.SystemRingsLeading.{LeadCall, Make}
 use Rattle.cyc_thread_calls.specs.Progress.{Progress}
-use Rattle.cyc_thread_calls.specs.Words.{Does}
+use Rattle.cyc_thread_calls.specs.Words.{DoesStep}
 use Rattle.cyc_thread_calls.specs.Steps.{TakesSteps, Runs}
 use Rattle.cyc_thread_calls.specs.Leading.{call_of}
-use Rattle.cyc_thread_calls.specs.Meeting.{accepted}
+use Rattle.cyc_thread_calls.specs.Meeting.{was_accepted}
 use Rattle.cyc_thread_reasons.specs.Known.{Known, before_step, known_after}
 use Rattle.cyc_thread_reasons.specs.Reasons.{has_reason}
 
@@ -43,8 +43,9 @@ IsTurnPutOff {R} s turn = (turn.why ≡ Memory) ⊎ ((turn.why ≡ Expanding)
 
 -- the cyclics of this CPU had their turns, with which it came from one system to the other, and one of them was put off
 abbrev pub IsLeft : {R : Type 0} → Raise R → ℕ → SystemView R → SystemView R → Type 0
-IsLeft {R} firing n s t = (report : JuggleReport) × (moves : MovesAway firing n report s t) × (place : ℕ) × (turn : RefusedTurn R)
-    × (slice_get (refused_turns firing n (single_ids n s) report s t moves) place ≡ Some turn) × IsTurnPutOff s turn
+IsLeft {R} firing n s t = (report : JuggleReport) × (moves : MovesAway firing n report s t) × (position : ℕ)
+    × (turn : RefusedTurn R)
+    × (slice_get (refused_turns firing n (single_ids n s) report s t moves) position ≡ Some turn) × IsTurnPutOff s turn
 
 module _ {C R : Type 0} (handler : Calls C) (firing : Raise R) where
   -- a cyclic was left on the CPU that was to go offline
@@ -53,7 +54,7 @@ module _ {C R : Type 0} (handler : Calls C) (firing : Raise R) where
   IsLeftBy x s t = ⊥
 
   -- why a step was refused, of which the accepted steps before it told so much
-  abbrev pub WhyNot : Known → (x : Step) (s t : Progress R C) → Does handler firing x s t → Type 0
+  abbrev pub WhyNot : Known → (x : Step) (s t : Progress R C) → DoesStep handler firing x s t → Type 0
   WhyNot told x s t does = (has_reason x told ≡ true) ⊎ MemoryRefusedTo (call_of handler firing x s t does) ⊎ IsLeftBy x s t
 
   -- each of these steps was accepted, or there is why not
@@ -61,8 +62,8 @@ module _ {C R : Type 0} (handler : Calls C) (firing : Raise R) where
       → TakesSteps handler firing s xs t → Type 0
   AreExplained told s [] t takes = ⊤
   AreExplained told s (x ∷ xs) t ((u, (v, begins, does), rest)) =
-      (accepted handler firing x v u does ≡ false → WhyNot (before_step x told) x v u does)
-      × AreExplained (known_after (record { step = x; accepted = accepted handler firing x v u does }) told) u xs t rest
+      (was_accepted handler firing x v u does ≡ false → WhyNot (before_step x told) x v u does)
+      × AreExplained (known_after (record { step = x; accepted = was_accepted handler firing x v u does }) told) u xs t rest
 
   -- so it is of all steps of a run
   abbrev pub AllExplained : Known → (s : Progress R C) (xs : List Step) (t : Progress R C) → Runs handler firing s xs t → Type 0

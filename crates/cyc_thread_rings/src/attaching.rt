@@ -6,8 +6,9 @@ ghost use Rattle.cyc_thread_rings.specs.Rings.{AreSeated, IsAttached};
 
 use crate::levels::{Levels, Seated};
 use cyc_ring::{DrainEnd, RaiseEnd, Ring};
+use cyc_soft::SoftSide;
 use cyc_types::Calls;
-use cyc_workers::{Handlers, Seats, SoftSide};
+use cyc_workers::{Handlers, Seats};
 use std::alloc::{AllocError, Global};
 
 /// The ends of a CPU's two rings, that of its lock level first, and its handlers beside them.
@@ -55,11 +56,11 @@ pub fn attach<'a, C: Drop>(
 {
     let mut attached = Vec::with_capacity(alloc, all.len())?;
     for seated in all {
-        let place = attached.len();
-        if place >= rings.len() {
+        let position = attached.len();
+        if position >= rings.len() {
             unreachable!()
         }
-        attached.push_reserved(attach_one(&rings[place], seated));
+        attached.push_reserved(attach_one(&rings[position], seated));
     }
     Ok(attached)
 }

@@ -8,7 +8,8 @@ use crate::levels::{Levels, Seated};
 use crate::taking::take_next;
 use cyc_cpu::Hard;
 use cyc_ring::{DrainEnd, RaiseEnd};
-use cyc_workers::{Lead, SoftSide};
+use cyc_soft::SoftSide;
+use cyc_workers::Lead;
 use std::alloc::{AllocError, Global};
 
 /// What one CPU leaves: the seats of its two rings, and its handlers.

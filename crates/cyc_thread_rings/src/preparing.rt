@@ -2,7 +2,7 @@
 
 ghost use Rattle.std.specs.Prelude.{◌≡◌, ℕ, ◌+◌, [], ◌∷◌, ◌++◌, map, IfOk, IfErr, OnOk};
 ghost use Rattle.cyc_types.specs.declared.refusal.Refusal.TheVariants.{Memory};
-ghost use Rattle.cyc_thread_rings.specs.Preparing.{HasRoom};
+ghost use Rattle.cyc_thread_rings.specs.Preparing.{HasThreadRoom};
 ghost use Rattle.cyc_thread_rings.specs.Working.{sides_of};
 
 use crate::attaching::Attached;
@@ -10,8 +10,9 @@ use crate::levels::Levels;
 use crate::working::Drainer;
 use crossbeam_utils::sync::Parker;
 use cyc_ring::{DrainEnd, RaiseEnd};
+use cyc_soft::SoftSide;
 use cyc_types::Refusal;
-use cyc_workers::{Lead, SoftSide, Wakers};
+use cyc_workers::{Lead, Wakers};
 use std::alloc::{AllocError, Global};
 use std::sync::Arc;
 
@@ -71,7 +72,7 @@ fn drainers_of<D, C>(beds: Levels<Parker>, soft: Levels<SoftSide<D, C>>) -> Leve
 /// Room for what the threads of so many CPUs are given. Its memory may be refused.
 fn room<E: Drop, D: Drop, C: Drop>(alloc: Global, cpus: usize) -> Result<Lists<E, D, C>, AllocError>
     ensures none { IfOk result (λ l. (l.ends.items ≡ []) × ((l.leads.items ≡ []) × (l.drainers.items ≡ []))) }
-    ensures room { IfOk result (HasRoom cpus) }
+    ensures room { IfOk result (HasThreadRoom cpus) }
 {
     let wakers = Vec::with_capacity(alloc, cpus)?;
     let leads = Vec::with_capacity(alloc, cpus)?;
@@ -93,13 +94,13 @@ fn add<E: Drop, D: Drop, C: Drop>(
     high: C,
     ends: E,
 ) -> Result<(), Refusal>
-    requires { HasRoom 1 lists.old }
+    requires { HasThreadRoom 1 lists.old }
     ensures ends { OnOk result (lists.new.ends.items ≡ lists.old.ends.items ++ ends ∷ []) }
     ensures leads { OnOk result (map (λ l. l.calls) lists.new.leads.items
         ≡ map (λ l. l.calls) lists.old.leads.items ++ high ∷ []) }
     ensures drainers { OnOk result (map sides_of lists.new.drainers.items
         ≡ map sides_of lists.old.drainers.items ++ soft ∷ []) }
-    ensures room { OnOk result ((n : ℕ) → HasRoom (n + 1) lists.old → HasRoom n lists.new) }
+    ensures room { OnOk result ((n : ℕ) → HasThreadRoom (n + 1) lists.old → HasThreadRoom n lists.new) }
     ensures refused { IfErr result (λ e. e ≡ Memory) }
 {
     let (parkers, own, wakers) = beds(alloc)?;

@@ -9,8 +9,9 @@ ghost use Rattle.cyc_thread_rings.specs.Working.{sides_of, both_sides, HasPromis
 
 use crate::levels::Levels;
 use crossbeam_utils::sync::Parker;
+use cyc_soft::SoftSide;
 use cyc_types::{Calls, Drain, Refusal, Soft};
-use cyc_workers::{Drained, Drains, Signals, SoftSide, Wakers, drain};
+use cyc_workers::{Drained, Drains, Signals, Wakers, drain};
 use std::alloc::{AllocError, Global};
 use std::snapshot::Snapshot;
 use std::sync::{Arc, Wait};

@@ -23,7 +23,7 @@ use Rattle.cyc_timers.specs.Made.{Stops}
 use Rattle.cyc_timers.specs.declared.fire.Fired.{Fired}
 use Rattle.cyc_timers.specs.declared.fire.FireRefused.{FireRefused}
 use Rattle.cyc_cpu.specs.Cpu.{CpuView, running, HasNoCyclic}
-use Rattle.cyc_cpu.specs.Calls.{Does as CpuDoes, Fire, no_interrupts}
+use Rattle.cyc_cpu.specs.Calls.{CpuDoes as CpuDoes, Fire, no_interrupts}
 use Rattle.cyc_cpu.proofs.Calling.{changes_most, refused_not}
 use Rattle.cyc_agreement.specs.Cpus.{CpusView, OfCpu, new_cpu, new_cpus}
 use Rattle.cyc_script.specs.WellFormed.{IsWellFormed}
@@ -50,13 +50,13 @@ use Rattle.cyc_system_workers.specs.System.{SystemView}
 use Rattle.cyc_system_workers.specs.Calls.{Suspend, Resume}
 use Rattle.cyc_system_workers.specs.Calls.{SystemCall, Changes, Add, AddOmni, Bind, BeginRemove, PollRemove, AskTotals}
 use Rattle.cyc_system_workers.specs.Calls.{Reprogram, ReprogramOn, Juggle, Offline, Online, FireOne, SoftInterrupt}
-use Rattle.cyc_system_workers.specs.WorkersSettling.{Asks}
+use Rattle.cyc_system_workers.specs.WorkersSettling.{AsksSettled}
 use Rattle.cyc_system_workers.specs.declared.side.SystemSide.{SystemSide}
 use Rattle.cyc_system_workers.specs.declared.advancing.Advanced.{Advanced}
 use Rattle.cyc_system_workers.specs.Advancing.{AllFire, moment_asked, FiresIf}
 use Rattle.cyc_threads.specs.declared.halt.Halt.TheVariants as halt
 use Rattle.cyc_threads.specs.declared.progress.Progress.{Progress}
-use Rattle.cyc_threads.specs.StepCalls.{CallsFor, Settles, Fires, refusal_at}
+use Rattle.cyc_threads.specs.StepCalls.{CallsFor, SettlesAll, Fires, refusal_at}
 use Rattle.cyc_threads.specs.Words.{TakesStep, waits_first}
 use Rattle.cyc_threads.specs.Steps.{IsBefore, TakesSteps, StepHalts, IsHalted}
 use Rattle.cyc_threads.specs.Running.{most}
@@ -142,7 +142,7 @@ module _ {R : Type 0} (firing : Raise R) where
   parts_most (SetOnline n online ∷ way) v w (u, e, rest) all = parts_most way u w rest
       (λ m x at. all m x (ap (λ (z : CpusView R). slice_get z.cpus m) (sym e) ∙ at))
 
-  asks_same : (answers : List Bool) (x y : CpuView R) → FoldsTo (Asks firing) x answers y
+  asks_same : (answers : List Bool) (x y : CpuView R) → FoldsTo (AsksSettled firing) x answers y
       → (y.cyclics ≡ x.cyclics) × (y.most ≡ x.most)
   asks_same [] x y e = (ap (λ (z : CpuView R). z.cyclics) (sym e), ap (λ (z : CpuView R). z.most) (sym e))
   asks_same (true ∷ answers) x y (z, (first, lawful), rest) =
@@ -185,7 +185,7 @@ module _ {C R : Type 0} (handler : Calls C) (firing : Raise R) where
       → (x : CpuView R) × (slice_get xs n ≡ Some x)
   there xs ys n y long at = get_some xs n (let low = slice_get_within ys n y at in omega (arith, low, long))
 
-  quiet_settles : (s t : Progress R C) → Settles firing s t → Quiet s t
+  quiet_settles : (s t : Progress R C) → SettlesAll firing s t → Quiet s t
   quiet_settles s t w k h = record {
     ready = ap (λ (l : _). length l.items) w.asked.leads ∙ h.ready ∙ sym w.asked.cpus.long;
     sound = w.sound;
@@ -334,18 +334,18 @@ module _ {C R : Type 0} (handler : Calls C) (firing : Raise R) where
       → HandlerRefuses handler.may_refuse why
   halted_by_handler all names first n why form none h = by h.halts
     where
-      place : ℕ
-      place = h.place
+      position : ℕ
+      position = h.position
 
-      taken : HasExpired firing (0 + length (take place all) * most_of_all) h.before.side
-      taken = steps_more handler firing (take place all) first h.before 0 h.taken none
+      taken : HasExpired firing (0 + length (take position all) * most_of_all) h.before.side
+      taken = steps_more handler firing (take position all) first h.before 0 h.taken none
 
       by : StepHalts handler firing h.last h.before (halt.Fired n why) → HandlerRefuses handler.may_refuse why
       by (inl told) = absurd told
       by (inr (now, is, (awake, after, f, refused))) =
-          let few : length all ≤ 65536 = form.few_steps in let short = length-take place all in
-          let before = fit_before all place h.last h.here.0 (sym h.here.1) (fit_drop all place (0, form.moments_in_order)) in
-          refused_by_handler (0 + length (take place all) * most_of_all) now h.before.side after taken
+          let few : length all ≤ 65536 = form.few_steps in let short = length-take position all in
+          let before = fit_before all position h.last h.here.0 (sym h.here.1) (fit_drop all position (0, form.moments_in_order)) in
+          refused_by_handler (0 + length (take position all) * most_of_all) now h.before.side after taken
           (omega (arith, few, short)) (subst (λ (x : Step). IsBefore x) is before) awake f n why refused.here
 
 -- ---- before the first step

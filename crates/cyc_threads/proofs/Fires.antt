@@ -21,11 +21,11 @@ use Rattle.cyc_types.proofs.Laws.{length_expirations}
 use Rattle.cyc_timers.specs.declared.fire.Fired.{Fired}
 use Rattle.cyc_timers.specs.declared.fire.FireRefused.{FireRefused}
 use Rattle.cyc_timers.specs.Rows.{Cyclic, timers}
-use Rattle.cyc_timers.specs.Acts.{timer_of, is_of}
+use Rattle.cyc_timers.specs.Acts.{timer_of, is_of_level}
 use Rattle.cyc_timers.specs.Shares.{share}
 use Rattle.cyc_cpu.specs.Cpu.{CpuView, Running, running}
 use Rattle.cyc_cpu.specs.Laws.{IsLawful}
-use Rattle.cyc_cpu.specs.Calls.{Does, Fire, no_interrupts}
+use Rattle.cyc_cpu.specs.Calls.{CpuDoes, Fire, no_interrupts}
 use Rattle.cyc_system_laws.specs.Accounts.{expired_of, made_by}
 use Rattle.cyc_system_laws.proofs.Accounting.{proceeds_one}
 use Rattle.cyc_system_laws.proofs.Flow.{on_cpu}
@@ -78,7 +78,7 @@ few_made now (Ok fired) cs = omega arith
 few_made now (Err e) cs = let a = length-take e.expired (expirations now (timers cs)) in omega (arith, a)
 
 few_share : (level : Level) (ts : List Timer) (made : List Expiration) (id : ℕ) → share level ts made id ≤ length made
-few_share level ts made id = by (is_of level (timer_of id ts)) (count_by-le-length (λ (p : Expiration). p.id == id) made)
+few_share level ts made id = by (is_of_level level (timer_of id ts)) (count_by-le-length (λ (p : Expiration). p.id == id) made)
   where
     by : (b : Bool) → times_of id made ≤ length made → cond b (times_of id made) 0 ≤ length made
     by true few = few
@@ -99,7 +99,7 @@ pub record Grows {R : Type 0} (id : ℕ) (x y : CpuView R) : Type 0 where
 
 module _ {C R : Type 0} (handler : Calls C) (firing : Raise R) (id now : ℕ) where
   fired_grows : (s t : Running C R) (answer : Result Fired FireRefused) → IsLawful firing.view s.cpu
-      → Does handler firing no_interrupts s (Fire now answer) t → Grows id s.cpu t.cpu
+      → CpuDoes handler firing no_interrupts s (Fire now answer) t → Grows id s.cpu t.cpu
   fired_grows s t answer law d =
       let p = proceeds_one handler firing s t (Fire now answer) law d in
       let cs = s.cpu.cyclics in let made = made_by (Fire now answer) cs in

@@ -5,24 +5,22 @@ use Rattle.std.specs.List.{FoldsTo}
 use Rattle.cyc_types.specs.declared.Calls.{Ghosts as Calls}
 use Rattle.cyc_types.specs.declared.Raise.{Ghosts as Raise}
 use Rattle.cyc_script.specs.declared.step.Step.{Step}
-use Rattle.cyc_script.specs.declared.step.Step.TheVariants as steps
 use Rattle.cyc_system_workers.specs.Calls.{SystemCall, PollRemove}
-use Rattle.cyc_threads.specs.declared.named.Named.{Named}
-use Rattle.cyc_threads.specs.declared.named.Named.TheVariants.{Nothing, Cyclic, Leaving, Removed}
+use Rattle.cyc_words.specs.declared.named.Named.{Named}
+use Rattle.cyc_words.specs.declared.named.Named.TheVariants.{Nothing, Cyclic, Leaving, Removed}
 use Rattle.cyc_threads.specs.declared.progress.Progress.{Progress}
 use Rattle.cyc_threads.specs.declared.counting.Line.{Line}
-use Rattle.cyc_threads.specs.Names.{named_at, id_of}
-use Rattle.cyc_threads.specs.StepCalls.{CallsFor, Poll, Polls, Settles, Waits, Fires}
-use Rattle.cyc_threads.specs.Counting.{Told, TellsOf, Tells, Reports}
+use Rattle.cyc_threads.specs.StepCalls.{CallsFor, Poll, Polls, SettlesAll, Waits, Fires, Advances}
+use Rattle.cyc_threads.specs.Counting.{NameLine, TellsOf, Tells, Reports}
 use Rattle.cyc_threads.specs.Steps.{TakesSteps, Runs}
-use Rattle.cyc_threads.proofs.Within.{with_series, with_moment, with_id}
-use Rattle.cyc_threads.specs.Words.{Does, Begins, waits_first}
+use Rattle.cyc_threads.proofs.Worded.{does_by}
+use Rattle.cyc_threads.specs.Words.{DoesStep, Begins, waits_first}
 
 module _ {C R : Type 0} (handler : Calls C)
     (firing : Raise R) (K : Progress R C → Progress R C → Type 0)
     (same : (s : Progress R C) → K s s) (joined : (s t u : Progress R C) → K s t → K t u → K s u)
     (calls : (name : ℕ) (call : SystemCall) (s t : Progress R C) → CallsFor firing name call s t → K s t)
-    (settles : (s t : Progress R C) → Settles firing s t → K s t)
+    (settles : (s t : Progress R C) → SettlesAll firing s t → K s t)
     (sets : (now : ℕ) (s : Progress R C) → K s (record s { clock = now })) where
   is_same : (s t : Progress R C) → t ≡ s → K s t
   is_same s t e = subst (λ (x : Progress R C). K s x) (sym e) (same s)
@@ -41,29 +39,13 @@ module _ {C R : Type 0} (handler : Calls C)
 
   -- what follows of a step's call, where it follows of what a call keeps, and of the fires of an `advance`
   pub does_all : (L : Type 0) (x : Step) (s t : Progress R C) → (K s t → L)
-      → ((now : ℕ) → Fires handler firing now s t → L) → Does handler firing x s t → L
-  does_all L (steps.Add a) s t go fires d = with_series a.start a.interval _ L (t ≡ s) d
-      (λ when p. go (calls a.name _ s t p.1)) (λ e. go (is_same s t e))
-  does_all L (steps.Omni a) s t go fires d = with_series a.start a.interval _ L (t ≡ s) d
-      (λ when p. go (calls a.name _ s t p.1)) (λ e. go (is_same s t e))
-  does_all L (steps.Bind b) s t go fires d = with_id (id_of (named_at s.names b.name)) _ L (t ≡ s) d
-      (λ id p. go (calls b.name _ s t p.1)) (λ e. go (is_same s t e))
-  does_all L (steps.Unbind name) s t go fires d = with_id (id_of (named_at s.names name)) _ L (t ≡ s) d
-      (λ id p. go (calls name _ s t p.1)) (λ e. go (is_same s t e))
-  does_all L (steps.Reprogram r) s t go fires d = with_moment r.moment _ L (t ≡ s) d
-      (λ moment q. with_id (id_of (named_at s.names r.name)) _ L (t ≡ s) q
-      (λ id p. go (calls r.name _ s t p.1)) (λ e. go (is_same s t e))) (λ e. go (is_same s t e))
-  does_all L (steps.Remove name) s t go fires d = with_id (id_of (named_at s.names name)) _ L (t ≡ s) d
-      (λ id p. go (calls name _ s t p.1)) (λ e. go (is_same s t e))
-  does_all L (steps.Advance now) s t go fires (inl (asleep, same)) = go
-      (subst (λ (x : Progress R C). K s x) (sym same) (sets now s))
-  does_all L (steps.Advance now) s t go fires (inr d) = fires now d
-  does_all L (steps.Softint i) s t go fires d = go (is_same s t d)
-  does_all L (steps.Juggle n) s t go fires d = go (calls 0 _ s t d.1)
-  does_all L (steps.Offline n) s t go fires d = go (calls 0 _ s t d.1)
-  does_all L (steps.Online n) s t go fires d = go (calls 0 _ s t d.1)
-  does_all L steps.Suspend s t go fires d = go (calls 0 _ s t d.1)
-  does_all L steps.Resume s t go fires d = go (calls 0 _ s t d.1)
+      → ((now : ℕ) → Fires handler firing now s t → L) → DoesStep handler firing x s t → L
+  does_all L x s t go fires d = does_by handler firing L x s t (λ name call c. go (calls name call s t c))
+      (λ now a. advances now a) (λ e. go (is_same s t e)) d
+    where
+      advances : (now : ℕ) → Advances handler firing now s t → L
+      advances now (inl (asleep, same)) = go (subst (λ (x : Progress R C). K s x) (sym same) (sets now s))
+      advances now (inr made) = fires now made
 
   module _ (fires : (now : ℕ) (s t : Progress R C) → Fires handler firing now s t → K s t) where
     steps_all : (all : List Step) (s t : Progress R C) → TakesSteps handler firing s all t → K s t
@@ -75,7 +57,7 @@ module _ {C R : Type 0} (handler : Calls C)
     pub runs_all : (all : List Step) (s t : Progress R C) → Runs handler firing s all t → K s t
     runs_all all s t (u, p, q) = joined s u t (steps_all all s u p) (waits_all u t q)
 
-    tells_one : (told : Told) (s t : Progress R C) → Tells firing s told t → K s t
+    tells_one : (told : NameLine) (s t : Progress R C) → Tells firing s told t → K s t
     tells_one told s t d = by told.named told.line d
       where
         by : (n : Named) (line : Line) → TellsOf firing n line s t → K s t
@@ -84,7 +66,7 @@ module _ {C R : Type 0} (handler : Calls C)
         by (Leaving id) line (answer, c, e) = calls 0 _ s t c
         by (Removed receipt) line (e, is) = is_same s t is
 
-    tells_all : (all : List Told) (s t : Progress R C) → FoldsTo (Tells firing) s all t → K s t
+    tells_all : (all : List NameLine) (s t : Progress R C) → FoldsTo (Tells firing) s all t → K s t
     tells_all [] s t e = is_same s t (sym e)
     tells_all (told ∷ all) s t (u, d, rest) = joined s u t (tells_one told s u d) (tells_all all u t rest)
 

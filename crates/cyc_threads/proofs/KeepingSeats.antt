@@ -11,10 +11,10 @@ use Rattle.cyc_ring.specs.declared.ends.RaiseEnd.{RaiseEnd}
 use Rattle.cyc_ring.specs.Ends.{raise_end}
 use Rattle.cyc_ring.proofs.Ways.{raise_ways}
 use Rattle.cyc_system_laws.specs.Cpu.{CpuView, Running, running}
-use Rattle.cyc_system_laws.specs.Calls.{CpuCall, Changes, Does, Fire, AskSettled, no_interrupts}
+use Rattle.cyc_system_laws.specs.Calls.{CpuCall, CpuChanges, CpuDoes, Fire, AskSettled, no_interrupts}
 use Rattle.cyc_system_laws.proofs.Stills.{changes_still}
 use Rattle.cyc_system_laws.specs.Cpus.{CpusView, ChangesAt}
-use Rattle.cyc_system_workers.specs.WorkersSettling.{Asks}
+use Rattle.cyc_system_workers.specs.WorkersSettling.{AsksSettled}
 use Rattle.cyc_system_workers.specs.Settled.{AllAsked}
 use Rattle.cyc_system_workers.specs.System.{SystemView}
 use Rattle.cyc_system_workers.specs.Calls.{SystemCall, Changes as SystemChanges}
@@ -46,7 +46,7 @@ then_all (x ∷ xs) (y ∷ ys) (z ∷ zs) p q = (then_one x y z p.0 q.0, then_al
 
 -- ---- calls of a system
 
-changed_one : (x y : CpuView RaiseEnd) (call : CpuCall) → Changes raise_end x call y → HasSameSeats x y
+changed_one : (x y : CpuView RaiseEnd) (call : CpuCall) → CpuChanges raise_end x call y → HasSameSeats x y
 changed_one x y call d = let st = changes_still raise_end x y call d in
     ((raise_ways x.lock y.lock st.lock.way st.lock.goes).0, (raise_ways x.low y.low st.low.way st.low.goes).0)
 
@@ -62,7 +62,7 @@ at_one n D v w f c = subst (λ (u : CpusView RaiseEnd). HaveSameSeats v.cpus u.c
     (set_one v.cpus n c.before c.after c.here (f c.before c.after c.change))
 
 part : (v w : CpusView RaiseEnd) (p : CpusCall) → DoesPart raise_end v p w → HaveSameSeats v.cpus w.cpus
-part v w (OnCpu c) d = at_one c.cpu (λ x y. Changes raise_end x c.call y) v w (λ x y e. changed_one x y c.call e) d
+part v w (OnCpu c) d = at_one c.cpu (λ x y. CpuChanges raise_end x c.call y) v w (λ x y e. changed_one x y c.call e) d
 part v w (SetOnline n online) d = subst (λ (u : CpusView RaiseEnd). HaveSameSeats v.cpus u.cpus) (sym d) (same_all v.cpus)
 
 parts : (v w : CpusView RaiseEnd) (way : List CpusCall) → FoldsTo (DoesPart raise_end) v way w →
@@ -76,7 +76,7 @@ called_all s t call d = let m = made_of raise_end s t call d in parts s.cpus t.c
 
 -- ---- questions, and fires
 
-settle_one : (x y : CpuView RaiseEnd) (answers : List Bool) → FoldsTo (Asks raise_end) x answers y → HasSameSeats x y
+settle_one : (x y : CpuView RaiseEnd) (answers : List Bool) → FoldsTo (AsksSettled raise_end) x answers y → HasSameSeats x y
 settle_one x y [] e = subst (λ (z : CpuView RaiseEnd). HasSameSeats x z) e (same_one x)
 settle_one x y (answer ∷ answers) (m, d, rest) =
     then_one x m y (changed_one x m (AskSettled answer) d.0) (settle_one m y answers rest)
@@ -105,7 +105,7 @@ has_at (x ∷ xs) (suc n) low = has_at xs n (omega (arith, low))
 
 module _ {C : Type 0} (handler : Calls C) where
   fired_one : (s t : Running C RaiseEnd) (now : ℕ) (answer : Result Fired FireRefused) →
-      Does handler raise_end no_interrupts s (Fire now answer) t → HasSameSeats s.cpu t.cpu
+      CpuDoes handler raise_end no_interrupts s (Fire now answer) t → HasSameSeats s.cpu t.cpu
   fired_one s t now (Ok r) (early, kept, expired, next, m) = (
     (raise_ways s.cpu.lock t.cpu.lock m.acts.lock_way m.acts.lock_goes).0,
     (raise_ways s.cpu.low t.cpu.low m.acts.low_way m.acts.low_goes).0,

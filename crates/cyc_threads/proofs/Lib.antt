@@ -1,5 +1,5 @@
+pub mod Worded
 mod Ready
-pub mod Within
 mod Taking
 mod Refusing
 mod Telling

@@ -24,7 +24,7 @@ use Rattle.cyc_thread_rings.specs.declared.attaching.Attached.{Attached}
 use Rattle.cyc_thread_rings.specs.Rings.{AreSeated, AreNew, IsAttached, seats_of_ends, firing_seats, seats_on, soft_seats}
 use Rattle.cyc_thread_rings.specs.Rings.{soft_seats_on}
 use Rattle.cyc_thread_rings.proofs.Each.{each_long}
-use Rattle.cyc_threads.specs.declared.named.Named.TheVariants.{Nothing}
+use Rattle.cyc_words.specs.declared.named.Named.TheVariants.{Nothing}
 use Rattle.cyc_threads.specs.declared.halt.Halt.TheVariants as halt
 use Rattle.cyc_threads.specs.declared.progress.Progress.{Progress}
 use Rattle.cyc_threads.specs.Steps.{IsHalted}

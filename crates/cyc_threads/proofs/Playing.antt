@@ -11,7 +11,7 @@ use Rattle.ring_rule.specs.declared.RaiseStep.{RaiseStep}
 use Rattle.cyc_ring.specs.declared.ring.Ring.{Ring}
 use Rattle.cyc_ring.specs.declared.ends.RaiseEnd.{RaiseEnd}
 use Rattle.cyc_ring.specs.declared.ends.DrainEnd.{DrainEnd}
-use Rattle.cyc_ring.specs.Views.{firing_view}
+use Rattle.cyc_ring.specs.Views.{trail_view}
 use Rattle.cyc_ring.specs.Ends.{end_view, seat_made, drain_end, raise_trail, drain_trail}
 use Rattle.cyc_cpu.specs.Cpu.{CpuView, IsFresh}
 use Rattle.cyc_agreement.specs.Cpus.{new_cpu}
@@ -46,8 +46,8 @@ each_same f g (x ∷ xs) (y ∷ ys) e = (
 
 -- ---- before the first step
 
-fresh_at : (k : ℕ) (t : List RaiseStep) → t ≡ [] → IsFresh (firing_view k t)
-fresh_at k t e = subst (λ (x : List RaiseStep). IsFresh (firing_view k x)) (sym e)
+fresh_at : (k : ℕ) (t : List RaiseStep) → t ≡ [] → IsFresh (trail_view k t)
+fresh_at k t e = subst (λ (x : List RaiseStep). IsFresh (trail_view k x)) (sym e)
     (record { none = λ id. refl; unmarked = refl; bank = refl; free = refl })
 
 pub fresh_all : {C : Type 0} (k : ℕ) (all : List (Seated C)) (att : List (Attached C)) → All (AreNew k) (map (λ s. s.seats) all)

@@ -10,7 +10,7 @@ use Rattle.cyc_types.specs.declared.Raise.{Ghosts as Raise}
 use Rattle.cyc_cpu.specs.declared.hard.Totals.{Totals}
 use Rattle.cyc_cpu.specs.Cpu.{CpuView}
 use Rattle.cyc_cpu.specs.Moving.{IsSettled}
-use Rattle.cyc_cpu.specs.Calls.{Changes as CpuChanges, AskTotals as CpuTotals}
+use Rattle.cyc_cpu.specs.Calls.{CpuChanges as CpuChanges, AskTotals as CpuTotals}
 use Rattle.cyc_system_workers.proofs.Reading.{totals_settled}
 use Rattle.cyc_system_workers.specs.Settled.{AllSettled}
 use Rattle.cyc_system_laws.specs.Cpus.{CpusView, IsCpu, with_cpu, on, DoesAt, Works}
@@ -19,12 +19,12 @@ use Rattle.cyc_system_workers.specs.System.{SystemView}
 use Rattle.cyc_system_laws.specs.SystemTotals.{SystemTotals}
 use Rattle.cyc_system_laws.specs.Counting.{Counted, asked}
 use Rattle.cyc_system_workers.specs.Calls.{Changes, AskTotals}
-use Rattle.cyc_threads.specs.declared.named.Named.{Named}
-use Rattle.cyc_threads.specs.declared.named.Named.TheVariants.{Nothing, Cyclic, Leaving, Removed}
+use Rattle.cyc_words.specs.declared.named.Named.{Named}
+use Rattle.cyc_words.specs.declared.named.Named.TheVariants.{Nothing, Cyclic, Leaving, Removed}
 use Rattle.cyc_threads.specs.declared.progress.Progress.{Progress}
 use Rattle.cyc_threads.specs.declared.counting.Line.{Line}
 use Rattle.cyc_threads.proofs.Telling.{Begun}
-use Rattle.cyc_threads.specs.Counting.{Told, Asks, Tells, TellsOf, totals_line}
+use Rattle.cyc_threads.specs.Counting.{NameLine, AsksTotalsOf, Tells, TellsOf, totals_line}
 
 -- nothing of its cyclic is pending
 abbrev pub IsQuiet : Line → Type 0
@@ -71,7 +71,8 @@ module _ {C R : Type 0} (firing : Raise R) where
   abbrev pub Rests : Progress R C → Type 0
   Rests p = AllSettled firing.view p.side.system.cpus.cpus
 
-  line_asked : (id : ℕ) (line : Line) (s t : Progress R C) → Asks firing id line s t → Rests s → Rests t × (line.pending ≡ 0)
+  line_asked : (id : ℕ) (line : Line) (s t : Progress R C) → AsksTotalsOf firing id line s t → Rests s → Rests t
+      × (line.pending ≡ 0)
   line_asked id line s t (answer, c, is) all = let q = asks_quiet firing id answer s.side.system t.side.system c.did all in
       (q.0, ap (λ (l : Line). l.pending) is ∙ q.1)
 
@@ -82,12 +83,12 @@ module _ {C R : Type 0} (firing : Raise R) where
   line_quiet (Leaving id) line s t a all = line_asked id line s t a all
   line_quiet (Removed receipt) line s t (is, e) all = (subst Rests (sym e) all, ap (λ (l : Line). l.pending) is)
 
-  pub lines_quiet : (all : List Told) (s t : Progress R C) → FoldsTo (Tells firing) s all t → Rests s
-      → Rests t × All IsQuiet (map (λ (w : Told). w.line) all)
+  pub lines_quiet : (all : List NameLine) (s t : Progress R C) → FoldsTo (Tells firing) s all t → Rests s
+      → Rests t × All IsQuiet (map (λ (w : NameLine). w.line) all)
   lines_quiet [] s t e rests = (subst Rests e rests, All-nil IsQuiet)
   lines_quiet (told ∷ all) s t (u, d, rest) rests = let one = line_quiet told.named told.line s u d rests in
       let more = lines_quiet all u t rest one.0 in
-      (more.0, All-cons IsQuiet told.line (map (λ (w : Told). w.line) all) one.1 more.1)
+      (more.0, All-cons IsQuiet told.line (map (λ (w : NameLine). w.line) all) one.1 more.1)
 
   pub begun_settled : (k : ℕ) (lines : List Line) (s t : Progress R C) → Begun firing k lines s t → Rests s → Rests t
   begun_settled k lines s t b rests = (lines_quiet b.all s t b.tells rests).0

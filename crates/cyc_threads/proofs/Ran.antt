@@ -17,7 +17,7 @@ use Rattle.cyc_thread_rings.specs.Rings.{AreNew, AreClosed, AreSeated}
 use Rattle.cyc_threads.specs.declared.counting.Line.{Line}
 use Rattle.cyc_threads.specs.declared.running.Ended.{Ended}
 use Rattle.cyc_threads.specs.Reporting.{report_text}
-use Rattle.cyc_threads.specs.Running.{calls_of, AreAllClosed, HasPlayed, HasRun}
+use Rattle.cyc_threads.specs.Running.{all_handlers, AreAllClosed, HasPlayed, HasRun}
 use Rattle.cyc_threads.specs.Refusing.{WhyNotPlayed, WhyNotRun}
 
 pub many_all : {C : Type 0} (n : ℕ) (before : List (Seated C)) (seats : List (Levels Seats)) → map (λ s. s.seats) before ≡ seats
@@ -27,7 +27,7 @@ many_all n before seats e long = sym (length-map before (λ s. s.seats)) ∙ ap 
 -- these handlers, put beside seats
 pub given_all : {C : Type 0} (before : List (Seated C)) (handlers : List (Handlers C)) (calls : List C)
     → map (λ s. s.calls) before ≡ handlers →
-    flat_map three handlers ≡ calls → calls_of before ≡ calls
+    flat_map three handlers ≡ calls → all_handlers before ≡ calls
 given_all before handlers calls e f = ap (λ (x : List (Handlers _)). flat_map three x) e ∙ f
 
 pub new_all : {C : Type 0} (k : ℕ) (before : List (Seated C)) (seats : List (Levels Seats)) → map (λ s. s.seats) before ≡ seats
@@ -50,14 +50,14 @@ closed_all all last closed rings left shut laid = record {
 }
 
 module _ {C : Type 0} (handler : Calls C) (script : Script) (calls : List C) (before : List (Seated C))
-    (given : calls_of before ≡ calls) (new : All (AreNew script.ceiling) (map (λ s. s.seats) before)) where
+    (given : all_handlers before ≡ calls) (new : All (AreNew script.ceiling) (map (λ s. s.seats) before)) where
   pub not_ran : (e : Refusal) → WhyNotPlayed handler script before e → WhyNotRun handler script calls e
   not_ran e (inl m) = inl m
   not_ran e (inr (h, w)) = inr (h, before, given, new, w)
 
   pub ran : (after : List (Seated C)) (lines : List Line) (text : List ℕ) (e : Ended C) → length before ≡ script.cpus
       → HasPlayed handler script before after lines → text ≡ report_text (map string_bytes script.names.items) lines
-      → e.calls.items ≡ calls_of after → AreAllClosed after e.rings.items → HasRun handler script calls e text
+      → e.calls.items ≡ all_handlers after → AreAllClosed after e.rings.items → HasRun handler script calls e text
   ran after lines text e many played is back closed = record {
     before = before;
     after = after;

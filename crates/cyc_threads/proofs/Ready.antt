@@ -6,7 +6,6 @@ use Rattle.std.proofs.lemmas.List.{length-set}
 use Rattle.cyc_types.specs.declared.Calls.{Ghosts as Calls}
 use Rattle.cyc_types.specs.declared.Raise.{Ghosts as Raise}
 use Rattle.cyc_script.specs.declared.step.Step.{Step}
-use Rattle.cyc_script.specs.declared.step.Step.TheVariants as steps
 use Rattle.cyc_system_laws.specs.Cpus.{CpusView}
 use Rattle.cyc_system_workers.specs.System.{SystemView}
 use Rattle.cyc_system_workers.specs.Calls.{SystemCall, Changes, PollRemove}
@@ -14,11 +13,10 @@ use Rattle.cyc_system_laws.specs.Parts.{CpusCall, OnCpu, SetOnline, DoesPart}
 use Rattle.cyc_system_laws.proofs.Pieces.{made_of}
 use Rattle.cyc_system_workers.specs.declared.side.SystemSide.{SystemSide}
 use Rattle.cyc_threads.specs.declared.progress.Progress.{Progress}
-use Rattle.cyc_threads.specs.Names.{named_at, id_of}
-use Rattle.cyc_threads.specs.StepCalls.{CallsFor, Poll, Polls, Waits, Fires, IsReady}
+use Rattle.cyc_threads.specs.StepCalls.{CallsFor, Poll, Polls, Waits, Fires, Advances, HasLeads}
 use Rattle.cyc_threads.specs.Steps.{TakesSteps}
-use Rattle.cyc_threads.proofs.Within.{with_series, with_moment, with_id}
-use Rattle.cyc_threads.specs.Words.{Does, Begins, TakesStep, waits_first}
+use Rattle.cyc_threads.proofs.Worded.{does_by}
+use Rattle.cyc_threads.specs.Words.{DoesStep, Begins, TakesStep, waits_first}
 
 module _ {R : Type 0} (firing : Raise R) where
   parts_long : (way : List CpusCall) (v w : CpusView R) → FoldsTo (DoesPart firing) v way w → length w.cpus ≡ length v.cpus
@@ -32,60 +30,44 @@ module _ {R : Type 0} (firing : Raise R) where
   changes_long s t call d = let m = made_of firing s t call d in parts_long m.way s.cpus t.cpus m.works
 
 module _ {C R : Type 0} (handler : Calls C) (firing : Raise R) where
-  calls_ready : (name : ℕ) (call : SystemCall) (s t : Progress R C) → CallsFor firing name call s t → IsReady s → IsReady t
+  calls_ready : (name : ℕ) (call : SystemCall) (s t : Progress R C) → CallsFor firing name call s t → HasLeads s → HasLeads t
   calls_ready name call s t c ready = ap (λ (l : _). length l.items) c.leads ∙ ready
       ∙ sym (changes_long firing s.side.system t.side.system call c.did)
 
-  pub polls_ready : (polls : List Poll) (s t : Progress R C) → FoldsTo (Polls firing) s polls t → IsReady s → IsReady t
+  pub polls_ready : (polls : List Poll) (s t : Progress R C) → FoldsTo (Polls firing) s polls t → HasLeads s → HasLeads t
   polls_ready [] s t e ready = ap (λ (p : Progress R C). length p.side.leads.items) (sym e) ∙ ready
       ∙ ap (λ (p : Progress R C). length p.side.system.cpus.cpus) e
   polls_ready (p ∷ polls) s t (u, d, rest) ready =
       polls_ready polls u t rest (calls_ready p.name (PollRemove p.id p.answer) s u d.1 ready)
 
-  pub waits_ready : (s t : Progress R C) → Waits firing s t → IsReady s → IsReady t
+  pub waits_ready : (s t : Progress R C) → Waits firing s t → HasLeads s → HasLeads t
   waits_ready s t (polls, u, p, q) ready = ap (λ (l : _). length l.items) q.asked.leads ∙ polls_ready polls s u p ready
       ∙ sym q.asked.cpus.long
 
-  same_ready : (s t : Progress R C) → t ≡ s → IsReady s → IsReady t
+  same_ready : (s t : Progress R C) → t ≡ s → HasLeads s → HasLeads t
   same_ready s t e ready = ap (λ (p : Progress R C). length p.side.leads.items) e ∙ ready
       ∙ ap (λ (p : Progress R C). length p.side.system.cpus.cpus) (sym e)
 
-  pub begins_ready : (b : Bool) (s t : Progress R C) → Begins firing b s t → IsReady s → IsReady t
+  pub begins_ready : (b : Bool) (s t : Progress R C) → Begins firing b s t → HasLeads s → HasLeads t
   begins_ready true s t w ready = waits_ready s t w ready
   begins_ready false s t e ready = same_ready s t e ready
 
-  fires_ready : (now : ℕ) (s t : Progress R C) → Fires handler firing now s t → IsReady s → IsReady t
+  fires_ready : (now : ℕ) (s t : Progress R C) → Fires handler firing now s t → HasLeads s → HasLeads t
   fires_ready now s t f ready = ap (λ (z : SystemSide R C). length z.leads.items) f.side ∙ f.fired.long_leads ∙ ready
       ∙ sym f.fired.long ∙ ap (λ (z : SystemSide R C). length z.system.cpus.cpus) (sym f.side)
 
-  pub does_ready : (x : Step) (s t : Progress R C) → Does handler firing x s t → IsReady s → IsReady t
-  does_ready (steps.Add a) s t d ready = with_series a.start a.interval _ (IsReady t) (t ≡ s) d
-      (λ when p. calls_ready a.name _ s t p.1 ready) (λ e. same_ready s t e ready)
-  does_ready (steps.Omni a) s t d ready = with_series a.start a.interval _ (IsReady t) (t ≡ s) d
-      (λ when p. calls_ready a.name _ s t p.1 ready) (λ e. same_ready s t e ready)
-  does_ready (steps.Bind b) s t d ready = with_id (id_of (named_at s.names b.name)) _ (IsReady t) (t ≡ s) d
-      (λ id p. calls_ready b.name _ s t p.1 ready) (λ e. same_ready s t e ready)
-  does_ready (steps.Unbind name) s t d ready = with_id (id_of (named_at s.names name)) _ (IsReady t) (t ≡ s) d
-      (λ id p. calls_ready name _ s t p.1 ready) (λ e. same_ready s t e ready)
-  does_ready (steps.Reprogram r) s t d ready = with_moment r.moment _ (IsReady t) (t ≡ s) d
-      (λ moment q. with_id (id_of (named_at s.names r.name)) _ (IsReady t) (t ≡ s) q
-      (λ id p. calls_ready r.name _ s t p.1 ready) (λ e. same_ready s t e ready)) (λ e. same_ready s t e ready)
-  does_ready (steps.Remove name) s t d ready = with_id (id_of (named_at s.names name)) _ (IsReady t) (t ≡ s) d
-      (λ id p. calls_ready name _ s t p.1 ready) (λ e. same_ready s t e ready)
-  does_ready (steps.Advance now) s t (inl (asleep, same)) ready = ap (λ (p : Progress R C). length p.side.leads.items) same ∙
-      ready
+  advances_ready : (now : ℕ) (s t : Progress R C) → Advances handler firing now s t → HasLeads s → HasLeads t
+  advances_ready now s t (inl (asleep, same)) ready = ap (λ (p : Progress R C). length p.side.leads.items) same ∙ ready
       ∙ ap (λ (p : Progress R C). length p.side.system.cpus.cpus) (sym same)
-  does_ready (steps.Advance now) s t (inr d) ready = fires_ready now s t d ready
-  does_ready (steps.Softint i) s t d ready = same_ready s t d ready
-  does_ready (steps.Juggle n) s t d ready = calls_ready 0 _ s t d.1 ready
-  does_ready (steps.Offline n) s t d ready = calls_ready 0 _ s t d.1 ready
-  does_ready (steps.Online n) s t d ready = calls_ready 0 _ s t d.1 ready
-  does_ready steps.Suspend s t d ready = calls_ready 0 _ s t d.1 ready
-  does_ready steps.Resume s t d ready = calls_ready 0 _ s t d.1 ready
+  advances_ready now s t (inr fires) ready = fires_ready now s t fires ready
 
-  pub step_ready : (s : Progress R C) (x : Step) (t : Progress R C) → TakesStep handler firing s x t → IsReady s → IsReady t
+  pub does_ready : (x : Step) (s t : Progress R C) → DoesStep handler firing x s t → HasLeads s → HasLeads t
+  does_ready x s t d ready = does_by handler firing (HasLeads t) x s t (λ name call c. calls_ready name call s t c ready)
+      (λ now a. advances_ready now s t a ready) (λ e. same_ready s t e ready) d
+
+  pub step_ready : (s : Progress R C) (x : Step) (t : Progress R C) → TakesStep handler firing s x t → HasLeads s → HasLeads t
   step_ready s x t (u, b, d) ready = does_ready x u t d (begins_ready (waits_first x) s u b ready)
 
-  pub steps_ready : (all : List Step) (s t : Progress R C) → TakesSteps handler firing s all t → IsReady s → IsReady t
+  pub steps_ready : (all : List Step) (s t : Progress R C) → TakesSteps handler firing s all t → HasLeads s → HasLeads t
   steps_ready [] s t e ready = same_ready s t (sym e) ready
   steps_ready (x ∷ all) s t (u, d, rest) ready = steps_ready all u t rest (step_ready s x u d ready)

@@ -33,7 +33,7 @@ module _ {C R : Type 0} (handler : Calls C) (firing : Raise R) where
   pub halts_at : (xs : List Step) (i : ℕ) (x : Step) (s t : Progress R C) (h : Halt) → i < length xs → slice_index_or xs i x ≡ x
       → TakesSteps handler firing s (take i xs) t → StepHalts handler firing x t h
       → WhyHalted handler firing s xs h
-  halts_at xs i x s t h low is p q = inr (record { place = i; last = x; here = (low, is); before = t; taken = p; halts = q })
+  halts_at xs i x s t h low is p q = inr (record { position = i; last = x; here = (low, is); before = t; taken = p; halts = q })
 
   -- a fire of all CPUs that ended the run, and one that did not
   pub fire_halts : (now now' : ℕ) (s : Progress R C) → is_suspended s.side.system ≡ false → (after : Advanced R C)

@@ -11,14 +11,14 @@ use Rattle.cyc_threads.proofs.KeepingSeats.{same_all, then_all, called_all, aske
 use Rattle.cyc_threads.specs.declared.progress.Progress.{Progress}
 use Rattle.cyc_threads.specs.declared.counting.Line.{Line}
 use Rattle.cyc_system_laws.specs.Sound.{IsSound}
-use Rattle.cyc_threads.specs.StepCalls.{IsReady, CallsFor, Settles, Fires}
+use Rattle.cyc_threads.specs.StepCalls.{HasLeads, CallsFor, SettlesAll, Fires}
 use Rattle.cyc_threads.specs.Counting.{Reports}
 use Rattle.cyc_threads.specs.Steps.{Runs}
 use Rattle.cyc_threads.proofs.Following.{runs_all, reports_all}
 
 -- the lead is ready, and its system sound
 pub record IsWell {C : Type 0} (s : Progress RaiseEnd C) : Type 0 where
-  pub ready : IsReady s
+  pub ready : HasLeads s
   pub sound : IsSound end_view s.side.system
 
 -- and so it is then, with the seats of the same rings
@@ -52,7 +52,7 @@ module _ {C : Type 0} (handler : Calls C) where
     seats = seats;
   }
 
-  keeps_settles : (s t : Progress RaiseEnd C) → Settles raise_end s t → KeepsWell s t
+  keeps_settles : (s t : Progress RaiseEnd C) → SettlesAll raise_end s t → KeepsWell s t
   keeps_settles s t c w = record {
     well = record { ready = ap (λ (l : _). length l.items) c.asked.leads ∙ w.ready ∙ sym c.asked.cpus.long; sound = c.sound };
     seats = asked_all s.side.system.cpus.cpus t.side.system.cpus.cpus c.asked.cpus;

@@ -13,9 +13,9 @@ use Rattle.cyc_script.proofs.WellFormed.{moments_fit_next}
 use Rattle.cyc_script.specs.declared.step.Step.{Step}
 use Rattle.cyc_script.specs.declared.step.Step.TheVariants as steps
 use Rattle.cyc_threads.specs.declared.progress.Progress.{Progress}
-use Rattle.cyc_threads.specs.Words.{Begins, Does, TakesStep, waits_first}
+use Rattle.cyc_threads.specs.Words.{Begins, DoesStep, TakesStep, waits_first}
 use Rattle.cyc_threads.specs.Steps.{IsTold, IsBefore, TakesSteps, Runs, StepHalts, WhyHalted}
-use Rattle.cyc_threads.specs.StepCalls.{IsReady, Waits}
+use Rattle.cyc_threads.specs.StepCalls.{HasLeads, Waits}
 use Rattle.cyc_threads.specs.declared.halt.Halt.{Halt}
 use Rattle.cyc_threads.proofs.Ready.{step_ready}
 use Rattle.cyc_threads.proofs.Refusing.{halts_begun, halts_at}
@@ -85,10 +85,10 @@ module _ {C R : Type 0} (handler : Calls C) (firing : Raise R) where
   -- the first steps of a script were taken
   pub record Reached (xs : List Step) (i : ℕ) (s t : Progress R C) : Type 0 where
     pub taken : TakesSteps handler firing s (take i xs) t
-    pub ready : IsReady t
+    pub ready : HasLeads t
     pub fit : Fit (drop i xs)
 
-  pub reached_first : (xs : List Step) (s : Progress R C) → moments_fit 0 xs ≡ true → IsReady s → Reached xs 0 s s
+  pub reached_first : (xs : List Step) (s : Progress R C) → moments_fit 0 xs ≡ true → HasLeads s → Reached xs 0 s s
   reached_first xs s fit ready = record { taken = refl; ready = ready; fit = (0, fit) }
 
   pub reached_next : (xs : List Step) (i : ℕ) (x : Step) (s t u : Progress R C) → i < length xs → x ≡ get_or xs i x
@@ -114,14 +114,9 @@ module _ {C R : Type 0} (handler : Calls C) (firing : Raise R) where
   told_halts xs i s u (Ok t) far q w = tt
   told_halts xs i s u (Err h) far q w = inl (u, steps_all xs i s u far q.taken, w)
 
-  -- what a word did, where the step is that word and it left this
-  pub does_same : (x y : Step) (s t u : Progress R C) → x ≡ y → u ≡ t → Does handler firing y s t → Does handler firing x s u
-  does_same x y s t u e f d = subst (λ (z : Step). Does handler firing z s u) (sym e)
-      (subst (λ (z : Progress R C). Does handler firing y s z) (sym f) d)
-
   -- a step whose call came after what begins it
   pub then_taken : (s u : Progress R C) (x : Step) (r : Result (Progress R C) Halt) → Begins firing (waits_first x) s u
-      → IfOk r (λ t. Does handler firing x u t) → IfOk r (λ t. TakesStep handler firing s x t)
+      → IfOk r (λ t. DoesStep handler firing x u t) → IfOk r (λ t. TakesStep handler firing s x t)
   then_taken s u x (Ok t) b d = (u, b, d)
   then_taken s u x (Err h) b d = tt
 

@@ -1,41 +1,29 @@
 -- Polls and lines, one after another.
-use Rattle.std.proofs.Common.{◌≡◌, ℕ, ◌+◌, ◌<◌, ◌≤◌, ◌⊎◌, inl, inr, List, [], ◌∷◌, ◌++◌, Option, length, map, refl}
+use Rattle.std.proofs.Common.{◌≡◌, ℕ, ◌+◌, ◌<◌, ◌≤◌, List, [], ◌∷◌, ◌++◌, Option, length, map, refl}
 use Rattle.std.proofs.Common.{sym, ap, ◌∙◌, arith}
-use Rattle.std.specs.Prelude.{false, Result, take}
+use Rattle.std.specs.Prelude.{Result, take}
 use Rattle.std.specs.List.{FoldsTo}
-use Rattle.std.proofs.lemmas.Bool.{cases_lt}
-use Rattle.std.proofs.lemmas.List.{get_or_past, take_more, take_all, map-append}
+use Rattle.std.proofs.lemmas.List.{take_more, take_all, map-append}
 use Rattle.cyc_types.specs.declared.Raise.{Ghosts as Raise}
 use Rattle.cyc_types.specs.declared.receipt.Receipt.{Receipt}
 use Rattle.cyc_types.specs.declared.refusal.Refusal.{Refusal}
 use Rattle.cyc_types.proofs.Runs.{folds_more}
 use Rattle.cyc_system_workers.specs.Calls.{PollRemove}
-use Rattle.cyc_threads.specs.declared.named.Named.{Named}
-use Rattle.cyc_threads.specs.declared.named.Named.TheVariants.{Leaving, Nothing}
+use Rattle.cyc_words.specs.declared.named.Named.{Named}
+use Rattle.cyc_words.specs.declared.named.Named.TheVariants.{Leaving, Nothing}
 use Rattle.cyc_threads.specs.declared.progress.Progress.{Progress}
 use Rattle.cyc_threads.specs.declared.counting.Line.{Line}
-use Rattle.cyc_threads.specs.Names.{named_at, is_leaving, NoneLeaves, news, noted}
+use Rattle.cyc_words.specs.Names.{named_at, NoneLeaves, news, noted}
 use Rattle.cyc_system_workers.specs.Settled.{AllSettled}
 use Rattle.cyc_system_workers.specs.declared.side.SystemSide.{SystemSide}
 use Rattle.cyc_system_workers.specs.Settling.{OnlyAsked}
 use Rattle.cyc_system_laws.specs.Sound.{IsSound}
-use Rattle.cyc_threads.specs.StepCalls.{CallsFor, Poll, Polls, Settles, Waits}
-use Rattle.cyc_threads.specs.Counting.{Told, Tells, TellsOf, Reports}
-
-leaves_by : (names : List Named) (k name : ℕ) → length names ≤ k → ((j : ℕ) → j < k → is_leaving (named_at names j) ≡ false)
-    → (name < k) ⊎ (k ≤ name) → is_leaving (named_at names name) ≡ false
-leaves_by names k name far each (inl low) = each name low
-leaves_by names k name far each (inr high) = ap is_leaving (get_or_past names name Nothing (omega (arith, far, high)))
+use Rattle.cyc_threads.specs.StepCalls.{CallsFor, Poll, Polls, SettlesAll, Waits}
+use Rattle.cyc_threads.specs.Counting.{NameLine, Tells, TellsOf, Reports}
 
 -- there is room for one element more
 pub room_left : (long place all room : ℕ) → long ≡ place → place < all → all ≤ room → long < room
 room_left long place all room e f g = omega (arith, e, f, g)
-
--- no name leaves where none does up to the last one
-pub none_leaves : (names : List Named) (k : ℕ) → length names ≤ k
-    → ((name : ℕ) → name < k → is_leaving (named_at names name) ≡ false)
-    → NoneLeaves names
-none_leaves names k far each name = leaves_by names k name far each (cases_lt name k)
 
 module _ {C R : Type 0} (firing : Raise R) where
   -- a run of polls, and one more
@@ -64,7 +52,7 @@ module _ {C R : Type 0} (firing : Raise R) where
       → AllSettled firing.view side.system.cpus.cpus → NoneLeaves u.names → IsSound firing.view side.system
       → Waits firing s (record { side = side; clock = u.clock; names = u.names })
   waited s u side (polls, run) asked settled none sound =
-      let q : Settles firing u (record { side = side; clock = u.clock; names = u.names }) = record {
+      let q : SettlesAll firing u (record { side = side; clock = u.clock; names = u.names }) = record {
         asked = asked;
         settled = settled;
         none = none;
@@ -75,7 +63,7 @@ module _ {C R : Type 0} (firing : Raise R) where
 
   -- the lines of the first names
   pub record Begun (k : ℕ) (lines : List Line) (s t : Progress R C) : Type 0 where
-    pub all : List Told
+    pub all : List NameLine
     pub tells : FoldsTo (Tells firing) s all t
     pub names : map (λ told. told.named) all ≡ take k s.names
     pub lines_are : map (λ told. told.line) all ≡ lines
@@ -86,12 +74,12 @@ module _ {C R : Type 0} (firing : Raise R) where
 
   pub one_told : (k : ℕ) (lines : List Line) (line : Line) (s t u : Progress R C) → k < length s.names → Begun k lines s t
       → TellsOf firing (named_at t.names k) line t u → u.names ≡ t.names → Begun (k + 1) (lines ++ line ∷ []) s u
-  one_told k lines line s t u low b d same = let told : Told = record { named = named_at t.names k; line = line } in record {
+  one_told k lines line s t u low b d same = let told : NameLine = record { named = named_at t.names k; line = line } in record {
     all = b.all ++ told ∷ [];
     tells = folds_more (Tells firing) s b.all t told u b.tells d;
-    names = map-append (λ (w : Told). w.named) b.all (told ∷ []) ∙ ap (λ ns. ns ++ named_at t.names k ∷ []) b.names
+    names = map-append (λ (w : NameLine). w.named) b.all (told ∷ []) ∙ ap (λ ns. ns ++ named_at t.names k ∷ []) b.names
         ∙ ap (λ ns. take k s.names ++ named_at ns k ∷ []) b.same ∙ sym (take_more s.names k Nothing low);
-    lines_are = map-append (λ (w : Told). w.line) b.all (told ∷ []) ∙ ap (λ ls. ls ++ line ∷ []) b.lines_are;
+    lines_are = map-append (λ (w : NameLine). w.line) b.all (told ∷ []) ∙ ap (λ ls. ls ++ line ∷ []) b.lines_are;
     same = same ∙ b.same;
   }
 

@@ -5,7 +5,7 @@ use Rattle.std.proofs.lemmas.List.{get_or-map, get_or_default, length-map}
 use Rattle.cyc_text.specs.declared.lines.Counts.{Counts}
 use Rattle.cyc_text.specs.Lines.{reported}
 use Rattle.cyc_threads.specs.declared.counting.Line.{Line}
-use Rattle.cyc_threads.specs.Reporting.{counts_of, report_text}
+use Rattle.cyc_threads.specs.Reporting.{counts_told, report_text}
 
 no_more : (xs : List ℕ) → xs ++ [] ≡ xs
 no_more [] = refl
@@ -14,15 +14,15 @@ no_more (x ∷ xs) = ap (λ (ys : List ℕ). x ∷ ys) (no_more xs)
 -- one line more
 pub text_more : (ns : List (List ℕ)) (ls : List Line) (k j : ℕ) (n : List ℕ) (l : Line) → k < length ns → k < length ls
     → get_or ns k n ≡ n → get_or ls k l ≡ l → j ≡ suc k →
-    report_text (take j ns) (take j ls) ≡ report_text (take k ns) (take k ls) ++ reported n (counts_of l)
+    report_text (take j ns) (take j ls) ≡ report_text (take k ns) (take k ls) ++ reported n (counts_told l)
 text_more [] ls k j n l low low' e f is = absurd (omega (arith, low))
 text_more (m ∷ ns) [] k j n l low low' e f is = absurd (omega (arith, low'))
 text_more (m ∷ ns) (x ∷ ls) zero j n l low low' e f is = ap (λ (i : ℕ). report_text (take i (m ∷ ns)) (take i (x ∷ ls))) is
-    ∙ no_more (reported m (counts_of x)) ∙ (λ z. reported (e z) (counts_of (f z)))
+    ∙ no_more (reported m (counts_told x)) ∙ (λ z. reported (e z) (counts_told (f z)))
 text_more (m ∷ ns) (x ∷ ls) (suc k) j n l low low' e f is = ap (λ (i : ℕ). report_text (take i (m ∷ ns)) (take i (x ∷ ls))) is
-    ∙ ap (λ (t : List ℕ). reported m (counts_of x) ++ t)
+    ∙ ap (λ (t : List ℕ). reported m (counts_told x) ++ t)
     (text_more ns ls k (suc k) n l (omega (arith, low)) (omega (arith, low')) e f refl)
-    ∙ sym (append_assoc (reported m (counts_of x)) (report_text (take k ns) (take k ls)) (reported n (counts_of l)))
+    ∙ sym (append_assoc (reported m (counts_told x)) (report_text (take k ns) (take k ls)) (reported n (counts_told l)))
 
 -- all of them
 pub text_all : (ns : List (List ℕ)) (ls : List Line) (k : ℕ) → (length ns ≤ k) ⊎ (length ls ≤ k)
@@ -37,9 +37,9 @@ text_all (m ∷ ns) [] (suc k) far = refl
 text_all (m ∷ ns) (x ∷ ls) zero (inl far) = absurd (omega (arith, far))
 text_all (m ∷ ns) (x ∷ ls) zero (inr far) = absurd (omega (arith, far))
 text_all (m ∷ ns) (x ∷ ls) (suc k) (inl far) =
-    ap (λ (t : List ℕ). reported m (counts_of x) ++ t) (text_all ns ls k (inl (omega (arith, far))))
+    ap (λ (t : List ℕ). reported m (counts_told x) ++ t) (text_all ns ls k (inl (omega (arith, far))))
 text_all (m ∷ ns) (x ∷ ls) (suc k) (inr far) =
-    ap (λ (t : List ℕ). reported m (counts_of x) ++ t) (text_all ns ls k (inr (omega (arith, far))))
+    ap (λ (t : List ℕ). reported m (counts_told x) ++ t) (text_all ns ls k (inr (omega (arith, far))))
 
 -- the same as a loop has it, over names that have bytes
 low_min : (k e n m : ℕ) → k < e → e ≡ min n m → (k < n) × (k < m)
@@ -58,7 +58,7 @@ far_min (suc k) (suc n) (suc m) far = one_more n m k (far_min k n m (omega (arit
 module _ {A : Type 0} (f : A → List ℕ) (names : List A) (ls : List Line) (k e : ℕ) where
   pub text_next : (n : A) (none : Line) (old new line name text : List ℕ) (counts : Counts) → k < e
       → e ≡ min (length names) (length ls) → n ≡ get_or names k n →
-      counts ≡ counts_of (get_or ls k none) → name ≡ f n → line ≡ reported name counts → text ≡ line → new ≡ old ++ text →
+      counts ≡ counts_told (get_or ls k none) → name ≡ f n → line ≡ reported name counts → text ≡ line → new ≡ old ++ text →
       old ≡ report_text (take k (map f names)) (take k ls) → new ≡ report_text (take (k + 1) (map f names)) (take (k + 1) ls)
   text_next n none old new line name text counts low is at counted named wrote same put inv =
       let lows = low_min k e (length names) (length ls) low is in let long = length-map names f in

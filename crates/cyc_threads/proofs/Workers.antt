@@ -20,7 +20,7 @@ use Rattle.cyc_script.specs.declared.step.Step.{Step}
 use Rattle.cyc_soft.specs.declared.SoftSide.{SoftSide}
 use Rattle.cyc_workers.specs.declared.draining.Drained.{Drained}
 use Rattle.cyc_workers.specs.declared.draining.Drains.{Drains}
-use Rattle.cyc_workers.specs.Draining.{Makes, HasLooked, HasDrained, IsRefused, side_of}
+use Rattle.cyc_workers.specs.Draining.{MakesCalls, HasLooked, HasDrained, IsRefusedCall, side_of}
 use Rattle.cyc_workers.specs.Refusals.{HandlerRefuses}
 use Rattle.cyc_workers.proofs.Making.{looked_makes}
 use Rattle.cyc_workers.proofs.Joining.{joined}
@@ -34,7 +34,7 @@ use Rattle.cyc_threads.specs.declared.halt.Halt.TheVariants as halt
 use Rattle.cyc_threads.specs.declared.progress.Progress.{Progress}
 use Rattle.cyc_threads.specs.Steps.{Runs, WhyHalted, IsHalted, StepHalts}
 use Rattle.cyc_threads.specs.declared.working.Worked.{Worked}
-use Rattle.cyc_threads.specs.Working.{refusal_of, HaveMade, Works}
+use Rattle.cyc_threads.specs.Working.{refusal_of_run, HaveMade, BothLevelsMake}
 use Rattle.cyc_system_laws.proofs.Spots.{same_some}
 
 some_none : {A : Type 0} {x : A} → Some x ≡ None → ⊥
@@ -83,7 +83,7 @@ module _ {C D : Type 0} (handler : Calls C) (draining : Drain D) where
   kept_all sides hs ds p q = each_then HasPromised (HaveKept draining handler) Both kept_one sides hs ds p q
 
   makes_one : (level : Level) (a : SoftSide D C) (d : Drained D C) → HasDrained draining (handler_at handler level) a d
-      → d.refused ≡ None → Makes draining (handler_at handler level) a (side_of d)
+      → d.refused ≡ None → MakesCalls draining (handler_at handler level) a (side_of d)
   makes_one level a d h none = looked_makes draining (handler_at handler level) a d
       (subst (λ o. IfNone o (HasLooked draining (handler_at handler level) a d)) none h.stopped)
 
@@ -102,7 +102,7 @@ module _ {C D : Type 0} (handler : Calls C) (draining : Drain D) where
       → HasDrained draining (handler_at handler level) a d →
       d.refused ≡ Some r → e ≡ HandlerRefused r.id → HandlerRefuses handler.may_refuse e
   can_refuse level a d r e h some is = let x =
-      subst (λ o. IfSome o (λ y. IsRefused draining (handler_at handler level) a y (side_of d))) some h.refused in
+      subst (λ o. IfSome o (λ y. IsRefusedCall draining (handler_at handler level) a y (side_of d))) some h.refused in
       (r.id, is, (x.0, x.2))
 
   first_why : (n : ℕ) (fire : Option Fire) (sides : List (Levels (SoftSide D C))) (ds : List (Levels (Drained D C))) (e : Refusal)
@@ -185,7 +185,7 @@ module _ {C R D : Type 0} (handler : Calls C) (firing : Raise R) (draining : Dra
   -- what the refusal that counts first is of
   pub why_refused : {A : Type 0} (taken : Result A Halt) (e : Refusal)
       → IfErr taken (λ h. WhyHalted handler firing a steps h) →
-      refusal_of taken ds ≡ Some e → Why e
+      refusal_of_run taken ds ≡ Some e → Why e
   why_refused (Ok x) e w is = no_fire e (of_soft None e is)
   why_refused (Err (halt.Refused x)) e w is = inl (sym (same_some is) ∙ memory_why x w)
   why_refused (Err (halt.Told id)) e w is = by (first_in (refusals_from 0 None ds)) (λ x q. of_soft None x q) is
@@ -207,15 +207,15 @@ module _ {C R D : Type 0} (handler : Calls C) (firing : Raise R) (draining : Dra
   pub works_all : (taken : Result (Progress R C) Halt) (answer : Result (Worked R D C) Refusal) →
       IfOk taken (λ t. Runs handler firing a steps t)
       → IfErr taken (λ h. WhyHalted handler firing a steps h) →
-      IfOk answer (λ w. refusal_of taken ds ≡ None) → IfOk answer (λ w. taken ≡ Ok w.lead)
+      IfOk answer (λ w. refusal_of_run taken ds ≡ None) → IfOk answer (λ w. taken ≡ Ok w.lead)
       → IfOk answer (λ w. w.soft.items ≡ map both_sides ds) →
-      IfErr answer (λ e. (e ≡ Memory) ⊎ (refusal_of taken ds ≡ Some e))
-      → Works handler firing draining (record { steps = steps; lead = a; sides = sides }) answer
+      IfErr answer (λ e. (e ≡ Memory) ⊎ (refusal_of_run taken ds ≡ Some e))
+      → BothLevelsMake handler firing draining (record { steps = steps; lead = a; sides = sides }) answer
   works_all taken (Ok w) r h none lead left why = record {
     runs = IfOk-at_ok (λ t. Runs handler firing a steps t) lead r;
     makes = subst (λ (x : List (Levels (SoftSide D C))). EachTwo (HaveMade draining handler) sides x)
         (sym left) (makes_all handler draining 0 sides ds drained
-        (subst (λ (x : Result (Progress R C) Halt). refusal_of x ds ≡ None) lead none));
+        (subst (λ (x : Result (Progress R C) Halt). refusal_of_run x ds ≡ None) lead none));
   }
   works_all taken (Err e) r h none lead left (inl m) = inl m
   works_all taken (Err e) r h none lead left (inr is) = inr (record {

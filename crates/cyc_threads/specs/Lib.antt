@@ -1,4 +1,3 @@
-pub mod Names
 pub mod SameSeats
 pub mod StepCalls
 pub mod Words

@@ -18,7 +18,7 @@ use Rattle.cyc_thread_rings.specs.Rings.{AreNew, soft_seats, soft_seats_on}
 use Rattle.cyc_threads.specs.declared.progress.Progress.{Progress}
 use Rattle.cyc_threads.specs.Working.{HaveRefused}
 use Rattle.cyc_threads.specs.declared.running.Ended.{Ended}
-use Rattle.cyc_threads.specs.Running.{calls_of, IsAtFirst, HasRun}
+use Rattle.cyc_threads.specs.Running.{all_handlers, IsAtFirst, HasRun}
 
 -- Over these seats a run was refused so: the lead began with ends of them, each draining worker with the drain seat of its own
 -- ring and the handlers beside it, and of the refusals that they came to this one counts first. What they came to is dropped with
@@ -39,7 +39,7 @@ WhyNotPlayed handler script before e =
 -- the same over new rings, with these handlers
 abbrev pub WhyNotRun : {C : Type 0} → Calls C → Script → List C → Refusal → Type 0
 WhyNotRun {C} handler script calls e = (e ≡ Memory) ⊎ (HandlerRefuses handler.may_refuse e × (before : List (Seated C))
-    × (calls_of before ≡ calls) × All (AreNew script.ceiling) (map (λ s. s.seats) before)
+    × (all_handlers before ≡ calls) × All (AreNew script.ceiling) (map (λ s. s.seats) before)
     × PlayRefuses handler script before e)
 
 -- why a run stopped, and what was written: nothing where it was refused, and of its text a prefix where the sink failed

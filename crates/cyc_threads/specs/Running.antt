@@ -15,7 +15,7 @@ use Rattle.cyc_thread_rings.specs.declared.levels.Levels.{Levels}
 use Rattle.cyc_thread_rings.specs.declared.levels.Seated.{Seated}
 use Rattle.cyc_thread_rings.specs.Laid.{three, two}
 use Rattle.cyc_thread_rings.specs.Rings.{AreNew, AreClosed, seats_of_ends, firing_seats, seats_on}
-use Rattle.cyc_threads.specs.declared.named.Named.TheVariants.{Nothing}
+use Rattle.cyc_words.specs.declared.named.Named.TheVariants.{Nothing}
 use Rattle.cyc_threads.specs.declared.progress.Progress.{Progress}
 use Rattle.cyc_threads.specs.declared.counting.Line.{Line}
 use Rattle.cyc_threads.specs.Steps.{Runs}
@@ -28,8 +28,8 @@ abbrev pub most : ℕ
 most = 18446744073709551615
 
 -- all handlers of a system, CPU after CPU: firing, lock, low
-abbrev pub calls_of : {C : Type 0} → List (Seated C) → List C
-calls_of all = flat_map three (map (λ s. s.calls) all)
+abbrev pub all_handlers : {C : Type 0} → List (Seated C) → List C
+all_handlers all = flat_map three (map (λ s. s.calls) all)
 
 -- The lead before the first step: the system has no cyclic, its CPUs are over ends of these seats, and all of them are online. No
 -- id was given yet, the clock stands at 0, no name has anything, and each CPU fires with its own high handlers.
@@ -81,8 +81,8 @@ pub record HasRun {C : Type 0} (handler : Calls C) (script : Script) (calls : Li
   pub before : List (Seated C)
   pub after : List (Seated C)
   pub many : length before ≡ script.cpus
-  pub given : calls_of before ≡ calls
-  pub back : e.calls.items ≡ calls_of after
+  pub given : all_handlers before ≡ calls
+  pub back : e.calls.items ≡ all_handlers after
   -- on the rings nothing was done before
   pub new : All (AreNew script.ceiling) (map (λ s. s.seats) before)
   pub lines : List Line

@@ -14,13 +14,13 @@ use Rattle.cyc_system_laws.specs.Sound.{IsSound}
 use Rattle.cyc_system_workers.specs.declared.advancing.Advanced.{Advanced}
 use Rattle.cyc_system_workers.specs.Advancing.{AllFire}
 use Rattle.cyc_system_workers.specs.Settling.{OnlyAsked}
-use Rattle.cyc_threads.specs.declared.named.Named.TheVariants.{Leaving}
+use Rattle.cyc_words.specs.declared.named.Named.TheVariants.{Leaving}
 use Rattle.cyc_threads.specs.declared.progress.Progress.{Progress}
-use Rattle.cyc_threads.specs.Names.{named_at, news, noted, NoneLeaves}
+use Rattle.cyc_words.specs.Names.{named_at, news, noted, NoneLeaves}
 
 -- there is something to lead each CPU
-abbrev pub IsReady : {C R : Type 0} → Progress R C → Type 0
-IsReady p = length p.side.leads.items ≡ length p.side.system.cpus.cpus
+abbrev pub HasLeads : {C R : Type 0} → Progress R C → Type 0
+HasLeads p = length p.side.leads.items ≡ length p.side.system.cpus.cpus
 
 -- the system did this call, for the cyclic of the name of this number, which has what the answer tells; nothing else changed
 pub record CallsFor {C R : Type 0} (firing : Raise R) (name : ℕ) (call : SystemCall)
@@ -41,7 +41,7 @@ abbrev pub Polls : {C R : Type 0} → Raise R → Progress R C → Poll → Prog
 Polls firing s p t = (named_at s.names p.name ≡ Leaving p.id) × CallsFor firing p.name (PollRemove p.id p.answer) s t
 
 -- every CPU was asked until it had settled, no removal is open, and nothing else was done
-pub record Settles {C R : Type 0} (firing : Raise R) (s t : Progress R C) : Type 0 where
+pub record SettlesAll {C R : Type 0} (firing : Raise R) (s t : Progress R C) : Type 0 where
   pub asked : OnlyAsked firing s.side t.side
   pub settled : AllSettled firing.view t.side.system.cpus.cpus
   pub none : NoneLeaves t.names
@@ -52,17 +52,17 @@ pub record Settles {C R : Type 0} (firing : Raise R) (s t : Progress R C) : Type
 -- open removals were polled until each had answered, and then the CPUs settled
 abbrev pub Waits : {C R : Type 0} → Raise R → Progress R C → Progress R C → Type 0
 Waits {C} {R} firing s t =
-    (polls : List Poll) × (u : Progress R C) × FoldsTo (Polls firing) s polls u × Settles firing u t
+    (polls : List Poll) × (u : Progress R C) × FoldsTo (Polls firing) s polls u × SettlesAll firing u t
 
 -- why the fire of a CPU was refused: it was not, or the CPU is not online and did not fire
-abbrev pub refusal_of : Option (Result Fired FireRefused) → Option Refusal
-refusal_of None = None
-refusal_of (Some (Ok fired)) = None
-refusal_of (Some (Err refused)) = Some refused.why
+abbrev pub refusal_of_fire : Option (Result Fired FireRefused) → Option Refusal
+refusal_of_fire None = None
+refusal_of_fire (Some (Ok fired)) = None
+refusal_of_fire (Some (Err refused)) = Some refused.why
 
 -- the same of the CPU of a number, by the answers of all CPUs
 abbrev pub refusal_at : List (Option (Result Fired FireRefused)) → ℕ → Option Refusal
-refusal_at answers n = refusal_of (slice_index_or answers n None)
+refusal_at answers n = refusal_of_fire (slice_index_or answers n None)
 
 -- the fire of this CPU was refused so, and that of no CPU with a smaller number
 pub record IsFirstRefused (answers : List (Option (Result Fired FireRefused))) (n : ℕ) (why : Refusal) : Type 0 where

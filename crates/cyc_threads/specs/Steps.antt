@@ -58,11 +58,11 @@ StepHalts handler firing x s h = IsTold handler.may_refuse h
 -- a step ended a run, after those before it were taken
 pub record IsHalted {C R : Type 0} (handler : Calls C)
     (firing : Raise R) (s : Progress R C) (all : List Step) (h : Halt) : Type 0 where
-  pub place : ℕ
+  pub position : ℕ
   pub last : Step
-  pub here : (place < length all) × (slice_index_or all place last ≡ last)
+  pub here : (position < length all) × (slice_index_or all position last ≡ last)
   pub before : Progress R C
-  pub taken : TakesSteps handler firing s (take place all) before
+  pub taken : TakesSteps handler firing s (take position all) before
   pub halts : StepHalts handler firing last before h
 
 -- why the steps ended early: one of them ended the run; or all of them were taken, and in the wait after them the lead heard that

@@ -13,7 +13,7 @@ use Rattle.cyc_soft.specs.declared.SoftSide.{SoftSide}
 use Rattle.cyc_workers.specs.declared.draining.Drained.{Drained}
 use Rattle.cyc_threads.specs.declared.halt.Halt.{Halt}
 use Rattle.cyc_threads.specs.declared.halt.Halt.TheVariants as halt
-use Rattle.cyc_workers.specs.Draining.{Makes}
+use Rattle.cyc_workers.specs.Draining.{MakesCalls}
 use Rattle.cyc_thread_rings.specs.declared.levels.Levels.{Levels}
 use Rattle.cyc_thread_rings.specs.Working.{HaveDrained}
 use Rattle.cyc_thread_rings.specs.Refusing.{refusals_from, first_in}
@@ -24,20 +24,20 @@ use Rattle.cyc_threads.specs.declared.working.Worked.{Worked}
 -- The refusal that a run ends with, by how the steps ended and by what the draining workers left: where memory was refused that
 -- comes first, and else that of the smallest CPU, firing before lock before low. Where the lead heard of a refusal by a draining
 -- worker and none of them left one, it is that of the id which it heard.
-abbrev pub refusal_of : {A D C : Type 0} → Result A Halt → List (Levels (Drained D C)) → Option Refusal
-refusal_of (Ok a) drained = first_in (refusals_from 0 None drained)
-refusal_of (Err (halt.Refused e)) drained = Some e
-refusal_of (Err (halt.Fired n why)) drained = Some (unwrap_or (first_in (refusals_from 0 (Some record {
+abbrev pub refusal_of_run : {A D C : Type 0} → Result A Halt → List (Levels (Drained D C)) → Option Refusal
+refusal_of_run (Ok a) drained = first_in (refusals_from 0 None drained)
+refusal_of_run (Err (halt.Refused e)) drained = Some e
+refusal_of_run (Err (halt.Fired n why)) drained = Some (unwrap_or (first_in (refusals_from 0 (Some record {
   cpu = n;
   why =
       why;
 }) drained)) why)
-refusal_of (Err (halt.Told id)) drained = Some (unwrap_or (first_in (refusals_from 0 None drained)) (HandlerRefused id))
+refusal_of_run (Err (halt.Told id)) drained = Some (unwrap_or (first_in (refusals_from 0 None drained)) (HandlerRefused id))
 
 -- the two draining workers of a CPU made the calls that their soft sides finished, each at its own level and on its own handlers
 abbrev pub HaveMade : {D C : Type 0} → Drain D → Calls C → Levels (SoftSide D C) → Levels (SoftSide D C) → Type 0
 HaveMade draining handler s t =
-    Makes draining (handler_at handler Lock) s.lock t.lock × Makes draining (handler_at handler Low) s.low t.low
+    MakesCalls draining (handler_at handler Lock) s.lock t.lock × MakesCalls draining (handler_at handler Low) s.low t.low
 
 -- what the workers are given: the steps to take, the lead before them, and the soft sides, CPU after CPU
 pub record Work (C R D : Type 0) : Type 0 where
@@ -65,12 +65,12 @@ pub record HaveRefused {C R D : Type 0} (handler : Calls C) (firing : Raise R) (
   pub taken : Result (Progress R C) Halt
   pub drained : List (Levels (Drained D C))
   pub ended : HaveEnded handler firing draining a taken drained
-  pub first : refusal_of taken drained ≡ Some e
+  pub first : refusal_of_run taken drained ≡ Some e
 
 -- why the workers were refused: memory or a thread was; or one of them or several were, of which this counts first
 abbrev pub WhyRefused : {C R D : Type 0} → Calls C → Raise R → Drain D → Work C R D → Refusal → Type 0
 WhyRefused handler firing draining a e = (e ≡ Memory) ⊎ HaveRefused handler firing draining a e
 
-abbrev pub Works : {C R D : Type 0} → Calls C → Raise R → Drain D → Work C R D → Result (Worked R D C) Refusal → Type 0
-Works handler firing draining a (Ok b) = HasWorked handler firing draining a b
-Works handler firing draining a (Err e) = WhyRefused handler firing draining a e
+abbrev pub BothLevelsMake : {C R D : Type 0} → Calls C → Raise R → Drain D → Work C R D → Result (Worked R D C) Refusal → Type 0
+BothLevelsMake handler firing draining a (Ok b) = HasWorked handler firing draining a b
+BothLevelsMake handler firing draining a (Err e) = WhyRefused handler firing draining a e

@@ -2,13 +2,13 @@
 
 ghost use Rattle.std.specs.Prelude.{◌≡◌, All, IfOk};
 ghost use Rattle.cyc_system_workers.specs.Settled.{AllSettled};
-ghost use Rattle.cyc_threads.specs.Names.{named_at};
-ghost use Rattle.cyc_threads.specs.Counting.{Asks, TellsOf, Reports, no_line, receipt_line, totals_line};
+ghost use Rattle.cyc_words.specs.Names.{named_at};
+ghost use Rattle.cyc_threads.specs.Counting.{AsksTotalsOf, TellsOf, Reports, no_line, receipt_line, totals_line};
 
-use crate::named::Named;
 use crate::progress::{Progress, sound};
-use cyc_system_workers::SystemTotals;
+use cyc_agreement::SystemTotals;
 use cyc_types::{CyclicId, Raise, Receipt};
+use cyc_words::Named;
 use std::alloc::{AllocError, Global};
 
 /// The counts of one name's cyclic, over all CPUs and all of its stays.
@@ -53,7 +53,7 @@ fn receipt_line(receipt: Receipt) -> Line
 
 /// Asks for the totals of a cyclic.
 fn ask<R: Raise, C>(progress: &mut Progress<R, C>, id: CyclicId) -> Line
-    ensures did { Asks R.Raise id result progress.old progress.new }
+    ensures did { AsksTotalsOf R.Raise id result progress.old progress.new }
     ensures names { progress.new.names ≡ progress.old.names }
 {
     let answer = progress.side.system.totals(id);

@@ -1,16 +1,18 @@
 //! What the thread that leads a run has before its first step.
 
 ghost use Rattle.std.specs.Prelude.{◌≡◌, ◌<◌, ◌≤◌, [], All, map, length, replicate, IfOk, IfErr};
+ghost use Rattle.cyc_types.specs.Limits.{most_cpus};
 ghost use Rattle.cyc_types.specs.declared.refusal.Refusal.TheVariants.{Memory};
 ghost use Rattle.cyc_cpu.specs.Cpu.{IsFresh};
 ghost use Rattle.cyc_agreement.specs.Cpus.{new_cpus};
 ghost use Rattle.cyc_system_laws.specs.Sound.{IsSound};
-ghost use Rattle.cyc_threads.specs.StepCalls.{IsReady};
-ghost use Rattle.cyc_threads.specs.declared.named.Named.TheVariants.{Nothing};
+ghost use Rattle.cyc_threads.specs.StepCalls.{HasLeads};
+ghost use Rattle.cyc_words.specs.declared.named.Named.TheVariants.{Nothing};
 ghost use Rattle.cyc_threads.specs.Running.{most};
 
 use crate::progress::{Progress, begin};
-use cyc_system_workers::{System, SystemSide};
+use cyc_system::System;
+use cyc_system_workers::SystemSide;
 use cyc_types::{CyclicId, Raise, Refusal};
 use cyc_workers::Lead;
 use std::alloc::Global;
@@ -27,7 +29,7 @@ pub(crate) fn lead<R: Raise + Drop, C: Drop>(
     names: usize,
 ) -> Result<Progress<R, C>, Refusal>
     requires some { 0 < length ends.items }
-    requires few { length ends.items ≤ 16 }
+    requires few { length ends.items ≤ most_cpus }
     requires fresh { All (λ e. IsFresh (R.view e.0) × IsFresh (R.view e.1)) ends.items }
     requires leads { length leads.items ≡ length ends.items }
     ensures cpus { IfOk result (λ p. p.side.system.cpus ≡ new_cpus most ends.items) }
@@ -36,7 +38,7 @@ pub(crate) fn lead<R: Raise + Drop, C: Drop>(
     ensures leads { IfOk result (λ p. p.side.leads ≡ leads) }
     ensures clock { IfOk result (λ p. p.clock ≡ 0) }
     ensures names { IfOk result (λ p. p.names ≡ replicate names Nothing) }
-    ensures ready { IfOk result IsReady }
+    ensures ready { IfOk result HasLeads }
     ensures sound { IfOk result (λ p. IsSound R.view p.side.system) }
     ensures refused { IfErr result (λ e. e ≡ Memory) }
 {

@@ -7,15 +7,11 @@
 //! rings, each CPU keeps its two.
 #![tactic(auto)]
 
-mod adding;
 mod advancing;
-mod changing;
 mod counting;
 mod halt;
 mod leading;
-mod named;
 mod progress;
-mod removing;
 mod reporting;
 mod ring_seats;
 mod running;

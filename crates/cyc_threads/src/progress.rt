@@ -1,12 +1,13 @@
 //! What the thread that leads a run has between two steps.
 
 ghost use Rattle.std.specs.Prelude.{◌≡◌, replicate, IfOk};
-ghost use Rattle.cyc_threads.specs.declared.named.Named.TheVariants as named;
+ghost use Rattle.cyc_words.specs.declared.named.Named.TheVariants as named;
 ghost use Rattle.cyc_system_laws.specs.Sound.{IsSound};
 
-use crate::named::Names;
-use cyc_system_workers::{System, SystemSide};
+use cyc_system::System;
+use cyc_system_workers::SystemSide;
 use cyc_types::{Moment, Raise};
+use cyc_words::Names;
 use std::alloc::{AllocError, Global};
 
 /// What the thread that leads a run has between two steps: the firing side of the system, the clock, and what each name has.

@@ -1,7 +1,7 @@
 //! The report of a run as one text.
 
 ghost use Rattle.std.specs.Prelude.{◌≡◌, map, string_bytes, IfOk};
-ghost use Rattle.cyc_threads.specs.Reporting.{counts_of, report_text};
+ghost use Rattle.cyc_threads.specs.Reporting.{counts_told, report_text};
 
 use crate::counting::Line;
 use cyc_text::{Counts, write_report};
@@ -9,7 +9,7 @@ use std::alloc::{AllocError, Global};
 
 /// What the report says of a name: its calls are the expirations that were not lost.
 fn counts_of(line: &Line) -> Counts
-    ensures { result ≡ counts_of line.now }
+    ensures { result ≡ counts_told line.now }
 {
     Counts {
         expired: line.expired,
@@ -29,8 +29,12 @@ pub(crate) fn report_text(
 {
     let mut text = String::new(alloc);
     let mut line = String::new(alloc);
-    for place in 0..names.len().min(lines.len()) {
-        write_report(&mut line, names[place].as_str(), &counts_of(&lines[place]))?;
+    for position in 0..names.len().min(lines.len()) {
+        write_report(
+            &mut line,
+            names[position].as_str(),
+            &counts_of(&lines[position]),
+        )?;
         text.push_str(line.as_str())?;
     }
     Ok(text)

@@ -10,9 +10,9 @@ ghost use Rattle.cyc_ring.specs.Ends.{raise_end, end_view};
 ghost use Rattle.cyc_thread_rings.specs.Rings.{AreSeated, AreNew, soft_seats, soft_seats_on};
 ghost use Rattle.cyc_threads.specs.declared.progress.Progress.{Progress as OneProgress};
 ghost use Rattle.cyc_system_laws.specs.Sound.{IsSound};
-ghost use Rattle.cyc_threads.specs.StepCalls.{IsReady};
+ghost use Rattle.cyc_threads.specs.StepCalls.{HasLeads};
 ghost use Rattle.cyc_threads.specs.Counting.{Reports};
-ghost use Rattle.cyc_threads.specs.Running.{calls_of, IsAtLast, AreAllClosed, HasRun, HasPlayed};
+ghost use Rattle.cyc_threads.specs.Running.{all_handlers, IsAtLast, AreAllClosed, HasRun, HasPlayed};
 ghost use Rattle.cyc_threads.specs.Refusing.{WhyNotPlayed, WhyNotRun, StopsBy};
 
 use crate::counting::{Line, report};
@@ -22,6 +22,7 @@ use crate::reporting::report_text;
 use crate::working::{Worked, work_all};
 use cyc_ring::{Closed, DrainEnd, RaiseEnd, Ring};
 use cyc_script::Script;
+use cyc_soft::SoftSide;
 use cyc_system_workers::SystemSide;
 use cyc_text::{RunFault, Sink};
 use cyc_thread_rings::{
@@ -29,7 +30,6 @@ use cyc_thread_rings::{
     open_rings, prepare, seat_all, unseat_all,
 };
 use cyc_types::{Calls, Refusal};
-use cyc_workers::SoftSide;
 use std::alloc::{AllocError, Global};
 use std::sync::Wait;
 use std::thread::Threads;
@@ -56,7 +56,7 @@ fn leave_cpus<'a, C: Calls + Drop>(
     lead: Progress<RaiseEnd<'a>, C>,
     soft: Vec<Levels<SoftSide<DrainEnd<'a>, C>>>,
 ) -> Result<Vec<Seated<C>>, AllocError>
-    requires ready { IsReady lead }
+    requires ready { HasLeads lead }
     requires soft { length soft.items ≡ length lead.side.system.cpus.cpus }
     ensures last { IfOk result (λ all. IsAtLast all.items lead.entry) }
     ensures soft { IfOk result (λ all. map soft_seats all.items ≡ map soft_seats_on soft.entry.items) }
@@ -75,7 +75,7 @@ fn leave_rings<'a, C: Calls + Drop>(
     alloc: Global,
     worked: Worked<RaiseEnd<'a>, DrainEnd<'a>, C>,
 ) -> Result<Played<C>, Refusal>
-    requires ready { IsReady worked.lead }
+    requires ready { HasLeads worked.lead }
     requires sound { IsSound end_view worked.lead.side.system }
     requires soft { length worked.soft.items ≡ length worked.lead.side.system.cpus.cpus }
     ensures left { IfOk result (λ p. (told : OneProgress FiringEnd _)
@@ -125,7 +125,7 @@ fn seat_new<C: Drop>(
 ) -> Result<(Vec<Levels<Ring>>, Vec<Seated<C>>), Refusal>
     requires { length calls.items ≡ 3 * script.now.cpus }
     ensures many { IfOk result (λ r. length r.1.items ≡ script.now.cpus) }
-    ensures given { IfOk result (λ r. calls_of r.1.items ≡ calls.items) }
+    ensures given { IfOk result (λ r. all_handlers r.1.items ≡ calls.items) }
     ensures new { IfOk result (λ r. All (AreNew script.now.ceiling) (map (λ s. s.seats) r.1.items)) }
     ensures seated { IfOk result (λ r. EachTwo AreSeated r.0.items (map (λ s. s.seats) r.1.items)) }
     ensures refused { IfErr result (λ e. e ≡ Memory) }
@@ -144,7 +144,7 @@ fn close_all<C: Drop>(
     all: Vec<Seated<C>>,
 ) -> Result<Ended<C>, AllocError>
     requires { EachTwo AreSeated rings.items (map (λ s. s.seats) all.items) }
-    ensures calls { IfOk result (λ e. e.calls.items ≡ calls_of all.items) }
+    ensures calls { IfOk result (λ e. e.calls.items ≡ all_handlers all.items) }
     ensures rings { IfOk result (λ e. AreAllClosed all.items e.rings.items) }
 {
     let (seats, handlers) = unseat_all(alloc, all)?;

@@ -3,20 +3,19 @@
 ghost use Rattle.std.specs.Prelude.{◌≡◌, ◌<◌, ℕ, IfOk, IfErr};
 ghost use Rattle.cyc_types.specs.Series.{never};
 ghost use Rattle.cyc_script.specs.declared.step.Step.TheVariants as steps;
-ghost use Rattle.cyc_threads.specs.StepCalls.{IsReady};
-ghost use Rattle.cyc_threads.specs.Words.{Begins, Does, TakesStep, waits_first};
+ghost use Rattle.cyc_words.specs.Words.{MakesCall};
+ghost use Rattle.cyc_threads.specs.StepCalls.{HasLeads};
+ghost use Rattle.cyc_threads.specs.Words.{Begins, DoesStep, TakesStep, waits_first};
 ghost use Rattle.cyc_threads.specs.Steps.{IsTold, IsBefore, Runs, StepHalts, WhyHalted};
 
-use crate::adding::{add, add_omni};
 use crate::advancing::advance_clock;
-use crate::changing::{bind, juggle, offline, online, reprogram, resume, suspend};
 use crate::halt::Halt;
 use crate::progress::Progress;
-use crate::removing::remove;
-use crate::waiting::wait;
+use crate::waiting::{wait, wake_all};
 use cyc_script::{Script, Step};
-use cyc_system_workers::Signals;
 use cyc_types::{Calls, Raise};
+use cyc_words::take_word;
+use cyc_workers::Signals;
 use std::alloc::Global;
 use std::sync::Wait;
 use std::thread::Threads;
@@ -40,7 +39,7 @@ fn begin_step<W: Wait, R: Raise + Drop, C: Calls + Drop>(
     step: &Step,
     signals: &Signals<C>,
 ) -> Result<Progress<R, C>, Halt>
-    requires { IsReady progress }
+    requires { HasLeads progress }
     ensures begun { IfOk result (λ after. Begins R.Raise (waits_first step.now) progress after) }
     ensures halted { IfErr result (λ h. IsTold C.may_refuse h) }
 {
@@ -50,33 +49,39 @@ fn begin_step<W: Wait, R: Raise + Drop, C: Calls + Drop>(
     wait(rt, progress, signals)
 }
 
-/// The call of a step.
+/// The word of a step that makes a call. After a `remove` it wakes the draining workers, which make the calls that are kept.
+fn do_word<R: Raise, C: Calls>(progress: &mut Progress<R, C>, word: &Step)
+    requires { MakesCall word.now }
+    ensures { DoesStep C.Calls R.Raise word.now progress.old progress.new }
+{
+    let _answer = take_word(
+        &mut progress.side.system,
+        &mut progress.names,
+        progress.clock,
+        word,
+    );
+    if let Step::Remove(_) = word {
+        wake_all(progress.side.leads.as_slice());
+    }
+}
+
+/// What a step does.
 fn do_step<W: Threads + Wait, R: Raise + Send + Drop, C: Calls + Send + Drop>(
     rt: &W,
     alloc: Global,
     progress: Progress<R, C>,
     step: &Step,
 ) -> Result<Progress<R, C>, Halt>
-    requires ready { IsReady progress }
+    requires ready { HasLeads progress }
     requires before { IsBefore step.now }
-    ensures did { IfOk result (λ after. Does C.Calls R.Raise step.now progress after) }
+    ensures did { IfOk result (λ after. DoesStep C.Calls R.Raise step.now progress after) }
     ensures halted { IfErr result (λ h. StepHalts C.Calls R.Raise step.now progress h) }
 {
     let mut progress = progress;
     match step {
-        Step::Add(added) => add(&mut progress, added),
-        Step::Omni(added) => add_omni(&mut progress, added),
-        Step::Bind(bound) => bind(&mut progress, bound.name, Some(bound.cpu)),
-        Step::Unbind(name) => bind(&mut progress, *name, None),
-        Step::Reprogram(moved) => reprogram(&mut progress, moved),
-        Step::Remove(name) => remove(&mut progress, *name),
         Step::Advance(now) => return advance_clock(rt, alloc, progress, *now),
         Step::Softint(_) => (),
-        Step::Juggle(cpu) => juggle(&mut progress, *cpu),
-        Step::Offline(cpu) => offline(&mut progress, *cpu),
-        Step::Online(cpu) => online(&mut progress, *cpu),
-        Step::Suspend => suspend(&mut progress),
-        Step::Resume => resume(&mut progress),
+        _ => do_word(&mut progress, step),
     }
     Ok(progress)
 }
@@ -89,7 +94,7 @@ fn take_step<W: Threads + Wait + Sync, R: Raise + Send + Drop, C: Calls + Send +
     step: &Step,
     signals: &Signals<C>,
 ) -> Result<Progress<R, C>, Halt>
-    requires ready { IsReady progress }
+    requires ready { HasLeads progress }
     requires before { IsBefore step.now }
     ensures taken { IfOk result (λ after. TakesStep C.Calls R.Raise progress step.now after) }
     ensures halted { IfErr result (λ h. StepHalts C.Calls R.Raise step.now progress h) }
@@ -116,13 +121,13 @@ pub fn take_steps<W: Threads + Wait + Sync, R: Raise + Send + Drop, C: Calls + S
     script: &Script,
     signals: &Signals<C>,
 ) -> Result<Progress<R, C>, Halt>
-    requires { IsReady progress }
+    requires { HasLeads progress }
     ensures ran { IfOk result (λ after. Runs C.Calls R.Raise progress script.now.steps.items after) }
     ensures halted { IfErr result (λ h. WhyHalted C.Calls R.Raise progress script.now.steps.items h) }
 {
     let mut progress = progress;
-    for place in 0..script.steps.len() {
-        progress = take_step(rt, alloc, progress, &script.steps[place], signals)?;
+    for position in 0..script.steps.len() {
+        progress = take_step(rt, alloc, progress, &script.steps[position], signals)?;
     }
     wait(rt, progress, signals)
 }

@@ -6,15 +6,16 @@ ghost use Rattle.cyc_types.specs.declared.receipt.Receipt.{Receipt};
 ghost use Rattle.cyc_types.specs.declared.refusal.Refusal.{Refusal};
 ghost use Rattle.cyc_system_workers.specs.Calls.{PollRemove};
 ghost use Rattle.cyc_system_workers.specs.WorkersRefusals.{CanRefuse};
-ghost use Rattle.cyc_threads.specs.StepCalls.{CallsFor, Poll, Polls, Waits, IsReady};
-ghost use Rattle.cyc_threads.specs.Names.{NoneLeaves};
+ghost use Rattle.cyc_threads.specs.StepCalls.{CallsFor, Poll, Polls, Waits, HasLeads};
+ghost use Rattle.cyc_words.specs.Names.{NoneLeaves};
 ghost use Rattle.cyc_threads.specs.Steps.{IsTold};
 
 use crate::halt::Halt;
-use crate::named::Named;
 use crate::progress::{Progress, sound};
-use cyc_system_workers::{Asked, Lead, Signals, settle};
+use cyc_system_workers::{Asked, settle};
 use cyc_types::{Calls, CyclicId, Raise};
+use cyc_words::poll;
+use cyc_workers::{Lead, Signals};
 use std::sync::Wait;
 use std::thread;
 
@@ -26,15 +27,12 @@ pub(crate) fn wake_all<C>(leads: &[Lead<C>]) {
 }
 
 /// Polls the open removal of a name once.
-fn poll<R: Raise, C>(progress: &mut Progress<R, C>, leaving: (usize, CyclicId))
+fn poll_once<R: Raise, C>(progress: &mut Progress<R, C>, leaving: (usize, CyclicId))
     ensures { (answer : Result (Option Receipt) Refusal)
         × CallsFor R.Raise leaving.0 (PollRemove leaving.1 answer) progress.old progress.new }
 {
-    let answer = progress.side.system.poll_remove(leaving.1);
-    sound(&progress.side.system);
-    if let Ok(Some(receipt)) = answer {
-        progress.names.set(leaving.0, Named::Removed(receipt));
-    }
+    let (name, id) = leaving;
+    let _answer = poll(&mut progress.side.system, &mut progress.names, name, id);
 }
 
 /// Polls each open removal until it has answered. Between two polls it wakes the draining workers. The answer is None then, and
@@ -53,7 +51,7 @@ fn poll_all<W: Wait, R: Raise, C: Calls>(
         let Some(leaving) = progress.names.leaving() else {
             return None;
         };
-        poll(progress, leaving);
+        poll_once(progress, leaving);
         if let Some(id) = signals.refused() {
             return Some(id);
         }
@@ -69,7 +67,7 @@ pub(crate) fn wait<W: Wait, R: Raise + Drop, C: Calls + Drop>(
     progress: Progress<R, C>,
     signals: &Signals<C>,
 ) -> Result<Progress<R, C>, Halt>
-    requires { IsReady progress }
+    requires { HasLeads progress }
     ensures waited { IfOk result (λ after. Waits R.Raise progress after) }
     ensures halted { IfErr result (λ h. IsTold C.may_refuse h) }
 {

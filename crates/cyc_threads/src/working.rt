@@ -3,18 +3,19 @@
 ghost use Rattle.std.specs.Prelude.{◌≡◌, ◌⊎◌, map, IfOk, IfErr, Ok, Some, None};
 ghost use Rattle.cyc_types.specs.declared.refusal.Refusal.TheVariants.{Memory};
 ghost use Rattle.cyc_thread_rings.specs.Working.{sides_of, both_sides};
-ghost use Rattle.cyc_threads.specs.StepCalls.{IsReady};
-ghost use Rattle.cyc_threads.specs.Working.{refusal_of, Works};
+ghost use Rattle.cyc_threads.specs.StepCalls.{HasLeads};
+ghost use Rattle.cyc_threads.specs.Working.{refusal_of_run, BothLevelsMake};
 
 use crate::halt::Halt;
 use crate::progress::Progress;
 use crate::stepping::take_steps;
 use cyc_script::Script;
+use cyc_soft::SoftSide;
 use cyc_thread_rings::{
     Drainer, Fire, Levels, first_refusal, join_all, soft_sides, start_all, stop_all,
 };
 use cyc_types::{Calls, Drain, Raise, Refusal};
-use cyc_workers::{Drained, Signals, SoftSide, Wakers};
+use cyc_workers::{Drained, Signals, Wakers};
 use std::alloc::Global;
 use std::sync::{Arc, Wait};
 use std::thread;
@@ -33,7 +34,7 @@ fn refusal<R: Raise, D, C>(
     taken: &Result<Progress<R, C>, Halt>,
     drained: &[Levels<Drained<D, C>>],
 ) -> Option<Refusal>
-    ensures { result ≡ refusal_of taken.now drained.now }
+    ensures { result ≡ refusal_of_run taken.now drained.now }
 {
     match taken {
         Ok(_) => first_refusal(&None, drained),
@@ -61,10 +62,10 @@ fn all_left<R: Raise + Drop, D: Drop, C: Drop>(
     taken: Result<Progress<R, C>, Halt>,
     drained: Vec<Levels<Drained<D, C>>>,
 ) -> Result<Worked<R, D, C>, Refusal>
-    ensures none { IfOk result (λ w. refusal_of taken drained.items ≡ None) }
+    ensures none { IfOk result (λ w. refusal_of_run taken drained.items ≡ None) }
     ensures lead { IfOk result (λ w. taken ≡ Ok w.lead) }
     ensures soft { IfOk result (λ w. w.soft.items ≡ map both_sides drained.items) }
-    ensures refused { IfErr result (λ e. (e ≡ Memory) ⊎ (refusal_of taken drained.items ≡ Some e)) }
+    ensures refused { IfErr result (λ e. (e ≡ Memory) ⊎ (refusal_of_run taken drained.items ≡ Some e)) }
 {
     if let Some(why) = refusal(&taken, drained.as_slice()) {
         return Err(why);
@@ -94,8 +95,8 @@ fn work<
     lead: Progress<R, C>,
     script: &Script,
 ) -> Result<Worked<R, D, C>, Refusal>
-    requires { IsReady lead }
-    ensures { Works C.Calls R.Raise D.Drain
+    requires { HasLeads lead }
+    ensures { BothLevelsMake C.Calls R.Raise D.Drain
         (record { steps = script.now.steps.items; lead = lead; sides = map sides_of drainers.items }) result }
 {
     let mut drained = Vec::with_capacity(alloc, drainers.len())?;
@@ -121,16 +122,16 @@ fn work_in_scope<
     lead: Progress<R, C>,
     script: &Script,
 ) -> Result<Worked<R, D, C>, Refusal>
-    requires { IsReady lead }
-    ensures { Works C.Calls R.Raise D.Drain
+    requires { HasLeads lead }
+    ensures { BothLevelsMake C.Calls R.Raise D.Drain
         (record { steps = script.now.steps.items; lead = lead; sides = map sides_of drainers.items }) result }
 {
     thread::scope(
         thread::scope_env(),
         rt,
         |scope| -> Result<Worked<R, D, C>, Refusal>
-            requires { IsReady lead }
-            ensures { Works C.Calls R.Raise D.Drain (record {
+            requires { HasLeads lead }
+            ensures { BothLevelsMake C.Calls R.Raise D.Drain (record {
               steps = script.entry.now.steps.items;
               lead = lead;
               sides = map sides_of drainers.items;
@@ -157,8 +158,8 @@ pub(crate) fn work_all<
     lead: Progress<R, C>,
     script: &Script,
 ) -> Result<Worked<R, D, C>, Refusal>
-    requires { IsReady lead }
-    ensures { Works C.Calls R.Raise D.Drain
+    requires { HasLeads lead }
+    ensures { BothLevelsMake C.Calls R.Raise D.Drain
         (record { steps = script.now.steps.items; lead = lead; sides = map sides_of drainers.items }) result }
 {
     let signals = Signals::new();

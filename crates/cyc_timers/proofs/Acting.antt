@@ -7,7 +7,7 @@ use Rattle.cyc_types.specs.Firing.{FiringCall, Raises}
 use Rattle.cyc_types.specs.declared.level.Level.{Level}
 use Rattle.cyc_types.specs.declared.level.Level.TheVariants.{Low, Lock, High}
 use Rattle.cyc_types.proofs.Runs.{folds_on, times_on, goes_on}
-use Rattle.cyc_timers.specs.Acts.{Sides, Acts, RaisedOnce, AreRaises, way_losses, id_at}
+use Rattle.cyc_timers.specs.Acts.{Sides, Acts, RaisedOnce, AreRaises, way_losses, id_at_level, acting}
 
 raises_on : (xs ys : List ℕ) (way more : List FiringCall) → AreRaises xs way → AreRaises ys more
     → AreRaises (xs ++ ys) (way ++ more)
@@ -27,9 +27,9 @@ no_raises (call ∷ way) a = absurd a
 
 module _ {C R : Type 0} (called : C → ℕ → C → Type 0) (count : C → ℕ → ℕ) (firing : Raise R) where
   pub acts_more : (hs ks ws hs' ks' ws' hs'' ks'' ws'' : List ℕ) (s m t : Sides C R)
-      (a : Acts called count firing hs ks ws s m) (b : Acts called count firing hs' ks' ws' m t) →
+      (a : Acts (acting called count firing) hs ks ws s m) (b : Acts (acting called count firing) hs' ks' ws' m t) →
       hs'' ≡ hs ++ hs' → ks'' ≡ ks ++ ks' → ws'' ≡ ws ++ ws' →
-      (c : Acts called count firing hs'' ks'' ws'' s t) × (c.lock_way ≡ a.lock_way ++ b.lock_way)
+      (c : Acts (acting called count firing) hs'' ks'' ws'' s t) × (c.lock_way ≡ a.lock_way ++ b.lock_way)
       × (c.low_way ≡ a.low_way ++ b.low_way)
   acts_more hs ks ws hs' ks' ws' hs'' ks'' ws'' s m t a b e f g = (
     record {
@@ -51,8 +51,11 @@ module _ {C R : Type 0} (called : C → ℕ → C → Type 0) (count : C → ℕ
   )
 
   pub act_high : (id : ℕ) (c c' : C) (k w : R) → called c id c' → ((q : ℕ) → count c' q ≡ count c q + times q (id ∷ [])) →
-      (a : Acts called count firing (id ∷ []) [] [] (record { calls = c; lock = k; low = w })
-      (record { calls = c'; lock = k; low = w })) × (0 ≡ way_losses a.lock_way + way_losses a.low_way)
+      (a : Acts (acting called count firing) (id ∷ []) [] [] (record { calls = c; lock = k; low = w }) (record {
+        calls = c';
+        lock = k;
+        low = w;
+      })) × (0 ≡ way_losses a.lock_way + way_losses a.low_way)
   act_high id c c' k w h n = (
     record {
       lock_way = [];
@@ -69,8 +72,11 @@ module _ {C R : Type 0} (called : C → ℕ → C → Type 0) (count : C → ℕ
   )
 
   pub act_lock : (id : ℕ) (c : C) (k k' w : R) (n : ℕ) → RaisedOnce firing id k k' n →
-      (a : Acts called count firing [] (id ∷ []) [] (record { calls = c; lock = k; low = w })
-      (record { calls = c; lock = k'; low = w })) × (n ≡ way_losses a.lock_way + way_losses a.low_way)
+      (a : Acts (acting called count firing) [] (id ∷ []) [] (record { calls = c; lock = k; low = w }) (record {
+        calls = c;
+        lock = k';
+        low = w;
+      })) × (n ≡ way_losses a.lock_way + way_losses a.low_way)
   act_lock id c k k' w n (answer, taught, is) = (
     record {
       lock_way = Raises id answer ∷ [];
@@ -86,8 +92,11 @@ module _ {C R : Type 0} (called : C → ℕ → C → Type 0) (count : C → ℕ
   )
 
   pub act_low : (id : ℕ) (c : C) (k w w' : R) (n : ℕ) → RaisedOnce firing id w w' n →
-      (a : Acts called count firing [] [] (id ∷ []) (record { calls = c; lock = k; low = w })
-      (record { calls = c; lock = k; low = w' })) × (n ≡ way_losses a.lock_way + way_losses a.low_way)
+      (a : Acts (acting called count firing) [] [] (id ∷ []) (record { calls = c; lock = k; low = w }) (record {
+        calls = c;
+        lock = k;
+        low = w';
+      })) × (n ≡ way_losses a.lock_way + way_losses a.low_way)
   act_low id c k w w' n (answer, taught, is) = (
     record {
       lock_way = [];
@@ -105,7 +114,8 @@ module _ {C R : Type 0} (called : C → ℕ → C → Type 0) (count : C → ℕ
 -- one expiration at its level
 module _ {C R : Type 0} (called : C → ℕ → C → Type 0) (count : C → ℕ → ℕ) (firing : Raise R) where
   abbrev pub One : Level → ℕ → Sides C R → Sides C R → ℕ → Type 0
-  One l id s s' n = (a : Acts called count firing (id_at High l id) (id_at Lock l id) (id_at Low l id) s s')
+  One l id s s' n = (a : Acts (acting called count firing) (id_at_level High l id) (id_at_level Lock l id) (id_at_level Low l
+      id) s s')
       × (n ≡ way_losses a.lock_way + way_losses a.low_way)
 
   pub one_high : (l : Level) (id : ℕ) (c c' : C) (k w : R) → l ≡ High → called c id c'

@@ -12,12 +12,23 @@ use Rattle.cyc_types.specs.Runs.{Goes, lost_by}
 use Rattle.cyc_types.proofs.Runs.{lost_on}
 use Rattle.cyc_types.specs.declared.firing.Raised.TheVariants.{First, More, Lost}
 use Rattle.cyc_types.specs.declared.level.Level.{Level}
-use Rattle.cyc_types.specs.Expirations.{Expiration, after, all_after}
+use Rattle.cyc_types.specs.Expirations.{Expiration, after_expirations, all_after}
 use Rattle.cyc_types.specs.Timers.{Timer, HasDistinctIds}
-use Rattle.cyc_types.proofs.Firings.{Firing}
+use Rattle.cyc_types.proofs.Firings.{Firing, after_id}
 use Rattle.cyc_types.specs.Counting.{no_counts}
 use Rattle.cyc_timers.specs.Rows.{Row, Cyclic, IsRow, IsRising, timers_of, cyclic_of, cyclics_of}
-use Rattle.cyc_timers.specs.Acts.{AreRaises, loss_in, way_losses, id_at, ids_at, is_at, is_of, same_level, timer_of, lost_after}
+use Rattle.cyc_timers.specs.Acts.{
+  AreRaises,
+  loss_in,
+  way_losses,
+  id_at_level,
+  ids_at,
+  is_at,
+  is_of_level,
+  same_level,
+  timer_of,
+  lost_after,
+}
 use Rattle.cyc_timers.proofs.Readying.{Edits, edits}
 use Rattle.cyc_timers.proofs.Tables.{timer_of_row, timers_long}
 
@@ -96,16 +107,12 @@ distinct rows rising i j d low_i low_j same =
       ]
     ]
 
-after_id : (now : ℕ) (made : List Expiration) (o : Timer) → (after now made o).id ≡ o.id
-unfolding after
-after_id now made o = refl
-
 pub length-all : (now : ℕ) (made : List Expiration) (ts : List Timer) → length (all_after now made ts) ≡ length ts
 unfolding all_after
-length-all now made ts = length-map ts (after now made)
+length-all now made ts = length-map ts (after_expirations now made)
 
-after_level : (now : ℕ) (made : List Expiration) (o : Timer) → (after now made o).level ≡ o.level
-unfolding after
+after_level : (now : ℕ) (made : List Expiration) (o : Timer) → (after_expirations now made o).level ≡ o.level
+unfolding after_expirations
 after_level now made o = refl
 
 -- the cyclic at a place is the one of its id
@@ -128,10 +135,10 @@ pub origin : (now : ℕ) (made : List Expiration) (ts cur : List Timer) (i : ℕ
     (o : Timer) × (timer_of t.id ts ≡ Some o) × (o.level ≡ t.level)
 unfolding all_after
 origin now made ts cur i t f distinct low is =
-    let long : length cur ≡ length ts = ap length f.is ∙ length-map ts (after now made) in
+    let long : length cur ≡ length ts = ap length f.is ∙ length-map ts (after_expirations now made) in
     let within : i < length ts = omega (arith, long) in
-    let from : t ≡ after now made (get_or ts i t) = is ∙ ap (λ xs. get_or xs i t) f.is
-    ∙ get_or-map (after now made) ts i t t within in (
+    let from : t ≡ after_expirations now made (get_or ts i t) = is ∙ ap (λ xs. get_or xs i t) f.is
+    ∙ get_or-map (after_expirations now made) ts i t t within in (
       get_or ts i t,
       ap (λ id. timer_of id ts) (ap (λ (x : Timer). x.id) from ∙ after_id now made (get_or ts i t))
           ∙ found_at ts i t distinct within,
@@ -143,19 +150,20 @@ pub same_id : (now : ℕ) (made : List Expiration) (ts cur : List Timer) (i : �
     → i < length cur → (get_or cur i d).id ≡ (get_or ts i d).id
 unfolding all_after
 same_id now made ts cur i d is low =
-    let long : length cur ≡ length ts = ap length is ∙ length-map ts (after now made) in
-    ap (λ xs. (get_or xs i d).id) is ∙ ap (λ (x : Timer). x.id) (get_or-map (after now made) ts i d d (omega (arith, long, low)))
+    let long : length cur ≡ length ts = ap length is ∙ length-map ts (after_expirations now made) in
+    ap (λ xs. (get_or xs i d).id) is ∙ ap (λ (x : Timer). x.id) (get_or-map (after_expirations now made) ts i d d (omega
+    (arith, long, low)))
     ∙ after_id now made (get_or ts i d)
 
 -- the ids of one level after one expiration more
 pub ids_more : (l : Level) (ts : List Timer) (made : List Expiration) (p : Expiration) (o : Timer) (own : Level)
     → timer_of p.id ts ≡ Some o → o.level ≡ own →
-    ids_at l ts (made ++ p ∷ []) ≡ ids_at l ts made ++ id_at l own p.id
+    ids_at l ts (made ++ p ∷ []) ≡ ids_at l ts made ++ id_at_level l own p.id
 ids_more l ts made p o own found level =
     ap (map (λ (q : Expiration). q.id)) (filter-append (is_at l ts) made (p ∷ []))
     ∙ map-append (λ (q : Expiration). q.id) (filter (is_at l ts) made) (filter (is_at l ts) (p ∷ []))
     ∙ ap (λ xs. ids_at l ts made ++ xs) (one (is_at l ts p)
-    ∙ ap (λ b. cond b (p.id ∷ []) []) (ap (is_of l) found ∙ ap (same_level l) level))
+    ∙ ap (λ b. cond b (p.id ∷ []) []) (ap (is_of_level l) found ∙ ap (same_level l) level))
   where
     one : (b : Bool) → map (λ (q : Expiration). q.id) (cond b (p ∷ []) []) ≡ cond b (p.id ∷ []) []
     one true = refl

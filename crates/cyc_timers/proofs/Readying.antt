@@ -19,7 +19,7 @@ use Rattle.cyc_types.specs.declared.firing.Sent.{Sent}
 use Rattle.cyc_timers.specs.Rows.{Row, IsRow, IsRising, cyclic_of}
 use Rattle.cyc_timers.specs.Made.{HasCounts}
 use Rattle.cyc_timers.specs.Acts.{loss_in}
-use Rattle.cyc_timers.specs.Ends.{HasStay, HasRow, IsEnd, IsCounted, IsHard}
+use Rattle.cyc_timers.specs.Ends.{HasStay, HasRow, IsEnd, IsCounted, IsHard, lock_and_low}
 use Rattle.cyc_timers.specs.Quiet.{asks_at, KeepsStays}
 
 -- a row after one of its expirations, of which this many were lost
@@ -356,8 +356,8 @@ looks_keep v w answer l = record {
 
 -- the CPU after a change of one row that leaves its id, level, index and counts
 pub hard_moved : {R : Type 0} (view : R → FiringView) (size most : ℕ) (removal : Option ℕ) (lock low : R) (rows : List Row)
-    (i : ℕ) (r u : Row) → IsHard view size most removal lock low rows → IsRow rows i r → Keeps r u →
-    removal ≢ Some r.timer.id → IsHard view size most removal lock low (set rows i u)
+    (i : ℕ) (r u : Row) → IsHard view size most removal (lock_and_low lock low) rows → IsRow rows i r → Keeps r u →
+    removal ≢ Some r.timer.id → IsHard view size most removal (lock_and_low lock low) (set rows i u)
 hard_moved view size most removal lock low rows i r u h is keep still = record {
   ready = record {
     lock_end = end_moved level.Lock size (view lock).marked (view lock) rows i r u h.ready.lock_end is keep
@@ -373,9 +373,9 @@ hard_moved view size most removal lock low rows i r u h is keep still = record {
 
 -- the CPU after calls of the ends that leave their stays
 pub hard_kept : {R : Type 0} (view : R → FiringView) (size most : ℕ) (removal : Option ℕ) (lock low lock' low' : R)
-    (rows : List Row) → IsHard view size most removal lock low rows →
+    (rows : List Row) → IsHard view size most removal (lock_and_low lock low) rows →
     KeepsStays (view lock) (view lock') → Sound (view lock') → KeepsStays (view low) (view low') → Sound (view low')
-    → IsHard view size most removal lock' low' rows
+    → IsHard view size most removal (lock_and_low lock' low') rows
 hard_kept view size most removal lock low lock' low' rows h k sk w sw = record {
   ready = record {
     lock_end = subst (λ m. IsEnd level.Lock size m (view lock') rows) (sym k.marked)

@@ -11,7 +11,7 @@ use Rattle.cyc_types.specs.declared.level.Level.{Level}
 use Rattle.cyc_types.specs.Expirations.{Expiration, expirations, times_of}
 use Rattle.cyc_types.specs.Timers.{Timer, HasDistinctIds}
 use Rattle.cyc_types.proofs.Laws.{times_expirations}
-use Rattle.cyc_timers.specs.Acts.{AreRaises, ids_at, is_at, is_of, same_level, timer_of}
+use Rattle.cyc_timers.specs.Acts.{AreRaises, ids_at, is_at, is_of_level, same_level, timer_of}
 use Rattle.cyc_timers.specs.Shares.{share}
 use Rattle.cyc_timers.proofs.Making.{found_at}
 
@@ -59,7 +59,7 @@ kept false id p ps = omega arith
 -- of the expirations of a level's cyclics an id has its own where its cyclic is of the level
 pub ids_add_up : (id : ℕ) (level : Level) (ts : List Timer) (made : List Expiration)
     → times id (ids_at level ts made) ≡ share level ts made id
-ids_add_up id level ts [] = none (is_of level (timer_of id ts))
+ids_add_up id level ts [] = none (is_of_level level (timer_of id ts))
   where
     none : (b : Bool) → times_of id [] ≡ cond b 0 0
     none true = refl
@@ -67,16 +67,16 @@ ids_add_up id level ts [] = none (is_of level (timer_of id ts))
 ids_add_up id level ts (p ∷ made) =
     let a = kept (is_at level ts p) id p (filter (is_at level ts) made) in
     let r = ids_add_up id level ts made in
-    let same : (p.id == id) ≡ true → is_at level ts p ≡ is_of level (timer_of id ts) =
-    λ e. (let q : p.id ≡ id = grind (arith, nat_tests) in ap (λ j. is_of level (timer_of j ts)) q) in
+    let same : (p.id == id) ≡ true → is_at level ts p ≡ is_of_level level (timer_of id ts) =
+    λ e. (let q : p.id ≡ id = grind (arith, nat_tests) in ap (λ j. is_of_level level (timer_of j ts)) q) in
     a ∙ ap (λ n. cond (is_at level ts p) (cond (p.id == id) 1 0) 0 + n) r
-    ∙ one_more (is_at level ts p) (is_of level (timer_of id ts)) (p.id == id) (times_of id made) same
-    ∙ ap (λ n. cond (is_of level (timer_of id ts)) n 0) (sym (times_of_more id p made))
+    ∙ one_more (is_at level ts p) (is_of_level level (timer_of id ts)) (p.id == id) (times_of id made) same
+    ∙ ap (λ n. cond (is_of_level level (timer_of id ts)) n 0) (sym (times_of_more id p made))
 
 -- in a whole fire a cyclic's share is what was due of it
 pub whole_share : (now : ℕ) (ts : List Timer) (level : Level) (i : ℕ) (d : Timer) → HasDistinctIds ts → i < length ts →
     share level ts (expirations now ts) (get_or ts i d).id ≡ cond (same_level level (get_or ts i d).level)
     (due (get_or ts i d).moment (get_or ts i d).interval now) 0
 whole_share now ts level i d distinct low =
-    ap (λ o. cond (is_of level o) (times_of (get_or ts i d).id (expirations now ts)) 0) (found_at ts i d distinct low)
+    ap (λ o. cond (is_of_level level o) (times_of (get_or ts i d).id (expirations now ts)) 0) (found_at ts i d distinct low)
     ∙ ap (λ n. cond (same_level level (get_or ts i d).level) n 0) (times_expirations now ts i d distinct low)

@@ -12,14 +12,14 @@ use Rattle.cyc_types.specs.Firing.{Sound}
 use Rattle.cyc_types.specs.declared.level.Level.{Level}
 use Rattle.cyc_types.specs.declared.level.Level.TheVariants.{Low, Lock, High}
 use Rattle.cyc_types.specs.Expirations.{Expiration, expirations, next_of, is_before}
-use Rattle.cyc_types.specs.Timers.{Timer, IsSound}
+use Rattle.cyc_types.specs.Timers.{Timer, IsSoundTimer}
 use Rattle.cyc_types.proofs.Firings.{Firing, Expires, fire_step, fire_left, fire_front}
 use Rattle.cyc_timers.specs.declared.table.Record.{Record}
 use Rattle.cyc_timers.specs.Rows.{Row, Cyclic, IsRow, IsRising, IsRecordOf, IsFirstAt, timers, timers_of, cyclic_of, cyclics_of}
 use Rattle.cyc_timers.specs.Rows.{with_counts}
-use Rattle.cyc_timers.specs.Acts.{Sides, way_losses, lost_after, timer_of}
-use Rattle.cyc_timers.specs.Ends.{IsEnd, IsReady}
-use Rattle.cyc_timers.specs.Made.{Makes}
+use Rattle.cyc_timers.specs.Acts.{Sides, way_losses, lost_after, timer_of, acting}
+use Rattle.cyc_timers.specs.Ends.{IsEnd, IsReady, lock_and_low}
+use Rattle.cyc_timers.specs.Made.{Makes, fire_state}
 use Rattle.cyc_timers.proofs.Sparing.{none_high}
 use Rattle.cyc_timers.proofs.Acting.{One, acts_more, losses_on}
 use Rattle.cyc_timers.proofs.Readying.{Advances, ids_apart, end_raised, end_other, counted_still}
@@ -128,14 +128,16 @@ module _ {C R : Type 0} (called : C → ℕ → C → Type 0) (count : C → ℕ
   pub record Turns (now size most : ℕ) (lock_marked low_marked : Option ℕ) (rows0 : List Row) (s0 : Sides C R)
       (made : List Expiration) (rows : List Row) (s : Sides C R) (lost : ℕ) : Type 0 where
     pub rising : IsRising rows
-    pub sound : All IsSound (timers_of rows)
-    pub ready : IsReady firing.view size most lock_marked low_marked s.lock s.low rows
+    pub sound : All IsSoundTimer (timers_of rows)
+    pub ready : IsReady firing.view size most (lock_and_low lock_marked low_marked) (lock_and_low s.lock s.low) rows
     pub fires : Firing now made (timers_of rows0) (timers_of rows)
-    pub makes : Makes called count firing now made (cyclics_of rows0) (cyclics_of rows) s0 s lost
+    pub makes : Makes (acting called count firing) now made (fire_state (cyclics_of rows0) s0)
+        (fire_state (cyclics_of rows) s) lost
     pub few : lost ≤ length made
 
   pub makes_none : (now : ℕ) (cs : List Cyclic) (s : Sides C R) → Firing now [] (timers cs) (timers cs)
-      → Makes called count firing now [] cs cs s s 0
+      → Makes (acting called count firing) now [] (fire_state cs s)
+      (fire_state cs s) 0
   makes_none now cs s f = record {
     acts = record {
       lock_way = [];
@@ -213,7 +215,7 @@ module _ {C R : Type 0} (called : C → ℕ → C → Type 0) (count : C → ℕ
       let soon : r.timer.moment < never = omega (arith, reached, last) in
       let low = timer_low rows i r is in
       let timer = timer_is rows i r is in
-      let old_sound = subst IsSound (sym timer) (t.sound i r.timer low) in
+      let old_sound = subst IsSoundTimer (sym timer) (t.sound i r.timer low) in
       let new_timers = timers_set rows i u in
       let fires' = subst (λ xs. Firing now (made ++ next_of r.timer ∷ []) ts xs) (sym new_timers)
       (fire_step now made ts (timers_of rows) i r.timer u.timer t.fires (distinct rows0 rising0) low timer first
@@ -247,8 +249,8 @@ module _ {C R : Type 0} (called : C → ℕ → C → Type 0) (count : C → ℕ
       t.makes.losses_are in
       record {
         rising = rising_set rows i r u is refl t.rising;
-        sound = subst (λ xs. All IsSound xs) (sym new_timers)
-            (All-set IsSound (timers_of rows) i u.timer
+        sound = subst (λ xs. All IsSoundTimer xs) (sym new_timers)
+            (All-set IsSoundTimer (timers_of rows) i u.timer
             (record { moment = f.bound; some = old_sound.some; most = old_sound.most }) t.sound);
         ready = record {
           lock_end = lock_step r.timer.level size n lock_marked rows i r u s s' refl o t.ready.lock_end t.rising is adv soon

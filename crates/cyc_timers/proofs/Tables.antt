@@ -6,14 +6,14 @@ use Rattle.std.specs.Prelude.{is_some, IfSome}
 use Rattle.std.specs.List.{slice_get}
 use Rattle.std.proofs.lemmas.Option.{slice_get_read}
 use Rattle.cyc_heap.specs.Heap as heap
-use Rattle.cyc_heap.specs.Heap.{HeapView, IsLeast, with_moment}
+use Rattle.cyc_heap.specs.Heap.{HeapView, IsLeast, slots_moved}
 use Rattle.std.proofs.lemmas.Bool.{cases_lt, cases_eq}
 use Rattle.std.proofs.lemmas.List.{get_or_past, get_or-map, get_or_default, same_lists, length-map, length-set, get_or-set_same}
 use Rattle.std.proofs.lemmas.List.{get_or-set_other, set-get_or}
 use Rattle.std.proofs.lemmas.List.Sums.{sum_by-set}
 use Rattle.cyc_types.specs.Series.{never}
 use Rattle.cyc_types.specs.Expirations.{Expiration, is_before, next_of}
-use Rattle.cyc_types.specs.Timers.{Timer, IsSound}
+use Rattle.cyc_types.specs.Timers.{Timer, IsSoundTimer}
 use Rattle.cyc_finder.specs.Sorted.{IsAt, IsGap}
 use Rattle.cyc_finder.specs.Indexes.{Entry, id_in}
 use Rattle.cyc_timers.specs.declared.table.Record.{Record}
@@ -227,16 +227,16 @@ counted r m e l kept (level, interval, expired, lost, carried) =
 
 -- what is left of a slot that gets another moment
 pub moved : (slots new : List (Option Expiration)) (i m id n : ℕ) → get_or slots i None ≡ Some (record { moment = m; id = id }) →
-    new ≡ with_moment slots i n → new ≡ set slots i (Some (record { moment = n; id = id }))
-moved slots new i m id n h is = is ∙ ap (λ o. set slots i (option_map (heap.at_moment n) o)) h
+    new ≡ slots_moved slots i n → new ≡ set slots i (Some (record { moment = n; id = id }))
+moved slots new i m id n h is = is ∙ ap (λ o. set slots i (option_map (heap.expiration_moved n) o)) h
 
 -- what is left of the slots where the root gets another moment
 pub lowered : (root : Option ℕ) (slots new : List (Option Expiration)) (found i m id n : ℕ) → root ≡ Some found → i ≡ found
     → get_or slots i None ≡ Some (record { moment = m; id = id }) →
-    IfSome root (λ index. new ≡ with_moment slots index n) → new ≡ set slots i (Some (record { moment = n; id = id }))
+    IfSome root (λ index. new ≡ slots_moved slots index n) → new ≡ set slots i (Some (record { moment = n; id = id }))
 lowered root slots new found i m id n at same h is =
-    let told : new ≡ with_moment slots found n = subst (λ o. IfSome o (λ index. new ≡ with_moment slots index n)) at is in
-    moved slots new i m id n h (told ∙ ap (λ x. with_moment slots x n) (sym same))
+    let told : new ≡ slots_moved slots found n = subst (λ o. IfSome o (λ index. new ≡ slots_moved slots index n)) at is in
+    moved slots new i m id n h (told ∙ ap (λ x. slots_moved slots x n) (sym same))
 
 -- a slot has one expiration
 pub one_slot : (a b : Expiration) (o : Option Expiration) → o ≡ Some a → o ≡ Some b → a ≡ b
@@ -349,7 +349,7 @@ indexes_low slots records entries t k d low =
 
 pub timers_sound : (slots : List (Option Expiration)) (records : List Record) (entries : List Entry)
     → IsTable slots records entries
-    → All IsSound (timers_of (rows_of slots records entries))
+    → All IsSoundTimer (timers_of (rows_of slots records entries))
 timers_sound slots records entries t k d low =
     let low' : k < length entries = (let l = rows_long slots records entries in omega (arith, l, low)) in
     let p = get_or entries k no_place in
@@ -358,12 +358,12 @@ timers_sound slots records entries t k d low =
     let i = t.intervals p.index no_record (let l = t.long in omega (arith, l, b)) in
     let m' = t.moments p.index _ holds in
     let moment : moment_in (get_or slots p.index None) ≤ never = (let e = ap moment_in holds in omega (arith, e, m')) in
-    subst IsSound (sym (timer_at slots records entries k d low')) (record { moment = moment; some = i.0; most = i.1 })
+    subst IsSoundTimer (sym (timer_at slots records entries k d low')) (record { moment = moment; some = i.0; most = i.1 })
 
 -- the rows where one cyclic gets another moment
 pub replaced : (slots new : List (Option Expiration)) (records : List Record) (entries : List Entry) (k : ℕ) (r : Row)
     (s : Standing slots records entries k r) (m : ℕ) → IsTable slots records entries →
-    new ≡ with_moment slots s.p.index m → rows_of new records entries ≡ set (rows_of slots records entries) k (at_moment m r)
+    new ≡ slots_moved slots s.p.index m → rows_of new records entries ≡ set (rows_of slots records entries) k (at_moment m r)
 replaced slots new records entries k r s m t is =
     let kept = get_or records s.p.index no_record in
     ap (λ xs. rows_of xs records entries) (moved slots new s.p.index s.m s.p.id m s.holds is)
@@ -374,7 +374,7 @@ replaced slots new records entries k r s m t is =
 
 pub table_replaced : (slots new : List (Option Expiration)) (records : List Record) (entries : List Entry) (k : ℕ) (r : Row)
     (s : Standing slots records entries k r) (m : ℕ) → IsTable slots records entries → m ≤ never →
-    new ≡ with_moment slots s.p.index m → IsTable new records entries
+    new ≡ slots_moved slots s.p.index m → IsTable new records entries
 table_replaced slots new records entries k r s m t low is =
     let kept = get_or records s.p.index no_record in
     let i = t.intervals s.p.index no_record (let l = t.long in let b = s.below in omega (arith, l, b)) in

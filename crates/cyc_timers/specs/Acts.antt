@@ -33,21 +33,21 @@ same_level High Low = false
 same_level High Lock = false
 same_level High High = true
 
-abbrev pub is_of : Level → Option Timer → Bool
-is_of level None = false
-is_of level (Some t) = same_level level t.level
+abbrev pub is_of_level : Level → Option Timer → Bool
+is_of_level level None = false
+is_of_level level (Some t) = same_level level t.level
 
 -- the expiration is of a cyclic of this level
 abbrev pub is_at : Level → List Timer → Expiration → Bool
-is_at level ts p = is_of level (timer_of p.id ts)
+is_at level ts p = is_of_level level (timer_of p.id ts)
 
 -- the ids of the expirations of one level, in order
 abbrev pub ids_at : Level → List Timer → List Expiration → List ℕ
 ids_at level ts made = map (λ p. p.id) (filter (is_at level ts) made)
 
 -- the id, where its level is this one
-abbrev pub id_at : Level → Level → ℕ → List ℕ
-id_at level own id = cond (same_level level own) (id ∷ []) []
+abbrev pub id_at_level : Level → Level → ℕ → List ℕ
+id_at_level level own id = cond (same_level level own) (id ∷ []) []
 
 -- the call is a raise of this id
 abbrev pub IsRaise : ℕ → FiringCall → Type 0
@@ -83,17 +83,25 @@ abbrev pub way_losses : List FiringCall → ℕ
 way_losses [] = 0
 way_losses (call ∷ way) = loss_in call + way_losses way
 
+-- how the handlers are called and counted, and what the ends do
+pub record Acting (C R : Type 0) : Type 1 where
+  pub called : C → ℕ → C → Type 0
+  pub count : C → ℕ → ℕ
+  pub firing : Raise R
+
+abbrev pub acting : {C R : Type 0} → (C → ℕ → C → Type 0) → (C → ℕ → ℕ) → Raise R → Acting C R
+acting called count firing = record { called = called; count = count; firing = firing }
+
 -- the handlers of the ids `high` were called, the lock end was raised for the ids `locks` and the low end for the ids
 -- `lows`, each list in order; and nothing else was done to the three
-pub record Acts {C R : Type 0} (called : C → ℕ → C → Type 0) (count : C → ℕ → ℕ) (firing : Raise R)
-    (high locks lows : List ℕ) (s s' : Sides C R) : Type 0 where
+pub record Acts {C R : Type 0} (how : Acting C R) (high locks lows : List ℕ) (s s' : Sides C R) : Type 0 where
   -- what each end did, call by call
   pub lock_way : List FiringCall
   pub low_way : List FiringCall
-  pub called_in_order : FoldsTo called s.calls high s'.calls
-  pub counted : (id : ℕ) → count s'.calls id ≡ count s.calls id + times id high
-  pub lock_goes : Goes firing s.lock lock_way s'.lock
-  pub low_goes : Goes firing s.low low_way s'.low
+  pub called_in_order : FoldsTo how.called s.calls high s'.calls
+  pub counted : (id : ℕ) → how.count s'.calls id ≡ how.count s.calls id + times id high
+  pub lock_goes : Goes how.firing s.lock lock_way s'.lock
+  pub low_goes : Goes how.firing s.low low_way s'.low
   pub lock_raises : AreRaises locks lock_way
   pub low_raises : AreRaises lows low_way
 

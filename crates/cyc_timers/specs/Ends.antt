@@ -35,17 +35,30 @@ pub record IsEnd (soft : Level) (size : ℕ) (marked : Option ℕ) (v : FiringVi
 abbrev pub IsCounted : ℕ → List Row → Type 0
 IsCounted most rows = All (λ r. HasCounts most (cyclic_of r)) rows
 
--- both ends have the cyclics of their levels
-pub record IsReady {R : Type 0} (view : R → FiringView) (size most : ℕ) (lock_marked low_marked : Option ℕ) (lock low : R)
+-- one for each of the two soft levels
+pub record Both (A : Type 0) : Type 0 where
+  pub lock : A
+  pub low : A
+
+abbrev pub lock_and_low : {A : Type 0} → (lock low : A) → Both A
+lock_and_low lock low = record { lock = lock; low = low }
+
+-- both ends have the cyclics of their levels, and the marks of open removals are these
+pub record IsReady {R : Type 0} (view : R → FiringView) (size most : ℕ) (marks : Both (Option ℕ)) (ends : Both R)
     (rows : List Row) : Type 0 where
-  pub lock_end : IsEnd Lock size lock_marked (view lock) rows
-  pub low_end : IsEnd Low size low_marked (view low) rows
+  pub lock_end : IsEnd Lock size marks.lock (view ends.lock) rows
+  pub low_end : IsEnd Low size marks.low (view ends.low) rows
   pub counted : IsCounted most rows
 
+-- the marks at two ends
+abbrev pub marks_at : {R : Type 0} → (R → FiringView) → (lock low : R) → Both (Option ℕ)
+marks_at view lock low = lock_and_low (view lock).marked (view low).marked
+
 -- the firing side of a CPU: both ends are ready, and an open removal is marked at the end of its level
-pub record IsHard {R : Type 0} (view : R → FiringView) (size most : ℕ) (removal : Option ℕ) (lock low : R)
+pub record IsHard {R : Type 0} (view : R → FiringView) (size most : ℕ) (removal : Option ℕ) (ends : Both R)
     (rows : List Row) : Type 0 where
-  pub ready : IsReady view size most (view lock).marked (view low).marked lock low rows
-  pub lock_marked : (id : ℕ) → (view lock).marked ≡ Some id → removal ≡ Some id
-  pub low_marked : (id : ℕ) → (view low).marked ≡ Some id → removal ≡ Some id
-  pub is_open : (id : ℕ) → removal ≡ Some id → ((view lock).marked ≡ Some id) ⊎ ((view low).marked ≡ Some id)
+  pub ready : IsReady view size most (marks_at view ends.lock ends.low) ends rows
+  pub lock_marked : (id : ℕ) → (view ends.lock).marked ≡ Some id → removal ≡ Some id
+  pub low_marked : (id : ℕ) → (view ends.low).marked ≡ Some id → removal ≡ Some id
+  pub is_open : (id : ℕ) → removal ≡ Some id
+      → ((view ends.lock).marked ≡ Some id) ⊎ ((view ends.low).marked ≡ Some id)

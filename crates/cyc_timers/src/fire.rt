@@ -11,9 +11,9 @@ ghost use Rattle.cyc_types.specs.declared.refusal.Refusal.TheVariants.{CountSpen
 ghost use Rattle.cyc_types.specs.Timers.{earliest};
 ghost use Rattle.cyc_types.specs.Expirations.{Expiration, expirations};
 ghost use Rattle.cyc_timers.specs.Rows.{timers_of, cyclics_of};
-ghost use Rattle.cyc_timers.specs.Ends.{IsReady};
-ghost use Rattle.cyc_timers.specs.Made.{Makes, WhyStopped};
-ghost use Rattle.cyc_timers.specs.Acts.{Sides, Acts, RaisedOnce, id_at, way_losses};
+ghost use Rattle.cyc_timers.specs.Ends.{IsReady, lock_and_low, marks_at};
+ghost use Rattle.cyc_timers.specs.Made.{Makes, WhyStopped, fire_state};
+ghost use Rattle.cyc_timers.specs.Acts.{Sides, Acts, RaisedOnce, acting, id_at_level, way_losses};
 
 use crate::table::Table;
 use cyc_types::{
@@ -79,8 +79,8 @@ pub fn expire_at<C: Calls, R: Raise>(
 ) -> Result<u64, Refused>
     requires lock { level ≡ Lock → MayRaise id (R.view lock.old) }
     requires low { level ≡ Low → MayRaise id (R.view low.old) }
-    ensures acts { IfOk result (λ lost. (a : Acts (at_level C.called High) C.count R.Raise (id_at High level id)
-        (id_at Lock level id) (id_at Low level id)
+    ensures acts { IfOk result (λ lost. (a : Acts (acting (at_level C.called High) C.count R.Raise)
+        (id_at_level High level id) (id_at_level Lock level id) (id_at_level Low level id)
         (record { calls = calls.old; lock = lock.old; low = low.old })
         (record { calls = calls.new; lock = lock.new; low = low.new }))
         × (lost ≡ way_losses a.lock_way + way_losses a.low_way)) }
@@ -147,6 +147,13 @@ fn spent(id: CyclicId) -> Refusal
     Refusal::CountSpent(id)
 }
 
+/// What a fire answers that stopped at a refusal.
+fn stopped(why: Refusal, expired: u64, lost: u64) -> FireRefused
+    ensures { result ≡ record { why = why; expired = expired; lost = lost } }
+{
+    FireRefused { why, expired, lost }
+}
+
 /// Makes every expiration that is due, in ascending order (`cyclic_fire`).
 pub fn fire_all<C: Calls, R: Raise>(
     table: &mut Table,
@@ -157,29 +164,30 @@ pub fn fire_all<C: Calls, R: Raise>(
     now: Moment,
 ) -> Result<Fired, FireRefused>
     requires now { now < never }
-    requires ready { IsReady R.view table.old.size most (R.view lock.old).marked
-        (R.view low.old).marked lock.old low.old table.old.rows }
+    requires ready { IsReady R.view table.old.size most (marks_at R.view lock.old low.old) (lock_and_low lock.old low.old)
+        table.old.rows }
 
     // The whole list was made, and no more.
     ensures expired { IfOk result (λ r. r.expired ≡ length (expirations now (timers_of table.old.rows))) }
     ensures next { IfOk result (λ r. r.next ≡ earliest (timers_of table.new.rows)) }
-    ensures made { IfOk result (λ r. Makes (at_level C.called High) C.count R.Raise now
-        (expirations now (timers_of table.old.rows)) (cyclics_of table.old.rows) (cyclics_of table.new.rows)
-        (record { calls = calls.old; lock = lock.old; low = low.old })
-        (record { calls = calls.new; lock = lock.new; low = low.new }) r.lost) }
+    ensures made { IfOk result (λ r. Makes (acting (at_level C.called High) C.count R.Raise) now
+        (expirations now (timers_of table.old.rows))
+        (fire_state (cyclics_of table.old.rows) (record { calls = calls.old; lock = lock.old; low = low.old }))
+        (fire_state (cyclics_of table.new.rows) (record { calls = calls.new; lock = lock.new; low = low.new }))
+        r.lost) }
 
     // The list was made up to an expiration that was refused.
     ensures refused { IfErr result (λ e. (made : List Expiration) × (last : Expiration) × (rest : List Expiration)
         × (expirations now (timers_of table.old.rows) ≡ made ++ last ∷ rest) × (length made ≡ e.expired) × (at : C)
-        × Makes (at_level C.called High) C.count R.Raise now made (cyclics_of table.old.rows) (cyclics_of table.new.rows)
-        (record { calls = calls.old; lock = lock.old; low = low.old })
-        (record { calls = at; lock = lock.new; low = low.new }) e.lost
+        × Makes (acting (at_level C.called High) C.count R.Raise) now made
+        (fire_state (cyclics_of table.old.rows) (record { calls = calls.old; lock = lock.old; low = low.old }))
+        (fire_state (cyclics_of table.new.rows) (record { calls = at; lock = lock.new; low = low.new })) e.lost
         × ((id : ℕ) → C.count calls.new id ≡ C.count at id)
         × WhyStopped C.may_refuse most at last (timers_of table.new.rows) e.why) }
 
     // The CPU is ready for the next.
-    ensures ready { IsReady R.view table.new.size most (R.view lock.old).marked
-        (R.view low.old).marked lock.new low.new table.new.rows }
+    ensures ready { IsReady R.view table.new.size most (marks_at R.view lock.old low.old) (lock_and_low lock.new low.new)
+        table.new.rows }
     ensures size { table.new.size ≡ table.old.size }
     ensures room { table.new.room ≡ table.old.room }
 {
@@ -195,21 +203,11 @@ pub fn fire_all<C: Calls, R: Raise>(
         let found = table.record(index);
         let count = found.expired;
         if count >= most {
-            return Err(FireRefused {
-                why: spent(id),
-                expired,
-                lost,
-            });
+            return Err(stopped(spent(id), expired, lost));
         }
         let more = match expire_at(id, found.level, calls, lock, low) {
             Ok(more) => more,
-            Err(Refused) => {
-                return Err(FireRefused {
-                    why: Refusal::HandlerRefused(id),
-                    expired,
-                    lost,
-                });
-            }
+            Err(Refused) => return Err(stopped(Refusal::HandlerRefused(id), expired, lost)),
         };
         // read here, the interval and the counts need not outlast the call
         let kept = table.record(index);

@@ -9,8 +9,8 @@ ghost use Rattle.cyc_types.specs.declared.level.Level.TheVariants.{Low, Lock, Hi
 ghost use Rattle.cyc_types.specs.Timers.{Timer, HasDistinctIds};
 ghost use Rattle.cyc_types.specs.Expirations.{Expiration, expirations};
 ghost use Rattle.cyc_timers.specs.Rows.{Cyclic, timers};
-ghost use Rattle.cyc_timers.specs.Made.{Makes};
-ghost use Rattle.cyc_timers.specs.Acts.{Sides, same_level};
+ghost use Rattle.cyc_timers.specs.Made.{Makes, fire_state};
+ghost use Rattle.cyc_timers.specs.Acts.{Sides, acting, same_level};
 ghost use Rattle.cyc_timers.specs.Shares.{share};
 
 use cyc_types::{Calls, Raise};
@@ -21,13 +21,16 @@ use cyc_types::{Calls, Raise};
 /// It does nothing when it runs: its clauses are the law.
 pub fn share_law<C: Calls, R: Raise>()
     ensures lock { (now : ℕ) (made : List Expiration) (cs cs' : List Cyclic) (s s' : Sides C R) (lost : ℕ)
-        (m : Makes (at_level C.called High) C.count R.Raise now made cs cs' s s' lost)
+        (m : Makes (acting (at_level C.called High) C.count R.Raise) now made (fire_state cs s)
+        (fire_state cs' s') lost)
         → (id : ℕ) → raised_by id m.acts.lock_way ≡ share Lock (timers cs) made id }
     ensures low { (now : ℕ) (made : List Expiration) (cs cs' : List Cyclic) (s s' : Sides C R) (lost : ℕ)
-        (m : Makes (at_level C.called High) C.count R.Raise now made cs cs' s s' lost)
+        (m : Makes (acting (at_level C.called High) C.count R.Raise) now made (fire_state cs s)
+        (fire_state cs' s') lost)
         → (id : ℕ) → raised_by id m.acts.low_way ≡ share Low (timers cs) made id }
     ensures high { (now : ℕ) (made : List Expiration) (cs cs' : List Cyclic) (s s' : Sides C R) (lost : ℕ)
-        → Makes (at_level C.called High) C.count R.Raise now made cs cs' s s' lost
+        → Makes (acting (at_level C.called High) C.count R.Raise) now made (fire_state cs s)
+        (fire_state cs' s') lost
         → (id : ℕ) → C.count s'.calls id ≡ C.count s.calls id + share High (timers cs) made id }
     ensures whole { (now : ℕ) (ts : List Timer) → HasDistinctIds ts → (level : TheLevel)
         → All (λ t. share level ts (expirations now ts) t.id

@@ -5,7 +5,7 @@ ghost use Rattle.std.specs.Prelude.{IfErr, OnOk, OnErr, IfNone, IfSome, All, [],
 ghost use Rattle.std.specs.Bool.{OnTrue, OnFalse};
 ghost use Rattle.cyc_types.specs.Limits.{cyclics};
 ghost use Rattle.cyc_types.specs.Series.{never};
-ghost use Rattle.cyc_types.specs.Timers.{IsSound};
+ghost use Rattle.cyc_types.specs.Timers.{IsSoundTimer};
 ghost use Rattle.cyc_types.specs.declared.refusal.Refusal.TheVariants.{Memory};
 ghost use Rattle.cyc_timers.specs.Rows.{Row, TableView, new_table, timers_of, IsRow, IsRising, HasNo, HasDistinctIndexes};
 ghost use Rattle.cyc_timers.specs.Rows.{vacant_row, with_record, with_counts, at_moment, IsRecordOf, IsFirstAt};
@@ -147,8 +147,8 @@ impl Table {
         self.finder.find(id)
     }
 
-    /// Whether a cyclic of this id is here. O(1) where the id is above all that came, as that of a new cyclic mostly is, else O(log n).
-    /// Takes no memory.
+    /// Whether a cyclic of this id is here. O(1) where the id is above all that came, as that of a new cyclic mostly is, else
+    /// O(log n). Takes no memory.
     pub fn has(&self, id: CyclicId) -> bool
         ensures here { OnTrue result ((k : ℕ) × (r : Row) × IsRow self.now.rows k r × (r.timer.id ≡ id)) }
         ensures none { OnFalse result (HasNo id self.now.rows) }
@@ -156,8 +156,8 @@ impl Table {
         self.finder.has(id)
     }
 
-    /// As `find`, by two looks: as far from the first id as this is above it, and where it was found last. None unless it stands at one
-    /// of them. O(1), and takes no memory.
+    /// As `find`, by two looks: as far from the first id as this is above it, and where it was found last. None unless it stands
+    /// at one of them. O(1), and takes no memory.
     #[inline(always)]
     pub fn soon(&self, id: CyclicId) -> Option<Index>
         ensures none { IfNone result ((first r : Row) → IsRow self.now.rows 0 first → first.timer.id ≤ id
@@ -178,8 +178,8 @@ impl Table {
         self.finder.seek(id)
     }
 
-    /// The cyclic with the smallest id above this one, or with the smallest of all: its id and its index, for a walk by rising id. None
-    /// where there is none. O(log n), and those that were taken out are passed by. Takes no memory.
+    /// The cyclic with the smallest id above this one, or with the smallest of all: its id and its index, for a walk by rising
+    /// id. None where there is none. O(log n), and those that were taken out are passed by. Takes no memory.
     pub fn next_after(&self, passed: Option<CyclicId>) -> Option<(CyclicId, Index)>
         ensures none { IfNone result (All (λ r. IsPassed passed r.timer.id) self.now.rows) }
         ensures some { IfSome result (λ found. (k : ℕ) × (r : Row) × IsRow self.now.rows k r × (r.timer.id ≡ found.0)
@@ -243,8 +243,8 @@ impl Table {
         self.heap.root()
     }
 
-    /// The cyclic that expires first where it is due: its index, how long ago its moment came, in nanoseconds, and its id. None where
-    /// none is due. O(1).
+    /// The cyclic that expires first where it is due: its index, how long ago its moment came, in nanoseconds, and its id. None
+    /// where none is due. O(1).
     pub fn due_root(&self, now: Moment) -> Option<(Index, u64, CyclicId)>
         ensures none { IfNone result (All (λ t. now < t.moment) (timers_of self.now.rows)) }
         ensures due { IfSome result (λ found. found.1 ≤ now) }
@@ -294,7 +294,7 @@ impl Table {
     /// when it runs.
     pub fn law(&self)
         ensures rising { IsRising self.now.rows }
-        ensures sound { All IsSound (timers_of self.now.rows) }
+        ensures sound { All IsSoundTimer (timers_of self.now.rows) }
         ensures apart { HasDistinctIndexes self.now.rows }
         ensures below { All (λ r. r.index < self.now.size) self.now.rows }
     {

@@ -6,7 +6,7 @@ use Rattle.std.proofs.lemmas.Nat.{div_below}
 use Rattle.std.proofs.lemmas.Bool.{cases_lt}
 use Rattle.std.proofs.lemmas.Bool.Decides.{nat_tests}
 use Rattle.cyc_types.specs.Series.{due, next, never, late}
-use Rattle.cyc_types.specs.Expirations.{Expiration, is_before, series, due_of, moment_after, next_of}
+use Rattle.cyc_types.specs.Expirations.{Expiration, is_before, series, due_of, moment_after_some, next_of}
 use Rattle.cyc_types.specs.Timers.{Timer}
 use Rattle.cyc_types.proofs.Order.{test_trans}
 
@@ -105,8 +105,10 @@ after_first e t now m (suc j) d h is low =
     ∙ ap (λ b. cond b (next e t now) (e + suc j * t)) f
 
 -- one expiration more
-pub moment_more : (e t now j m r : ℕ) → moment_after e t now j ≡ m → j + due m t now ≡ due e t now → next m t now ≡ next e t now →
-    due m t now ≡ 1 + due r t now → next m t now ≡ next r t now → (0 < due r t now → r ≡ m + t) → moment_after e t now (j + 1) ≡ r
+pub moment_more : (e t now j m r : ℕ) → moment_after_some e t now j ≡ m → j + due m t now ≡ due e t now
+    → next m t now ≡ next e t now →
+    due m t now ≡ 1 + due r t now → next m t now ≡ next r t now → (0 < due r t now → r ≡ m + t)
+    → moment_after_some e t now (j + 1) ≡ r
 moment_more e t now j m r is left same step as_next follows = elim (cases_lt 0 (due r t now)) [
   | inl some ↦
       let at : m ≡ e + j * t = after_first e t now m j (due e t now) refl is (omega arith) in

@@ -12,9 +12,9 @@ use Rattle.std.proofs.lemmas.List.Elements.{All-set, recursion_from_All, All-fro
 use Rattle.std.proofs.lemmas.List.Sums.{sum_by-append, sum_by-le}
 use Rattle.cyc_types.specs.Limits.{cyclics}
 use Rattle.cyc_types.specs.Series.{due, next, never, late}
-use Rattle.cyc_types.specs.Expirations.{Expiration, is_before, due_of, expirations, ascending, times_of, moment_after}
-use Rattle.cyc_types.specs.Expirations.{after, all_after, next_of}
-use Rattle.cyc_types.specs.Timers.{Timer, HasDistinctIds, IsSound, earliest}
+use Rattle.cyc_types.specs.Expirations.{Expiration, is_before, due_of, expirations, ascending, times_of, moment_after_some}
+use Rattle.cyc_types.specs.Expirations.{after_expirations, all_after, next_of}
+use Rattle.cyc_types.specs.Timers.{Timer, HasDistinctIds, IsSoundTimer, earliest}
 use Rattle.cyc_types.proofs.Order.{ascending_least, length_ascending}
 use Rattle.cyc_types.proofs.Dues.{due_of_first, due_of_step, due_of_all, due_of_none, moment_more, length_due_of, due_small}
 
@@ -101,9 +101,9 @@ expirations_few now ts some =
 
 -- the timer of this cyclic, after these expirations, has the rest of its own before it
 pub record Tracks (now : ℕ) (made : List Expiration) (t : Timer) : Type 0 where
-  pub left : times_of t.id made + due (moment_after t.moment t.interval now (times_of t.id made)) t.interval now
+  pub left : times_of t.id made + due (moment_after_some t.moment t.interval now (times_of t.id made)) t.interval now
       ≡ due t.moment t.interval now
-  pub same : next (moment_after t.moment t.interval now (times_of t.id made)) t.interval now ≡ next t.moment t.interval now
+  pub same : next (moment_after_some t.moment t.interval now (times_of t.id made)) t.interval now ≡ next t.moment t.interval now
 
 -- a fire that has made these expirations
 pub record Firing (now : ℕ) (made : List Expiration) (ts cur : List Timer) : Type 0 where
@@ -128,14 +128,15 @@ times_more_other id made p h =
     omega (arith, a, none)
 
 -- the timer that expired
-after_same : (now : ℕ) (made : List Expiration) (o t u : Timer) → t ≡ after now made o → Tracks now made o → Expires now t u →
-    (u ≡ after now (made ++ next_of t ∷ []) o) × Tracks now (made ++ next_of t ∷ []) o
-unfolding after
+after_same : (now : ℕ) (made : List Expiration) (o t u : Timer) → t ≡ after_expirations now made o → Tracks now made o
+    → Expires now t u →
+    (u ≡ after_expirations now (made ++ next_of t ∷ []) o) × Tracks now (made ++ next_of t ∷ []) o
+unfolding after_expirations
 after_same now made o t u is h e =
     let j = times_of o.id made in
     let same_id : t.id ≡ o.id = ap (λ (x : Timer). x.id) is in
     let same_interval : t.interval ≡ o.interval = ap (λ (x : Timer). x.interval) is in
-    let moment : moment_after o.moment o.interval now j ≡ t.moment = sym (ap (λ (x : Timer). x.moment) is) in
+    let moment : moment_after_some o.moment o.interval now j ≡ t.moment = sym (ap (λ (x : Timer). x.moment) is) in
     let more : times_of o.id (made ++ next_of t ∷ []) ≡ j + 1 = times_more_same o.id made (next_of t) same_id in
     let left : j + due t.moment o.interval now ≡ due o.moment o.interval now = ap (λ m. j + due m o.interval now) (sym moment)
     ∙ h.left in
@@ -146,10 +147,10 @@ after_same now made o t u is h e =
     let as_next : next t.moment o.interval now ≡ next u.moment o.interval now =
     subst (λ v. next t.moment v now ≡ next u.moment v now) same_interval e.as_next in
     let follows = subst (λ v. 0 < due u.moment v now → u.moment ≡ t.moment + v) same_interval e.follows in
-    let at : moment_after o.moment o.interval now (j + 1) ≡ u.moment =
+    let at : moment_after_some o.moment o.interval now (j + 1) ≡ u.moment =
     moment_more o.moment o.interval now j t.moment u.moment moment left same step as_next follows in
-    let now_at : u.moment ≡ moment_after o.moment o.interval now (times_of o.id (made ++ next_of t ∷ [])) = sym at
-    ∙ ap (moment_after o.moment o.interval now) (sym more) in
+    let now_at : u.moment ≡ moment_after_some o.moment o.interval now (times_of o.id (made ++ next_of t ∷ [])) = sym at
+    ∙ ap (moment_after_some o.moment o.interval now) (sym more) in
     let id' = e.same_id ∙ same_id in
     let level' : u.level ≡ o.level = e.same_level ∙ ap (λ (x : Timer). x.level) is in
     let interval' = e.same_interval ∙ same_interval in
@@ -165,19 +166,19 @@ after_same now made o t u is h e =
 
 -- a timer that did not
 after_other : (now : ℕ) (made : List Expiration) (p : Expiration) (o : Timer) → p.id ≢ o.id → Tracks now made o →
-    (after now made o ≡ after now (made ++ p ∷ []) o) × Tracks now (made ++ p ∷ []) o
-unfolding after
+    (after_expirations now made o ≡ after_expirations now (made ++ p ∷ []) o) × Tracks now (made ++ p ∷ []) o
+unfolding after_expirations
 after_other now made p o other h =
     let same = times_more_other o.id made p other in (
-      ap (λ j. record o { moment = moment_after o.moment o.interval now j; expired = o.expired + j }) (sym same),
+      ap (λ j. record o { moment = moment_after_some o.moment o.interval now j; expired = o.expired + j }) (sym same),
       record {
-        left = ap (λ j. j + due (moment_after o.moment o.interval now j) o.interval now) same ∙ h.left;
-        same = ap (λ j. next (moment_after o.moment o.interval now j) o.interval now) same ∙ h.same;
+        left = ap (λ j. j + due (moment_after_some o.moment o.interval now j) o.interval now) same ∙ h.left;
+        same = ap (λ j. next (moment_after_some o.moment o.interval now j) o.interval now) same ∙ h.same;
       },
     )
 
-after_id : (now : ℕ) (made : List Expiration) (o : Timer) → (after now made o).id ≡ o.id
-unfolding after
+pub after_id : (now : ℕ) (made : List Expiration) (o : Timer) → (after_expirations now made o).id ≡ o.id
+unfolding after_expirations
 after_id now made o = refl
 
 pub fire_step : (now : ℕ) (made : List Expiration) (ts cur : List Timer) (i : ℕ) (t u : Timer) → Firing now made ts cur
@@ -185,24 +186,28 @@ pub fire_step : (now : ℕ) (made : List Expiration) (ts cur : List Timer) (i : 
     i < length cur → t ≡ get_or cur i t → IsLeastAt cur i → Expires now t u → Firing now (made ++ next_of t ∷ []) ts (set cur i u)
 unfolding all_after
 fire_step now made ts cur i t u f distinct low is least e =
-    let long : length cur ≡ length ts = ap length f.is ∙ length-map ts (after now made) in
+    let long : length cur ≡ length ts = ap length f.is ∙ length-map ts (after_expirations now made) in
     let within : i < length ts = omega (arith, long) in
     let o = get_or ts i t in
-    let from : t ≡ after now made o = is ∙ ap (λ xs. get_or xs i t) f.is ∙ get_or-map (after now made) ts i t t within in
+    let from : t ≡ after_expirations now made o = is ∙ ap (λ xs. get_or xs i t) f.is
+    ∙ get_or-map (after_expirations now made) ts i t t within in
     let (now_is, now_tracks) = after_same now made o t u from (f.tracks i t within) e in
     let same_id : t.id ≡ o.id = ap (λ (x : Timer). x.id) from ∙ after_id now made o in
     let apart = λ (k : ℕ) (d : Timer) (h : k < length ts) (n : k ≢ i) (eq : t.id ≡ (get_or ts k d).id).
     n (sym (distinct i k d within h (ap (λ (x : Timer). x.id) (get_or_default ts i d t within) ∙ sym same_id ∙ eq))) in
     record {
-      is = same_lists (set cur i u) (map (after now (made ++ next_of t ∷ [])) ts) (length-set cur i u ∙ long
-          ∙ sym (length-map ts (after now (made ++ next_of t ∷ [])))) (λ k d h.
+      is = same_lists (set cur i u) (map (after_expirations now (made ++ next_of t ∷ [])) ts) (length-set cur i u ∙ long
+          ∙ sym (length-map ts (after_expirations now (made ++ next_of t ∷ [])))) (λ k d h.
           let h' : k < length ts = (let l = length-set cur i u in omega (arith, l, long)) in
-          let right = get_or-map (after now (made ++ next_of t ∷ [])) ts k d d h' in
+          let right = get_or-map (after_expirations now (made ++ next_of t ∷ [])) ts k d d h' in
           elim (cases_eq k i) [
-            | inl eq ↦ subst (λ n. get_or (set cur i u) n d ≡ get_or (map (after now (made ++ next_of t ∷ [])) ts) n d) (sym eq)
-                (get_or-set_same cur i u d low ∙ now_is ∙ ap (after now (made ++ next_of t ∷ [])) (get_or_default ts i t d within)
-                ∙ sym (get_or-map (after now (made ++ next_of t ∷ [])) ts i d d within))
-            | inr ne ↦ get_or-set_other cur i k u d ne ∙ ap (λ xs. get_or xs k d) f.is ∙ get_or-map (after now made) ts k d d h'
+            | inl eq ↦ subst (λ n. get_or (set cur i u) n d ≡ get_or (map (after_expirations now (made
+                ++ next_of t ∷ [])) ts) n d) (sym eq)
+                (get_or-set_same cur i u d low ∙ now_is ∙ ap (after_expirations now (made
+                ++ next_of t ∷ [])) (get_or_default ts i t d within)
+                ∙ sym (get_or-map (after_expirations now (made ++ next_of t ∷ [])) ts i d d within))
+            | inr ne ↦ get_or-set_other cur i k u d ne ∙ ap (λ xs. get_or xs k d) f.is
+                ∙ get_or-map (after_expirations now made) ts k d d h'
                 ∙ (after_other now made (next_of t) (get_or ts k d) (apart k d h' ne) (f.tracks k d h')).0 ∙ sym right
           ]);
       tracks = λ k d h. elim (cases_eq k i) [
@@ -219,9 +224,11 @@ map_self f h [] = refl
 map_self f h (x ∷ xs) = λ i. sym (h x) i ∷ map_self f h xs i
 
 pub fire_start : (now : ℕ) (ts : List Timer) → Firing now [] ts ts
-unfolding all_after after
+unfolding all_after after_expirations
 fire_start now ts = record {
-  is = map_self (after now []) (λ t. (let z : t.expired + 0 ≡ t.expired = omega arith in ap (λ n. record t { expired = n }) z))
+  is = map_self (after_expirations now []) (λ t. (let z : t.expired + 0 ≡ t.expired = omega arith in ap (λ n. record t {
+    expired = n;
+  }) z))
       ts;
   tracks = λ k d h. record { left = omega arith; same = refl };
   whole = refl;
@@ -233,7 +240,7 @@ pub fire_done : (now : ℕ) (made : List Expiration) (ts cur : List Timer) → F
 fire_done now made ts cur f later = f.whole ∙ ap (λ xs. made ++ xs) (expirations_none now cur later) ∙ append-nil made
 
 -- the number made fits
-pub fire_bound : (now : ℕ) (made : List Expiration) (ts cur : List Timer) → Firing now made ts cur → All IsSound ts
+pub fire_bound : (now : ℕ) (made : List Expiration) (ts cur : List Timer) → Firing now made ts cur → All IsSoundTimer ts
     → length ts ≤ cyclics → length made ≤ cyclics * (late + 2)
 fire_bound now made ts cur f sound few =
     let a = ap length f.whole in

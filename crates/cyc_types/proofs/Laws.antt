@@ -4,26 +4,27 @@ use Rattle.std.proofs.lemmas.Bool.Decides.{nat_tests}
 use Rattle.std.proofs.lemmas.List.Concat.{length-flat_map}
 use Rattle.std.proofs.lemmas.List.Sums.{sum_by-append, sum_by-cons}
 use Rattle.cyc_types.specs.Series.{due, next}
-use Rattle.cyc_types.specs.Expirations.{Expiration, is_before, put_in, ascending, series, due_of, expirations, times_of}
-use Rattle.cyc_types.specs.Expirations.{moment_after, after, Precedes, IsAscending}
+use Rattle.cyc_types.specs.Expirations.{Expiration, is_before, put_in_order, ascending, series, due_of, expirations, times_of}
+use Rattle.cyc_types.specs.Expirations.{moment_after_some, after_expirations, Precedes, IsAscending}
 use Rattle.cyc_types.specs.Timers.{Timer, HasDistinctIds}
 use Rattle.cyc_types.proofs.Order.{before_total, length_ascending}
 use Rattle.cyc_types.proofs.Dues.{length_due_of}
 
-put_in_ascending : (p : Expiration) (xs : List Expiration) → IsAscending xs → IsAscending (put_in p xs)
+put_in_ascending : (p : Expiration) (xs : List Expiration) → IsAscending xs → IsAscending (put_in_order p xs)
 put_in_ascending p [] h = (tt, tt)
 put_in_ascending p (x ∷ xs) h = at (is_before p x) refl (put_in_ascending p xs h.1)
   where
     next_is : (b : Bool) (y : Expiration) (ys : List Expiration) → is_before x p ≡ true → is_before x y ≡ true
-        → Precedes x (cond b (p ∷ y ∷ ys) (y ∷ put_in p ys))
+        → Precedes x (cond b (p ∷ y ∷ ys) (y ∷ put_in_order p ys))
     next_is true y ys k l = k
     next_is false y ys k l = l
 
-    next : (xs : List Expiration) → is_before x p ≡ true → Precedes x xs → Precedes x (put_in p xs)
+    next : (xs : List Expiration) → is_before x p ≡ true → Precedes x xs → Precedes x (put_in_order p xs)
     next [] k l = k
     next (y ∷ ys) k l = next_is (is_before p y) y ys k l
 
-    at : (b : Bool) → is_before p x ≡ b → IsAscending (put_in p xs) → IsAscending (cond b (p ∷ x ∷ xs) (x ∷ put_in p xs))
+    at : (b : Bool) → is_before p x ≡ b → IsAscending (put_in_order p xs)
+        → IsAscending (cond b (p ∷ x ∷ xs) (x ∷ put_in_order p xs))
     at true is rest = (is, h)
     at false is rest = (next xs (before_total p x is) h.0, rest)
 
@@ -45,14 +46,14 @@ count_cons : (f : Expiration → Bool) (p : Expiration) (xs : List Expiration)
 count_cons f p xs = sum_by-cons (λ (q : Expiration). cond (f q) 1 0) p xs
 
 count_put_in : (f : Expiration → Bool) (p : Expiration) (xs : List Expiration)
-    → count_by f (put_in p xs) ≡ cond (f p) 1 0 + count_by f xs
+    → count_by f (put_in_order p xs) ≡ cond (f p) 1 0 + count_by f xs
 count_put_in f p [] = count_cons f p []
 count_put_in f p (x ∷ xs) = at (is_before p x) (count_put_in f p xs)
   where
-    at : (b : Bool) → count_by f (put_in p xs) ≡ cond (f p) 1 0 + count_by f xs
-        → count_by f (cond b (p ∷ x ∷ xs) (x ∷ put_in p xs)) ≡ cond (f p) 1 0 + count_by f (x ∷ xs)
+    at : (b : Bool) → count_by f (put_in_order p xs) ≡ cond (f p) 1 0 + count_by f xs
+        → count_by f (cond b (p ∷ x ∷ xs) (x ∷ put_in_order p xs)) ≡ cond (f p) 1 0 + count_by f (x ∷ xs)
     at true rest = count_cons f p (x ∷ xs)
-    at false rest = (let a = count_cons f x (put_in p xs) in let b = count_cons f x xs in omega (arith, a, b, rest))
+    at false rest = (let a = count_cons f x (put_in_order p xs) in let b = count_cons f x xs in omega (arith, a, b, rest))
 
 -- the order changes no count
 count_ascending : (f : Expiration → Bool) (xs : List Expiration) → count_by f (ascending xs) ≡ count_by f xs
@@ -65,7 +66,7 @@ pub count_expirations : (now : ℕ) (ts : List Timer) (f : Expiration → Bool)
 unfolding expirations
 count_expirations now ts f = count_ascending f (flat_map (due_of now) ts)
 
-times_cons : (id : ℕ) (p : Expiration) (xs : List Expiration) → times_of id (p ∷ xs) ≡ cond (p.id == id) 1 0 + times_of id xs
+pub times_cons : (id : ℕ) (p : Expiration) (xs : List Expiration) → times_of id (p ∷ xs) ≡ cond (p.id == id) 1 0 + times_of id xs
 times_cons id p xs = count_cons (λ (q : Expiration). q.id == id) p xs
 
 times_ascending : (id : ℕ) (xs : List Expiration) → times_of id (ascending xs) ≡ times_of id xs
@@ -74,7 +75,7 @@ times_ascending id xs = count_ascending (λ (q : Expiration). q.id == id) xs
 abbrev tally : Bool → ℕ
 tally b = cond b 1 0
 
-times_series : (id e t n : ℕ) → times_of id (series id e t n) ≡ n
+pub times_series : (id e t n : ℕ) → times_of id (series id e t n) ≡ n
 times_series id e t zero = refl
 times_series id e t (suc n) =
     let a = times_cons id (record { moment = e; id = id }) (series id (e + t) t n) in
@@ -82,7 +83,7 @@ times_series id e t (suc n) =
     let one : tally (id == id) ≡ 1 = ap tally yes in
     let r = times_series id (e + t) t n in omega (arith, a, one, r)
 
-times_series_other : (id other e t n : ℕ) → other ≢ id → times_of id (series other e t n) ≡ 0
+pub times_series_other : (id other e t n : ℕ) → other ≢ id → times_of id (series other e t n) ≡ 0
 times_series_other id other e t zero ne = refl
 times_series_other id other e t (suc n) ne =
     let a = times_cons id (record { moment = e; id = other }) (series other (e + t) t n) in
@@ -134,15 +135,15 @@ pub times_others : (now id : ℕ) (ts : List Timer) → ((k : ℕ) (d : Timer) �
 unfolding expirations
 times_others now id ts h = times_ascending id (flat_map (due_of now) ts) ∙ times_none now id ts h
 
-moment_all : (e t now j : ℕ) → j ≡ due e t now → moment_after e t now j ≡ next e t now
+moment_all : (e t now j : ℕ) → j ≡ due e t now → moment_after_some e t now j ≡ next e t now
 moment_all e t now j h = grind (arith, nat_tests)
 
 pub moment_next : (now : ℕ) (made : List Expiration) (t : Timer) → times_of t.id made ≡ due t.moment t.interval now
-    → (after now made t).moment ≡ next t.moment t.interval now
-unfolding after
+    → (after_expirations now made t).moment ≡ next t.moment t.interval now
+unfolding after_expirations
 moment_next now made t h = moment_all t.moment t.interval now (times_of t.id made) h
 
 pub count_due : (now : ℕ) (made : List Expiration) (t : Timer) → times_of t.id made ≡ due t.moment t.interval now
-    → (after now made t).expired ≡ t.expired + due t.moment t.interval now
-unfolding after
+    → (after_expirations now made t).expired ≡ t.expired + due t.moment t.interval now
+unfolding after_expirations
 count_due now made t h = ap (λ n. t.expired + n) h

@@ -1,3 +1,4 @@
+pub mod Facts
 pub mod TallyLemmas
 pub mod Runs
 pub mod RunStays

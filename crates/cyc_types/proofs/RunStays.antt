@@ -4,7 +4,7 @@ use Rattle.std.specs.Prelude.{Option, Some, None}
 use Rattle.cyc_types.specs.declared.firing.Raise.{Ghosts as Raise}
 use Rattle.cyc_types.specs.Firing.{FiringView, FiringCall, Admits, Loads, Raises, Marks, Polls, Expands, Looks, Learns, Stay}
 use Rattle.cyc_types.specs.Firing.{edited, edit_stay}
-use Rattle.cyc_types.specs.Runs.{Goes, raises_of, losses_of, stay_changes_of, raised_by, lost_by, turned_by}
+use Rattle.cyc_types.specs.Runs.{Goes, raises_in_call, losses_in_call, stay_changes_of, raised_by, lost_by, turned_by}
 use Rattle.cyc_types.specs.declared.firing.Raised.TheVariants.{First, More, Lost}
 
 -- a stay goes on with so many raises and losses more
@@ -45,7 +45,7 @@ look id j pend v w s is here =
 
 -- one call
 pub learns_stay : (id : ℕ) (v w : FiringView) (call : FiringCall) (s : Stay) → Learns v call w → stay_changes_of id call ≡ 0
-    → v.stays id ≡ Some s → GoesOn s (raises_of id call) (losses_of id call) (w.stays id)
+    → v.stays id ≡ Some s → GoesOn s (raises_in_call id call) (losses_in_call id call) (w.stays id)
 learns_stay id v w (Admits j index) s l e here =
     subst (λ (x : FiringView). GoesOn s 0 0 (x.stays id)) (sym l)
     (other (eqb id j) (λ _. Some record { index = index; sent = 0; lost = 0; seen = 0 }) (v.stays id) s e here)

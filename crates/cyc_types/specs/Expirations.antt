@@ -15,14 +15,14 @@ abbrev pub is_before : Expiration → Expiration → Bool
 is_before p q = nat_lt p.moment q.moment || ((p.moment == q.moment) && nat_le p.id q.id)
 
 -- an expiration put in before the first that it comes no later than
-abbrev pub put_in : Expiration → List Expiration → List Expiration
-put_in p [] = p ∷ []
-put_in p (q ∷ qs) = cond (is_before p q) (p ∷ q ∷ qs) (q ∷ put_in p qs)
+abbrev pub put_in_order : Expiration → List Expiration → List Expiration
+put_in_order p [] = p ∷ []
+put_in_order p (q ∷ qs) = cond (is_before p q) (p ∷ q ∷ qs) (q ∷ put_in_order p qs)
 
 -- expirations in ascending order
 abbrev pub ascending : List Expiration → List Expiration
 ascending [] = []
-ascending (p ∷ ps) = put_in p (ascending ps)
+ascending (p ∷ ps) = put_in_order p (ascending ps)
 
 -- n expirations of a cyclic, from the moment e on, t apart
 abbrev pub series : ℕ → ℕ → ℕ → ℕ → List Expiration
@@ -42,20 +42,20 @@ abbrev pub times_of : ℕ → List Expiration → ℕ
 times_of id made = count_by (λ p. p.id == id) made
 
 -- the moment of a cyclic after j of its expirations in a fire at now: where they were all that were due, the next one
-abbrev pub moment_after : ℕ → ℕ → ℕ → ℕ → ℕ
-moment_after e t now j = cond (j == 0) e (cond (j == due e t now) (next e t now) (e + j * t))
+abbrev pub moment_after_some : ℕ → ℕ → ℕ → ℕ → ℕ
+moment_after_some e t now j = cond (j == 0) e (cond (j == due e t now) (next e t now) (e + j * t))
 
 -- a cyclic after these expirations of one fire
-unfoldable pub after : ℕ → List Expiration → Timer → Timer
-after now made t = record t {
-  moment = moment_after t.moment t.interval now (times_of t.id made);
+unfoldable pub after_expirations : ℕ → List Expiration → Timer → Timer
+after_expirations now made t = record t {
+  moment = moment_after_some t.moment t.interval now (times_of t.id made);
   expired =
       t.expired + times_of t.id made;
 }
 
 -- all cyclics after them
 unfoldable pub all_after : ℕ → List Expiration → List Timer → List Timer
-all_after now made ts = map (after now made) ts
+all_after now made ts = map (after_expirations now made) ts
 
 -- the expiration that a cyclic comes to next
 abbrev pub next_of : Timer → Expiration

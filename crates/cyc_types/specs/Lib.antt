@@ -1,4 +1,5 @@
 pub mod Limits
+pub mod Banks
 pub mod Levels
 pub mod Refusals
 pub mod Series

@@ -9,6 +9,14 @@ greatest_bank = 12
 abbrev pub cyclics : ℕ
 cyclics = 2 ^ greatest_bank
 
+-- the CPUs that one system can have (our own rule)
+abbrev pub most_cpus : ℕ
+most_cpus = 16
+
+-- the greatest ceiling of a pend: what 32 bits hold (our own rule)
+abbrev pub greatest_ceiling : ℕ
+greatest_ceiling = 2 ^ 32 - 1
+
 -- the greatest number of a cyclic: what is left of 64 bits beside an index (our own rule)
 abbrev pub last_id : ℕ
 last_id = 2 ^ 52 - 1

@@ -18,26 +18,26 @@ abbrev pub Goes : {R : Type 0} → Raise R → R → List FiringCall → R → T
 Goes firing e way f = FoldsTo (Taught firing) e way f
 
 -- one where the call is a raise of the id
-abbrev pub raises_of : ℕ → FiringCall → ℕ
-raises_of id (Raises j answer) = one_at id j
-raises_of id (Admits j index) = 0
-raises_of id (Loads j pend) = 0
-raises_of id (Marks j pend) = 0
-raises_of id (Polls j answer) = 0
-raises_of id (Expands bank) = 0
-raises_of id (Looks answer) = 0
+abbrev pub raises_in_call : ℕ → FiringCall → ℕ
+raises_in_call id (Raises j answer) = one_at id j
+raises_in_call id (Admits j index) = 0
+raises_in_call id (Loads j pend) = 0
+raises_in_call id (Marks j pend) = 0
+raises_in_call id (Polls j answer) = 0
+raises_in_call id (Expands bank) = 0
+raises_in_call id (Looks answer) = 0
 
 -- one where the call is a raise of the id that was lost at the ceiling
-abbrev pub losses_of : ℕ → FiringCall → ℕ
-losses_of id (Raises j Lost) = one_at id j
-losses_of id (Raises j First) = 0
-losses_of id (Raises j More) = 0
-losses_of id (Admits j index) = 0
-losses_of id (Loads j pend) = 0
-losses_of id (Marks j pend) = 0
-losses_of id (Polls j answer) = 0
-losses_of id (Expands bank) = 0
-losses_of id (Looks answer) = 0
+abbrev pub losses_in_call : ℕ → FiringCall → ℕ
+losses_in_call id (Raises j Lost) = one_at id j
+losses_in_call id (Raises j First) = 0
+losses_in_call id (Raises j More) = 0
+losses_in_call id (Admits j index) = 0
+losses_in_call id (Loads j pend) = 0
+losses_in_call id (Marks j pend) = 0
+losses_in_call id (Polls j answer) = 0
+losses_in_call id (Expands bank) = 0
+losses_in_call id (Looks answer) = 0
 
 -- one where a stay of the id begins or ends with the call
 abbrev pub stay_changes_of : ℕ → FiringCall → ℕ
@@ -53,12 +53,12 @@ stay_changes_of id (Looks answer) = 0
 -- the raises of the id
 abbrev pub raised_by : ℕ → List FiringCall → ℕ
 raised_by id [] = 0
-raised_by id (call ∷ way) = raises_of id call + raised_by id way
+raised_by id (call ∷ way) = raises_in_call id call + raised_by id way
 
 -- the raises of the id that were lost at the ceiling
 abbrev pub lost_by : ℕ → List FiringCall → ℕ
 lost_by id [] = 0
-lost_by id (call ∷ way) = losses_of id call + lost_by id way
+lost_by id (call ∷ way) = losses_in_call id call + lost_by id way
 
 -- the stays of the id that begin or end
 abbrev pub turned_by : ℕ → List FiringCall → ℕ

@@ -17,7 +17,7 @@ HasDistinctIds ts = (i j : ℕ) (d : Timer) → i < length ts → j < length ts
     → (slice_index_or ts i d).id ≡ (slice_index_or ts j d).id → i ≡ j
 
 -- a cyclic's moment is a moment, and its interval an interval
-pub record IsSound (t : Timer) : Type 0 where
+pub record IsSoundTimer (t : Timer) : Type 0 where
   pub moment : t.moment ≤ never
   pub some : 0 < t.interval
   pub most : t.interval ≤ never

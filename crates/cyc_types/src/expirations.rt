@@ -9,7 +9,7 @@
 ghost use Rattle.std.specs.Prelude.{◌≡◌, ◌≢◌, ℕ, ◌+◌, Bool, List, All, length, sum_by, count_by, flat_map};
 ghost use Rattle.cyc_types.specs.Series.{due, next};
 ghost use Rattle.cyc_types.specs.Timers.{Timer, HasDistinctIds};
-ghost use Rattle.cyc_types.specs.Expirations.{Expiration, expirations, due_of, times_of, after, IsAscending};
+ghost use Rattle.cyc_types.specs.Expirations.{Expiration, expirations, due_of, times_of, after_expirations, IsAscending};
 
 /// The list of a fire ascends by moment and then id, and has just the expirations of the cyclics that are due, each as often.
 pub fn order_law()
@@ -29,7 +29,7 @@ pub fn share_law()
 /// After a whole fire each cyclic comes to its next expiration, with its count risen by what was due of it.
 pub fn after_law()
     ensures moment { (now : ℕ) (ts : List Timer) → HasDistinctIds ts
-        → All (λ t. (after now (expirations now ts) t).moment ≡ next t.moment t.interval now) ts }
+        → All (λ t. (after_expirations now (expirations now ts) t).moment ≡ next t.moment t.interval now) ts }
     ensures count { (now : ℕ) (ts : List Timer) → HasDistinctIds ts
-        → All (λ t. (after now (expirations now ts) t).expired ≡ t.expired + due t.moment t.interval now) ts }
+        → All (λ t. (after_expirations now (expirations now ts) t).expired ≡ t.expired + due t.moment t.interval now) ts }
 {}

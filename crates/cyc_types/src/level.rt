@@ -1,7 +1,7 @@
 //! Levels, indexes and ceilings.
 
 ghost use Rattle.std.specs.Prelude.{◌≡◌, ℕ, ◌-◌, ◌<◌, ◌≤◌, ◌^◌, ◌↔◌, IsSome, IfSome};
-ghost use Rattle.cyc_types.specs.Limits.{cyclics};
+ghost use Rattle.cyc_types.specs.Limits.{cyclics, greatest_ceiling};
 ghost use Rattle.cyc_types.specs.Levels.{as_level};
 
 use crate::limits::CYCLICS;
@@ -44,7 +44,7 @@ impl Model for Ceiling {
 
     ghost view = { λ a. a.calls };
 
-    ghost invariant = { λ a. (0 < a.calls) × (a.calls < 2 ^ 32) };
+    ghost invariant = { λ a. (0 < a.calls) × (a.calls ≤ greatest_ceiling) };
 
     ghost inverse = { λ n. record { calls = n } };
 }
@@ -65,7 +65,7 @@ impl Ceiling {
     /// The number of calls, at least 1.
     pub fn calls(self) -> u32
         ensures value { result ≡ self }
-        ensures valid { (0 < result) × (result < 2 ^ 32) }
+        ensures valid { (0 < result) × (result ≤ greatest_ceiling) }
     {
         self.calls
     }

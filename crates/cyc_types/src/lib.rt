@@ -18,7 +18,7 @@ pub use draining::{Drain, Finished};
 pub use firing::{Raise, Raised, Sent};
 pub use id::CyclicId;
 pub use level::{Ceiling, Index, Level, Soft};
-pub use limits::{CYCLICS, GREATEST_BANK, LAST_ID, LATE, limits_law};
+pub use limits::{CPUS, CYCLICS, GREATEST_BANK, GREATEST_CEILING, LAST_ID, LATE, limits_law};
 pub use moment::{Interval, Moment, When, due, next};
 pub use receipt::Receipt;
 pub use refusal::{JuggleReport, Refusal};

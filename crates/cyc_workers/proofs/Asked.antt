@@ -9,20 +9,12 @@ use mathlib.Core.Logic.{dite}
 use native.Mathlib.Decide.{ℕ_discrete}
 use Rattle.cyc_types.specs.declared.Raise.{Ghosts as Raise}
 use Rattle.cyc_types.proofs.Runs.{folds_on}
+pub use Rattle.cyc_types.proofs.Facts.{get_set_same}
+use Rattle.cyc_types.proofs.Facts.{get_set_other}
 use Rattle.cyc_cpu.specs.Cpu.{CpuView}
 use Rattle.cyc_cpu.specs.Moving.{IsSettled}
-use Rattle.cyc_workers.specs.Settling.{Asks, Settles}
+use Rattle.cyc_workers.specs.Settling.{AsksSettled, Settles}
 use Rattle.cyc_workers.specs.Settled.{AllAsked, AreSettled, AllSettled, AsksAt}
-
-pub get_set_same : {A : Type 0} (xs : List A) (i : ℕ) (x : A) → i < length xs → slice_get (slice_set xs i x) i ≡ Some x
-get_set_same xs i x low = slice_get_read (slice_set xs i x) (length xs) i x (sym (length-set xs i x)) low
-    (sym (get_or-set_same xs i x x low))
-
-get_set_other : {A : Type 0} (xs : List A) (i j : ℕ) (x : A) → j ≢ i → slice_get (slice_set xs i x) j ≡ slice_get xs j
-get_set_other xs i j x ne = let n = length-set xs i x in dite (ℕ_discrete (length xs - j) 0)
-    (λ z. slice_get_past (slice_set xs i x) j (omega (arith, z, n)) ∙ sym (slice_get_past xs j (omega (arith, z))))
-    (λ p. slice_get-get_or (slice_set xs i x) j x (omega (arith, p, n)) ∙ ap Some (get_or-set_other xs i j x x ne)
-    ∙ sym (slice_get-get_or xs j x (omega (arith, p))))
 
 pub if_none_then : {A : Type 0} (o : Option A) (P Q : Type 0) → (P → Q) → IfNone o P → IfNone o Q
 if_none_then None P Q f p = f p
@@ -37,7 +29,7 @@ module _ {R : Type 0} (firing : Raise R) where
   }
 
   settles_then : (x y z : CpuView R) → Settles firing x y → Settles firing y z → Settles firing x z
-  settles_then x y z a b = (a.0 ++ b.0, folds_on (Asks firing) x a.0 y b.0 z a.1 b.1)
+  settles_then x y z a b = (a.0 ++ b.0, folds_on (AsksSettled firing) x a.0 y b.0 z a.1 b.1)
 
   -- one more was
   pub asked_at : (k : ℕ) (u v w : List (CpuView R)) → AllAsked firing u v → AsksAt firing k v w → AllAsked firing u w

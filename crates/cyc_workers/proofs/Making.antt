@@ -17,14 +17,15 @@ use Rattle.cyc_soft.specs.Serving as soft
 use Rattle.cyc_soft.proofs.Rounds.{way_finishes, look_finishes}
 use Rattle.cyc_workers.specs.declared.draining.Drained.{Drained}
 use Rattle.cyc_workers.specs.declared.watch.Watch.{Watch}
-use Rattle.cyc_workers.specs.Draining.{Makes, Serves, IsRefused, HasLooked, HasDrained, side_of}
+use Rattle.cyc_workers.specs.Draining.{MakesCalls, ServesSide, IsRefusedCall, HasLooked, HasDrained, side_of}
 use Rattle.cyc_cpu_laws.proofs.Cores.{last_finishes}
 
 module _ {D C : Type 0} (draining : Drain D) (handler : Handler C) where
-  pub makes_none : (a : SoftSide D C) → Makes draining handler a a
+  pub makes_none : (a : SoftSide D C) → MakesCalls draining handler a a
   makes_none a = record { way = []; goes = refl; called_all = refl; counted = λ id. omega arith; finished = λ id. omega arith }
 
-  pub makes_on : (a b c : SoftSide D C) → Makes draining handler a b → Makes draining handler b c → Makes draining handler a c
+  pub makes_on : (a b c : SoftSide D C) → MakesCalls draining handler a b → MakesCalls draining handler b c
+      → MakesCalls draining handler a c
   makes_on a b c p q =
       let on = finishes_on p.way q.way in
       record {
@@ -40,7 +41,7 @@ module _ {D C : Type 0} (draining : Drain D) (handler : Handler C) where
 
   -- the calls of one soft interrupt
   interrupt_makes : (a : SoftSide D C) (ran : List Served) (rest : List DrainCall) (b : SoftSide D C) → finishes_of rest ≡ []
-      → soft.Serves draining handler a ran rest b → Makes draining handler a b
+      → soft.Serves draining handler a ran rest b → MakesCalls draining handler a b
   interrupt_makes a ran rest b none s =
       let hand = draining.held a.drain in
       let all = way_finishes hand ran rest ∙ ap (λ xs. ids ran ++ xs) none ∙ append-nil (ids ran) in
@@ -53,13 +54,13 @@ module _ {D C : Type 0} (draining : Drain D) (handler : Handler C) where
       }
 
   pub served : (budget : ℕ) (answer : Result Ran SoftRefused) (a b : SoftSide D C) →
-      IsSoftint draining handler budget answer a b → IfOk answer (λ r. Serves draining handler r.idle a b)
+      IsSoftint draining handler budget answer a b → IfOk answer (λ r. ServesSide draining handler r.idle a b)
   served budget (Ok r) a b s = let x = s.served in
       (interrupt_makes a x.0 (last_look r.idle) b (last_finishes r.idle) x.2, s.idle)
   served budget (Err e) a b s = tt
 
   pub was_refused : (budget : ℕ) (answer : Result Ran SoftRefused) (a b : SoftSide D C) →
-      IsSoftint draining handler budget answer a b → IfErr answer (λ r. IsRefused draining handler a r b)
+      IsSoftint draining handler budget answer a b → IfErr answer (λ r. IsRefusedCall draining handler a r b)
   was_refused budget (Ok r) a b s = tt
   was_refused budget (Err e) a b s = let x = s.refused in let hand = hand_left (draining.held a.drain) x.0 in (
     x.1,
@@ -70,14 +71,14 @@ module _ {D C : Type 0} (draining : Drain D) (handler : Handler C) where
   )
 
   -- it asked at m, was told to stop, and looked in vain
-  pub has_stopped : (a m b : SoftSide D C) (idle : Bool) (watch : Watch D C) → Makes draining handler a m
-      → Serves draining handler idle m b → idle ≡ true → watch.told ≡ true → watch.asked.value ≡ m →
+  pub has_stopped : (a m b : SoftSide D C) (idle : Bool) (watch : Watch D C) → MakesCalls draining handler a m
+      → ServesSide draining handler idle m b → idle ≡ true → watch.told ≡ true → watch.asked.value ≡ m →
       HasDrained draining handler a (record { drain = b.drain; calls = b.calls; refused = None; watch = watch })
   has_stopped a m b idle watch before s empty told asked = record {
     stopped = record {
       told = told;
-      before = subst (λ (x : SoftSide D C). Makes draining handler a x) (sym asked) before;
-      since = subst (λ (x : SoftSide D C). Makes draining handler x (soft_side b.drain b.calls)) (sym asked) s.0;
+      before = subst (λ (x : SoftSide D C). MakesCalls draining handler a x) (sym asked) before;
+      since = subst (λ (x : SoftSide D C). MakesCalls draining handler x (soft_side b.drain b.calls)) (sym asked) s.0;
       last = subst (λ (x : SoftSide D C). EndsWithLook draining x.drain b.drain) (sym asked)
           (subst (λ x. IsTrue x → EndsWithLook draining m.drain b.drain) empty s.1 refl);
     };
@@ -85,11 +86,12 @@ module _ {D C : Type 0} (draining : Drain D) (handler : Handler C) where
   }
 
   -- the calls before its last question, and those since
-  pub looked_makes : (a : SoftSide D C) (b : Drained D C) → HasLooked draining handler a b → Makes draining handler a (side_of b)
+  pub looked_makes : (a : SoftSide D C) (b : Drained D C) → HasLooked draining handler a b
+      → MakesCalls draining handler a (side_of b)
   looked_makes a b l = makes_on a b.watch.asked.value (side_of b) l.before l.since
 
-  pub has_refused : (a m b : SoftSide D C) (r : SoftRefused) (watch : Watch D C) → Makes draining handler a m →
-      IsRefused draining handler m r b →
+  pub has_refused : (a m b : SoftSide D C) (r : SoftRefused) (watch : Watch D C) → MakesCalls draining handler a m →
+      IsRefusedCall draining handler m r b →
       HasDrained draining handler a (record { drain = b.drain; calls = b.calls; refused = Some r; watch = watch })
   has_refused a m b r watch before s = record {
     stopped = tt;

@@ -11,12 +11,12 @@ use Rattle.cyc_ring.specs.Ends.{drain_trail, drain_end, seat_made}
 use Rattle.cyc_ring.specs.Ends.{IsSameRaiseSeat, IsSameDrainSeat, IsRaiseSeatOf, IsDrainSeatOf}
 use Rattle.cyc_ring.proofs.Ways.{drain_ways}
 use Rattle.cyc_soft.specs.declared.SoftSide.{SoftSide}
-use Rattle.cyc_workers.specs.Draining.{Makes}
+use Rattle.cyc_workers.specs.Draining.{MakesCalls}
 use Rattle.cyc_workers.specs.Serving.{HasServed}
 
 -- the calls of a draining worker are those that its ring's soft side finished
 pub serves_seat : {C : Type 0} (handler : Handler C) (a b : SoftSide DrainEnd C) (seat : DrainSeat) →
-    Makes drain_end handler a b → drain_trail a.drain.seat ≡ [] → seat ≡ b.drain.seat
+    MakesCalls drain_end handler a b → drain_trail a.drain.seat ≡ [] → seat ≡ b.drain.seat
     → HasServed handler.called handler.count (seat_made seat) a.calls b.calls
 serves_seat handler a b seat m empty same =
     let none = λ (id : ℕ). ap (made_calls id) empty in
@@ -29,7 +29,7 @@ serves_seat handler a b seat m empty same =
           omega (arith, w, x, y, z));
     }
 
-pub drains_same : {C : Type 0} (handler : Handler C) (a b : SoftSide DrainEnd C) → Makes drain_end handler a b
+pub drains_same : {C : Type 0} (handler : Handler C) (a b : SoftSide DrainEnd C) → MakesCalls drain_end handler a b
     → IsSameDrainSeat a.drain.seat b.drain.seat
 drains_same handler a b m = (drain_ways a.drain b.drain m.way m.goes).0
 

@@ -12,7 +12,7 @@ use Rattle.cyc_workers.specs.declared.draining.Drained.{Drained}
 
 -- The soft side went a way of its calls, and the handlers of those that it finished were called, in order, and no other. For
 -- each id the handlers' counts and the finished calls have grown by the same.
-pub record Makes {D C : Type 0} (draining : Drain D) (handler : Handler C) (a b : SoftSide D C) : Type 0 where
+pub record MakesCalls {D C : Type 0} (draining : Drain D) (handler : Handler C) (a b : SoftSide D C) : Type 0 where
   pub way : List DrainCall
   pub goes : DrainGoes draining a.drain way b.drain
   pub called_all : FoldsTo handler.called a.calls (finishes_of way) b.calls
@@ -20,13 +20,13 @@ pub record Makes {D C : Type 0} (draining : Drain D) (handler : Handler C) (a b 
   pub finished : (id : ℕ) → draining.made b.drain id ≡ draining.made a.drain id + finished_by id way
 
 -- calls were made; where it is idle the last step of the soft side is a look that found nothing, and the hand is empty
-abbrev pub Serves : {D C : Type 0} → Drain D → Handler C → Bool → SoftSide D C → SoftSide D C → Type 0
-Serves draining handler idle a b =
-    Makes draining handler a b × (IsTrue idle → EndsWithLook draining a.drain b.drain)
+abbrev pub ServesSide : {D C : Type 0} → Drain D → Handler C → Bool → SoftSide D C → SoftSide D C → Type 0
+ServesSide draining handler idle a b =
+    MakesCalls draining handler a b × (IsTrue idle → EndsWithLook draining a.drain b.drain)
 
 -- calls were made, and then a handler refused that may refuse at that moment: its cyclic is in hand, and no count changed
-abbrev pub IsRefused : {D C : Type 0} → Drain D → Handler C → SoftSide D C → SoftRefused → SoftSide D C → Type 0
-IsRefused {D} {C} draining handler a r b = (at : C) × Makes draining handler a (soft_side b.drain at)
+abbrev pub IsRefusedCall : {D C : Type 0} → Drain D → Handler C → SoftSide D C → SoftRefused → SoftSide D C → Type 0
+IsRefusedCall {D} {C} draining handler a r b = (at : C) × MakesCalls draining handler a (soft_side b.drain at)
     × handler.may_refuse at r.id
     × ((id : ℕ) → handler.count b.calls id ≡ handler.count at id) × (draining.held b.drain ≡ Some r.id)
 
@@ -38,12 +38,12 @@ side_of b = soft_side b.drain b.calls
 pub record HasLooked {D C : Type 0} (draining : Drain D) (handler : Handler C) (a : SoftSide D C) (b : Drained D C) :
     Type 0 where
   pub told : b.watch.told ≡ true
-  pub before : Makes draining handler a b.watch.asked.value
-  pub since : Makes draining handler b.watch.asked.value (side_of b)
+  pub before : MakesCalls draining handler a b.watch.asked.value
+  pub since : MakesCalls draining handler b.watch.asked.value (side_of b)
   pub last : EndsWithLook draining b.watch.asked.value.drain b.drain
 
 -- what a draining worker leaves: it looked after it was told to stop, and found nothing; or a handler refused
 pub record HasDrained {D C : Type 0} (draining : Drain D) (handler : Handler C) (a : SoftSide D C) (b : Drained D C) :
     Type 0 where
   pub stopped : IfNone b.refused (HasLooked draining handler a b)
-  pub refused : IfSome b.refused (λ r. IsRefused draining handler a r (side_of b))
+  pub refused : IfSome b.refused (λ r. IsRefusedCall draining handler a r (side_of b))

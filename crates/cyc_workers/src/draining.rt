@@ -2,7 +2,7 @@
 
 ghost use Rattle.std.specs.Prelude.{◌≡◌, IfOk, IfErr};
 ghost use Rattle.cyc_types.specs.Levels.{as_level, handler_at};
-ghost use Rattle.cyc_workers.specs.Draining.{Serves, IsRefused, HasDrained};
+ghost use Rattle.cyc_workers.specs.Draining.{ServesSide, IsRefusedCall, HasDrained};
 
 use crate::signals::Signals;
 use crate::watch::Watch;
@@ -41,8 +41,8 @@ impl<D: Drain, C: Calls> Promise<Drained<D, C>> for Drains<D, C> {
 
 /// One soft interrupt.
 fn serve<D: Drain, C: Calls>(side: &mut SoftSide<D, C>, level: Soft) -> Result<Ran, SoftRefused>
-    ensures ran { IfOk result (λ r. Serves D.Drain (handler_at C.Calls (as_level level)) r.idle side.old side.new) }
-    ensures refused { IfErr result (λ r. IsRefused D.Drain (handler_at C.Calls (as_level level)) side.old r side.new) }
+    ensures ran { IfOk result (λ r. ServesSide D.Drain (handler_at C.Calls (as_level level)) r.idle side.old side.new) }
+    ensures refused { IfErr result (λ r. IsRefusedCall D.Drain (handler_at C.Calls (as_level level)) side.old r side.new) }
 {
     softint(&mut side.drain, &mut side.calls, level, BUDGET)
 }

@@ -2,10 +2,11 @@
 
 ghost use Rattle.cyc_cpu.specs.Cpu.{running};
 ghost use Rattle.cyc_cpu.specs.Calls.{Fire, no_interrupts};
-ghost use Rattle.cyc_cpu_laws.specs.Runs.{Steps};
+ghost use Rattle.cyc_cpu_laws.specs.Runs.{CpuSteps};
 
 use crate::wakers::Wakers;
-use cyc_cpu::{FireRefused, Fired, Hard};
+use cyc_cpu::Hard;
+use cyc_timers::{FireRefused, Fired};
 use cyc_types::{Calls, Moment, Raise};
 
 /// The firing side of a CPU, and the handlers of its high level.
@@ -31,7 +32,7 @@ pub fn fire<R: Raise, C: Calls>(
     now: Moment,
     wakers: &Wakers,
 ) -> AfterFire<R, C>
-    ensures { Steps C.Calls R.Raise no_interrupts (running side.calls side.hard)
+    ensures { CpuSteps C.Calls R.Raise no_interrupts (running side.calls side.hard)
         (Fire now result.answer) (running result.calls result.hard) }
 {
     let FiringSide {

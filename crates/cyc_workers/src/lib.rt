@@ -11,7 +11,6 @@ mod wakers;
 mod watch;
 
 pub use cpu::{Handlers, Seats};
-pub use cyc_soft::SoftSide;
 pub use draining::{Drained, Drains, drain};
 pub use firing::{AfterFire, FiringSide, fire};
 pub use settling::{Lead, settle, settle_all};

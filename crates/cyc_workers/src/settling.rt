@@ -5,7 +5,7 @@ ghost use Rattle.std.specs.List.{slice_get};
 ghost use Rattle.cyc_cpu.specs.Cpu.{CpuView};
 ghost use Rattle.cyc_cpu.specs.Moving.{IsSettled};
 ghost use Rattle.cyc_workers.specs.Refusals.{CanRefuse};
-ghost use Rattle.cyc_workers.specs.Settling.{Asks, Settles};
+ghost use Rattle.cyc_workers.specs.Settling.{AsksSettled, Settles};
 ghost use Rattle.cyc_workers.specs.Settled.{AllAsked, AllSettled, AsksAt};
 
 use crate::signals::Signals;
@@ -17,7 +17,7 @@ use std::sync::{Arc, Wait};
 use std::thread;
 
 fn ask<R: Raise>(hard: &mut Hard<R>) -> bool
-    ensures { Asks R.Raise hard.old result hard.new }
+    ensures { AsksSettled R.Raise hard.old result hard.new }
 {
     let answer = hard.settled();
     hard.law();
@@ -58,20 +58,20 @@ pub struct Lead<C> {
     pub wakers: Arc<Wakers, Global>,
 }
 
-/// Waits until the CPU at this place has settled.
+/// Waits until the CPU at this position has settled.
 fn settle_at<W: Wait, R: Raise, C: Calls>(
     rt: &W,
     all: &mut Vec<Hard<R>>,
-    place: usize,
+    position: usize,
     wakers: &Wakers,
     signals: &Signals<C>,
 ) -> Option<CyclicId>
-    requires { place < length all.old.items }
-    ensures asked { AsksAt R.Raise place all.old.items all.new.items }
-    ensures settled { IfNone result ((y : CpuView _) → slice_get all.new.items place ≡ Some y → IsSettled R.view y) }
+    requires { position < length all.old.items }
+    ensures asked { AsksAt R.Raise position all.old.items all.new.items }
+    ensures settled { IfNone result ((y : CpuView _) → slice_get all.new.items position ≡ Some y → IsSettled R.view y) }
     ensures refused { IfSome result (λ id. CanRefuse C.may_refuse id) }
 {
-    settle(rt, &mut all[place], wakers, signals)
+    settle(rt, &mut all[position], wakers, signals)
 }
 
 /// Waits until every CPU has settled: no call of it is outstanding, both its soft sides have followed and no removal is open (our
@@ -89,8 +89,8 @@ pub fn settle_all<W: Wait, R: Raise, C: Calls>(
     ensures settled { IfNone result (AllSettled R.view all.new.items) }
     ensures refused { IfSome result (λ id. CanRefuse C.may_refuse id) }
 {
-    for place in 0..leads.len() {
-        if let Some(id) = settle_at(rt, all, place, &leads[place].wakers, signals) {
+    for position in 0..leads.len() {
+        if let Some(id) = settle_at(rt, all, position, &leads[position].wakers, signals) {
             return Some(id);
         }
     }

@@ -20,7 +20,7 @@ use denote.Struct.Owning.{shape}
 use Rattle.std.proofs.cell.Inside.{Good}
 use Rattle.std.specs.contracts.option.Option as option
 use Rattle.std.proofs.option.Option.TheLaws as option_laws
-use Rattle.cyclic_c.specs.OutParameters.{number_behind, pointer_of, number_of}
+use Rattle.cyclic_c.specs.OutParameters.{number_behind, pointer_of, number_out}
 use Rattle.cyclic_c.specs.contracts.out_parameter.OutParameter as out
 use Rattle.cyclic_c.proofs.out_parameter.OutParameter.TheLaws as out_laws
 use Rattle.cyclic_c.proofs.Seals.{one}
@@ -59,7 +59,7 @@ module _ {M : Type 1} {𝓤 : Ura M} {𝓛 : Logic 𝓤} {K : Type 0} {Γ : List
 module _ {M : Type 1} {𝓤 : Ura M} (𝓛 : Logic 𝓤) where
   -- and the memory again
   pub found_memory : (m : Found.Denot) (vs : List Val)
-      → ent 𝓤 (sem 𝓛 (Found.own_val m vs)) (sem 𝓛 (number_behind (pointer_of m) (number_of m)))
+      → ent 𝓤 (sem 𝓛 (Found.own_val m vs)) (sem 𝓛 (number_behind (pointer_of m) (number_out m)))
   found_memory None vs = qed 𝓛 (‵ (Found.own_val None vs) ∷ []) ∵ keep ! [] $ feq_i ! Ptr null_ptr null_ptr refl $ done !
   found_memory (Some p) vs =
       qed 𝓛 (‵ (Found.own_val (Some p) vs) ∷ []) ∵ fpick ! (λ us. fsplit ! $ feq_l ! (λ e. fpick ! (λ vss. fsplit ! $ feq_l !

@@ -14,10 +14,10 @@ abbrev pub pointer_of : Option OutParameter → Ptr
 pointer_of None = null_ptr
 pointer_of (Some p) = p.at
 
-abbrev pub number_of : Option OutParameter → Option ℕ
-number_of None = None
-number_of (Some p) = Some p.number
+abbrev pub number_out : Option OutParameter → Option ℕ
+number_out None = None
+number_out (Some p) = Some p.number
 
 -- the number is there, where there is where to
-abbrev pub Leaves : ℕ → Option ℕ → Type 0
-Leaves n m = IfSome m (λ k. k ≡ n)
+abbrev pub LeavesNumber : ℕ → Option ℕ → Type 0
+LeavesNumber n m = IfSome m (λ k. k ≡ n)

@@ -7,7 +7,7 @@ use Rattle.cyc_ring.specs.Books.{IsBook, IsFree}
 use Rattle.cyc_ring.specs.declared.closed.Book.{Book}
 use Rattle.cyc_ring.specs.declared.closed.Closed.{Closed}
 use Rattle.cyclic_c.specs.Exports.{Written, or_zero}
-use Rattle.cyc_border.specs.Numbers.{number_of}
+use Rattle.cyc_border.specs.Numbers.{number_of_refusal}
 use Rattle.cyc_border.specs.declared.numbers.Denied.TheVariants.{Misused, Refused}
 use Rattle.cyc_border.specs.Pair.{IsNewPair, IsClosedOf, SameRings}
 use Rattle.cyclic_c.specs.Records.{IsBookOut}
@@ -27,8 +27,8 @@ pub record Handles : Type 0 where
 abbrev pub handles : Option Firing → Option SoftSide → Option SoftSide → Handles
 handles firing lock low = record { firing = firing; lock = lock; low = low }
 
-abbrev pub AreClosed : Handles → Type 0
-AreClosed g = (g.firing ≡ None) × (g.lock ≡ None) × (g.low ≡ None)
+abbrev pub AreClosedHandles : Handles → Type 0
+AreClosedHandles g = (g.firing ≡ None) × (g.lock ≡ None) × (g.low ≡ None)
 
 abbrev pub AreSame : Handles → Handles → Type 0
 AreSame g h = (h.firing ≡ g.firing) × (h.lock ≡ g.lock) × (h.low ≡ g.low)
@@ -36,13 +36,13 @@ AreSame g h = (h.firing ≡ g.firing) × (h.lock ≡ g.lock) × (h.low ≡ g.low
 -- An open for three threads: three new handles; or the caller misused it, or there was no memory, and nothing was opened.
 abbrev pub OpensPair : ℕ → ℕ → ℕ → Handles → Handles → Type 0
 OpensPair ceiling most r g h =
-    ((r ≡ 0) × (0 < ceiling) × (0 < most) × AreClosed g
+    ((r ≡ 0) × (0 < ceiling) × (0 < most) × AreClosedHandles g
     × (hard : Firing) × (lock : SoftSide) × (low : SoftSide) × (h.firing ≡ Some hard) × (h.lock ≡ Some lock) × (h.low ≡ Some low)
     × IsNewPair ceiling hard.hard.lock lock × IsNewPair ceiling hard.hard.low low × (hard.hard.most ≡ most)
     × (hard.hard.suspended ≡ false) × (hard.high ≡ None))
-    ⊎ ((r ≡ number_of Misused)
+    ⊎ ((r ≡ number_of_refusal Misused)
     × ((ceiling ≡ 0) ⊎ (most ≡ 0) ⊎ (g.firing ≢ None) ⊎ (g.lock ≢ None) ⊎ (g.low ≢ None)) × AreSame g h)
-    ⊎ ((r ≡ number_of (Refused why.Memory)) × (0 < ceiling) × (0 < most) × AreClosed g × AreClosed h)
+    ⊎ ((r ≡ number_of_refusal (Refused why.Memory)) × (0 < ceiling) × (0 < most) × AreClosedHandles g × AreClosedHandles h)
 
 -- the three handles, where they are open, are of one open
 abbrev pub OneOpen : Handles → Type 0
@@ -62,12 +62,13 @@ shelved (Some s) = s.books
 -- books, or since there was no memory for them. Or all are gone without books, since another handle of the same open is about.
 abbrev pub ClosesPair : ℕ → Handles → Option Books → Handles → Option Books → Type 0
 ClosesPair r g b h b' =
-    ((r ≡ 0) × AreClosed h × (hard : Firing) × (lock : SoftSide) × (low : SoftSide) × (books : Books)
+    ((r ≡ 0) × AreClosedHandles h × (hard : Firing) × (lock : SoftSide) × (low : SoftSide) × (books : Books)
     × (g.firing ≡ Some hard) × (g.lock ≡ Some lock) × (g.low ≡ Some low) × (b' ≡ Some books)
     × IsClosedOf hard.hard.lock.seat lock.seat books.lock × IsClosedOf hard.hard.low.seat low.seat books.low)
-    ⊎ ((r ≡ number_of Misused) × ((g.firing ≡ None) ⊎ (g.lock ≡ None) ⊎ (g.low ≡ None) ⊎ (b ≢ None)) × AreSame g h × (b' ≡ b))
-    ⊎ ((r ≡ number_of (Refused why.Memory)) × CanClose g b × AreSame g h × (b' ≡ b))
-    ⊎ ((r ≡ number_of Misused) × CanClose g b × AreClosed h × (b' ≡ None))
+    ⊎ ((r ≡ number_of_refusal Misused) × ((g.firing ≡ None) ⊎ (g.lock ≡ None) ⊎ (g.low ≡ None) ⊎ (b ≢ None)) × AreSame g h
+    × (b' ≡ b))
+    ⊎ ((r ≡ number_of_refusal (Refused why.Memory)) × CanClose g b × AreSame g h × (b' ≡ b))
+    ⊎ ((r ≡ number_of_refusal Misused) × CanClose g b × AreClosedHandles h × (b' ≡ None))
 
 abbrev pub TakesSoft : ℕ → ℕ → SoftSide → SoftSide → Type 0
 TakesSoft r id v w = (r ≡ 0) × (found : Option ℕ) × (id ≡ or_zero found) × TakesSeat found v.seat w.seat

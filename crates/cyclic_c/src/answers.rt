@@ -1,16 +1,17 @@
 //! What the answers of a CPU write over the border.
 
 ghost use Rattle.std.specs.Prelude.{◌≡◌};
-ghost use Rattle.cyclic_c.specs.Exports.{named_by, found_in as number_found, kept_by, IsRemoved, WritesTotals, WritesReceipt};
+ghost use Rattle.cyclic_c.specs.Exports.{id_named_by, found_in as number_found, kept_by, IsDoneAtOnce, WritesTotals, WritesReceipt};
 ghost use Rattle.cyclic_c.specs.Exports.{WritesFired, fire_number, or_zero as number_or_zero};
-ghost use Rattle.cyc_border.specs.Numbers.{answer_of, number_of};
+ghost use Rattle.cyc_border.specs.Numbers.{answer_of, number_of_refusal};
 ghost use Rattle.cyc_border.specs.declared.numbers.Denied.TheVariants.{Refused};
 
 use crate::records::{
     CyclicFired, CyclicReceipt, CyclicTotals, fired_of, receipt_of, stopped_of, totals_of,
 };
 use cyc_border::numbers::Denied;
-use cyc_cpu::{FireRefused, Fired, Removal, Totals};
+use cyc_cpu::{Removal, Totals};
+use cyc_timers::{FireRefused, Fired};
 use cyc_types::{CyclicId, Receipt, Refusal};
 
 /// What is answered where the caller has not done what it owes.
@@ -28,7 +29,7 @@ pub(crate) fn number_of_answer<A>(answer: &Result<A, Denied>) -> u32
 
 /// The id that an answer's refusal names, 0 where it names none.
 pub(crate) fn named_in<A>(answer: &Result<A, Denied>) -> u64
-    ensures { result ≡ named_by answer.now }
+    ensures { result ≡ id_named_by answer.now }
 {
     match answer {
         Ok(_) => 0,
@@ -87,7 +88,7 @@ pub(crate) fn kept_of(answer: &Result<Removal, Denied>) -> u32
 
 /// The receipt of a removal that was done at once, else one of no cyclic.
 pub(crate) fn removed_of(answer: &Result<Removal, Denied>) -> CyclicReceipt
-    ensures { IsRemoved answer.now result }
+    ensures { IsDoneAtOnce answer.now result }
 {
     match answer {
         Ok(Removal::Done(receipt)) => receipt_of(*receipt),
@@ -116,14 +117,14 @@ pub(crate) fn write_fired(answer: Result<Fired, FireRefused>, fired: &mut Cyclic
 #[cold]
 #[inline(never)]
 fn rare_number(why: &Refusal) -> u32
-    ensures { result ≡ number_of (Refused why.now) }
+    ensures { result ≡ number_of_refusal (Refused why.now) }
 {
     u32::from(why.number())
 }
 
 /// The number of what stopped a fire. First that of a high cyclic, at which every part of a fire stops but the last.
 fn stop_number(why: &Refusal) -> u32
-    ensures { result ≡ number_of (Refused why.now) }
+    ensures { result ≡ number_of_refusal (Refused why.now) }
 {
     match why {
         Refusal::HandlerRefused(_) => 12,

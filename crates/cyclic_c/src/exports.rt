@@ -4,11 +4,11 @@ ghost use Rattle.std.specs.Prelude.{◌≡◌, ℕ, Option};
 ghost use Rattle.std.specs.Borrow.{sem};
 ghost use denote.RawPtr.{Testable};
 ghost use Rattle.cyc_border.specs.Border.{Through};
-ghost use Rattle.cyclic_c.specs.Exports.{Opens, Closes, ReprogramsOut, AddsOut, PendingOut, TotalsOut, PollsOut, TakesOut};
+ghost use Rattle.cyclic_c.specs.Exports.{OpensHandle, Closes, ReprogramsOut, AddsOut, PendingOut, TotalsOut, PollsOut, TakesOut};
 ghost use Rattle.cyclic_c.specs.Exports.{FinishesOut, FiresOut, RemovesOut, NextOut, SuspendsOut, ResumesOut, OnHard};
 ghost use Rattle.cyc_border.specs.Border.{FiresCpu, add_numbers};
 ghost use Rattle.cyclic_c.specs.Exports.{written};
-ghost use Rattle.cyclic_c.specs.OutParameters.{number_behind, pointer_of, number_of};
+ghost use Rattle.cyclic_c.specs.OutParameters.{number_behind, pointer_of, number_out};
 ghost use Rattle.cyc_cpu.specs.Soft.{raise_tables};
 
 use crate::answers::{
@@ -33,7 +33,7 @@ pub extern "C" fn cyclic_cpu_open(
     most: u64,
     cpu: &mut CyclicCpu,
 ) -> u32
-    ensures { Opens ceiling most result cpu.old.inner.held cpu.new.inner.held }
+    ensures { OpensHandle ceiling most result cpu.old.inner.held cpu.new.inner.held }
 {
     let Some(ceiling) = Ceiling::new(ceiling) else {
         return MISUSED;
@@ -115,7 +115,7 @@ fn added(
     busy: Option<OutParameter>,
 ) -> (u32, Option<OutParameter>)
     ensures done { Through cpu.old.inner.held cpu.new.inner.held result.0
-        (AddsOut raise_tables OnHard (add_numbers id level start interval now) result.0 (number_of result.1)) }
+        (AddsOut raise_tables OnHard (add_numbers id level start interval now) result.0 (number_out result.1)) }
     ensures pointer { pointer_of result.1 ≡ pointer_of busy }
 {
     let Some(mut open) = cpu.take(alloc) else {
@@ -276,7 +276,7 @@ fn removal_begun(
     busy: Option<OutParameter>,
 ) -> (u32, Option<OutParameter>)
     ensures done { Through cpu.old.inner.held cpu.new.inner.held result.0 (RemovesOut raise_tables OnHard id result.0
-        (record { kept = kept.new; receipt = receipt.new; busy = number_of result.1 })) }
+        (record { kept = kept.new; receipt = receipt.new; busy = number_out result.1 })) }
     ensures pointer { pointer_of result.1 ≡ pointer_of busy }
 {
     let Some(mut open) = cpu.take(alloc) else {

@@ -5,7 +5,7 @@ ghost use Rattle.std.specs.Borrow.{sem};
 ghost use denote.RawPtr.{Testable};
 ghost use Rattle.cyc_border.specs.Border.{Through, add_numbers};
 ghost use Rattle.cyclic_c.specs.Exports.{written};
-ghost use Rattle.cyclic_c.specs.OutParameters.{number_behind, pointer_of, number_of};
+ghost use Rattle.cyclic_c.specs.OutParameters.{number_behind, pointer_of, number_out};
 ghost use Rattle.cyclic_c.specs.Exports.{ReprogramsOut, AddsOut, PendingOut, TotalsOut, PollsOut, FiresOut, RemovesOut, NextOut};
 ghost use Rattle.cyclic_c.specs.Exports.{SuspendsOut, ResumesOut};
 ghost use Rattle.cyc_border.specs.Pair.{raise_held, OnSide, FiresSide};
@@ -58,7 +58,7 @@ fn added(
     busy: Option<OutParameter>,
 ) -> (u32, Option<OutParameter>)
     ensures done { Through firing.old.inner.held firing.new.inner.held result.0
-        (AddsOut raise_held OnSide (add_numbers id level start interval now) result.0 (number_of result.1)) }
+        (AddsOut raise_held OnSide (add_numbers id level start interval now) result.0 (number_out result.1)) }
     ensures pointer { pointer_of result.1 ≡ pointer_of busy }
 {
     let Some(mut open) = firing.take(alloc) else {
@@ -123,7 +123,7 @@ fn removal_begun(
     busy: Option<OutParameter>,
 ) -> (u32, Option<OutParameter>)
     ensures done { Through firing.old.inner.held firing.new.inner.held result.0 (RemovesOut raise_held OnSide id result.0
-        (record { kept = kept.new; receipt = receipt.new; busy = number_of result.1 })) }
+        (record { kept = kept.new; receipt = receipt.new; busy = number_out result.1 })) }
     ensures pointer { pointer_of result.1 ≡ pointer_of busy }
 {
     let Some(mut open) = firing.take(alloc) else {

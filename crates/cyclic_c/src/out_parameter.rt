@@ -19,7 +19,7 @@ impl Model for OutParameter {
 }
 
 impl OutParameter {
-    ghost use Rattle.cyclic_c.specs.OutParameters.{number_behind, pointer_of, number_of, Leaves};
+    ghost use Rattle.cyclic_c.specs.OutParameters.{number_behind, pointer_of, number_out, LeavesNumber};
 
     /// What is behind the pointer, None where it is null.
     pub(crate) unsafe fn behind(at: *mut u64) -> Option<OutParameter>
@@ -44,7 +44,7 @@ impl OutParameter {
     /// Writes the number, where there is an out-parameter.
     pub(crate) fn written(parameter: Option<OutParameter>, number: u64) -> Option<OutParameter>
         ensures pointer { pointer_of result ≡ pointer_of parameter }
-        ensures number { Leaves number (number_of result) }
+        ensures number { LeavesNumber number (number_out result) }
     {
         let mut found = parameter?;
         found.write(number);

@@ -1,11 +1,12 @@
 //! The records that cross the border.
 
 ghost use Rattle.std.specs.Prelude.{◌≡◌};
-ghost use Rattle.cyclic_c.specs.Records.{IsFired, IsRefused, IsTotals, IsReceipt, IsBookOut};
+ghost use Rattle.cyclic_c.specs.Records.{IsFiredRecord, IsRefusedRecord, IsTotals, IsReceiptRecord, IsBookOut};
 
 use cyc_border::numbers::Denied;
-use cyc_cpu::{FireRefused, Fired, Totals};
+use cyc_cpu::Totals;
 use cyc_ring::Book;
+use cyc_timers::{FireRefused, Fired};
 use cyc_types::Receipt;
 
 /// What a fire did.
@@ -56,7 +57,7 @@ impl CyclicReceipt {
 }
 
 pub fn fired_of(fired: Fired) -> CyclicFired
-    ensures { IsFired fired result }
+    ensures { IsFiredRecord fired result }
 {
     CyclicFired {
         expired: fired.expired,
@@ -67,7 +68,7 @@ pub fn fired_of(fired: Fired) -> CyclicFired
 }
 
 pub fn stopped_of(refused: FireRefused) -> CyclicFired
-    ensures { IsRefused refused result }
+    ensures { IsRefusedRecord refused result }
 {
     CyclicFired {
         expired: refused.expired,
@@ -88,7 +89,7 @@ pub fn totals_of(totals: Totals) -> CyclicTotals
 }
 
 pub fn receipt_of(receipt: Receipt) -> CyclicReceipt
-    ensures { IsReceipt receipt result }
+    ensures { IsReceiptRecord receipt result }
 {
     let most = u128::from(u64::MAX);
     CyclicReceipt {

@@ -3,9 +3,9 @@
 #![tactic(auto)]
 
 use cyc_input::{BoundedReader, read_input};
-use cyc_replay::{RunFault, run_script};
+use cyc_replay::run_script;
 use cyc_script::{Script, read_script};
-use cyc_text::{BoundedWriter, Fault, Out, status_of};
+use cyc_text::{BoundedWriter, Fault, Out, RunFault, status_of};
 use cyc_types::Refusal;
 use std::alloc::Global;
 use std::io;

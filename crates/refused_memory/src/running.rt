@@ -3,7 +3,9 @@ ghost use Rattle.std.specs.Prelude.{◌≡◌, ◌*◌, length, IfOk};
 
 use crate::scripts::Compares;
 use crate::seen::Seen;
-use cyc_machine::{RunFault, Script, read_script, run};
+use cyc_script::{Script, read_script};
+use cyc_text::RunFault;
+use cyc_threads::run;
 use cyc_types::{CyclicId, Refusal, Tally};
 use std::alloc::Global;
 use std::sync::Wait;

@@ -2,10 +2,11 @@
 ghost use Rattle.std.specs.Prelude.{None, false};
 
 use crate::seen::{Seen, refused};
-use cyc_machine::{
-    BoundedReader, Command, Fault, InputFault, PutFailed, RunFault, Script, Sink, command_of,
-    read_input, read_script, replay,
-};
+use cyc_command::{Command, command_of};
+use cyc_input::{BoundedReader, InputFault, read_input};
+use cyc_replay::replay;
+use cyc_script::{Script, read_script};
+use cyc_text::{Fault, PutFailed, RunFault, Sink};
 use cyc_types::Refusal;
 use std::alloc::Global;
 

@@ -4,16 +4,16 @@ use Rattle.std.proofs.Common.{mod-eq_of_lt, arith}
 use Rattle.std.proofs.lemmas.Nat.{mul-mod_first}
 use native.Mathlib.Nat.{pow-suc}
 use Rattle.cyc_level.specs.Limits.{greatest_bank, cyclics}
-use Rattle.ring_rule.specs.Words.{spread, slot_word}
+use Rattle.ring_rule.specs.Words.{spread_index, slot_word}
 use Rattle.ring_rule.specs.Apart.{PendsAreApart, PlacesAreApart, BanksAreApart, WordsAreApart}
 use Rattle.ring_rule.proofs.Words.{pend_low, pend_distinct, place_high, place_low, turned_back, same_turn}
 
 -- equal indexes modulo a size have equal positions
-pub same_spread : (n i j : ℕ) → i % n ≡ j % n → spread n i ≡ spread n j
+pub same_spread : (n i j : ℕ) → i % n ≡ j % n → spread_index n i ≡ spread_index n j
 same_spread n i j e = sym (mul-mod_first i 9 n) ∙ (ap (λ (x : ℕ). x * 9 % n) e ∙ mul-mod_first j 9 n)
 
 -- the index of a word
-pub word_index : (bank word : ℕ) → bank ≤ 33 → word < 2 ^ bank → spread (2 ^ bank) (word * 954437177 % 2 ^ bank) ≡ word
+pub word_index : (bank word : ℕ) → bank ≤ 33 → word < 2 ^ bank → spread_index (2 ^ bank) (word * 954437177 % 2 ^ bank) ≡ word
 word_index bank word most less = mul-mod_first (word * 954437177) 9 (2 ^ bank)
     ∙ (ap (λ (x : ℕ). x % 2 ^ bank) (let e : word * 954437177 * 9 ≡ word * 9 * 954437177 = omega arith in e)
     ∙ (sym (mul-mod_first (word * 9) 954437177 (2 ^ bank)) ∙ (turned_back bank word most ∙ mod-eq_of_lt less)))

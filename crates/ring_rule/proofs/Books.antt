@@ -4,7 +4,16 @@ use Rattle.std.specs.Prelude.{Option, Some, None}
 use Rattle.cyc_level.specs.declared.Event.{Event}
 use Rattle.cyc_level.specs.Level.{AdmittedCyclic, SoftLevel, count, count_in, in_hand}
 use Rattle.cyc_level.specs.Events.{AllEnabled}
-use Rattle.cyc_level.specs.Runs.{firing_events, StayCounts, past_calls, past_stays, past_finishes, expirations, losses, finishes}
+use Rattle.cyc_level.specs.Runs.{
+  firing_events,
+  StayCounts,
+  past_calls,
+  past_stays,
+  past_finishes,
+  expirations_of_id,
+  losses,
+  finishes,
+}
 use Rattle.cyc_level.specs.Runs.{AreFinished}
 use Rattle.cyc_level.proofs.Stays.{IsSplit, split_finishes, over_stays, expirations_firing, losses_firing, past_calls_firing}
 use Rattle.cyc_level.proofs.Stays.{past_stays_firing}
@@ -14,7 +23,7 @@ use Rattle.ring_rule.specs.declared.Setting.{Setting}
 use Rattle.ring_rule.specs.Words.{pend_word}
 use Rattle.ring_rule.specs.Trail.{open_stay, ended_stays, ended_calls, seen_pend, made_calls, raise_events}
 use Rattle.ring_rule.specs.Shown.{IsSameStay}
-use Rattle.ring_rule.specs.Log.{RingStep, raise_side, drain_side, events_of, level_after, replay}
+use Rattle.ring_rule.specs.Log.{RingStep, raise_side, drain_side, events_of, level_after_steps, replay}
 use Rattle.ring_rule.specs.Conservation.{IsBooked, IsPending, IsAccounted}
 use Rattle.ring_rule.proofs.Stays.{behind, held_once}
 use Rattle.ring_rule.proofs.Now.{RingNow}
@@ -48,7 +57,7 @@ pending made past seen (Some s) None h low = absurd h
 pending made past seen (Some s) (Some c) h low = low
 
 module _ (k : Setting) (log : List RingStep) (on : AllEnabled k.ceiling (events_of log))
-    (N : RingNow k (replay k.start log) (raise_side log) (drain_side log) (level_after k.ceiling log)) where
+    (N : RingNow k (replay k.start log) (raise_side log) (drain_side log) (level_after_steps k.ceiling log)) where
   abbrev rs : List RaiseStep
   rs = raise_side log
 
@@ -63,8 +72,8 @@ module _ (k : Setting) (log : List RingStep) (on : AllEnabled k.ceiling (events_
   same_of_run f same = ap f (sym (firing_side log)) ∙ same es
 
   pub accounted : IsAccounted rs ds
-  accounted id = let l : SoftLevel = level_after k.ceiling log in let t = (over_stays k.ceiling id es on).total in
-      let a = same_of_run (expirations id) (expirations_firing id) in let b = same_of_run (losses id) (losses_firing id) in
+  accounted id = let l : SoftLevel = level_after_steps k.ceiling log in let t = (over_stays k.ceiling id es on).total in
+      let a = same_of_run (expirations_of_id id) (expirations_firing id) in let b = same_of_run (losses id) (losses_firing id) in
       let c = same_of_run (past_calls id) (past_calls_firing id) in
       let m = same_made (made_calls id ds) (ended_calls id rs) (past_calls id es) (finishes k.ceiling id es) (open_stay id rs)
       (l.cyclics id) c (N.shows.stays id) (split_finishes k.ceiling id es on) in (

@@ -10,3 +10,13 @@ pub mod Books
 pub mod Stands
 pub mod Truths
 pub mod Removals
+mod Admits
+mod LoadsToRaise
+mod Adds
+mod Stores
+mod Publishes
+mod RemovalSteps
+mod Banks
+mod Looks
+mod Takes
+mod Subtracts

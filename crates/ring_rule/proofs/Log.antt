@@ -13,7 +13,7 @@ use Rattle.ring_rule.specs.declared.DrainStep.{DrainStep}
 use Rattle.ring_rule.specs.declared.DrainStep.TheVariants.{LoadedHardBank, LoadedProducer, Took, Subtracted, Followed}
 use Rattle.ring_rule.specs.Trail.{raise_event, drain_event, raise_events, drain_events}
 use Rattle.ring_rule.specs.Log.{RingStep, of_raise, of_drain, raise_side, raise_positions, drain_side, drain_positions, events_of}
-use Rattle.ring_rule.specs.Log.{IsTrue, AllTrue, StandsAt}
+use Rattle.ring_rule.specs.Log.{IsTrue, AllTrue, StepStandsAt}
 use Rattle.ring_rule.specs.Laws.{placed, merged}
 
 -- the events of a log are those of its sides
@@ -192,12 +192,12 @@ grown l (of_drain z ∷ m) xs (y ∷ ys) e f = let r = grown l m xs ys e (ap res
     (of_drain z ∷ r.0, ap (λ (t : List RingStep). of_drain z ∷ t) r.1)
 
 module _ (start : ℕ) where
-  further : (y : RingStep) (log : List RingStep) (position : ℕ) (x : RingStep) → StandsAt start log position x
-      → StandsAt start (y ∷ log) position x
+  further : (y : RingStep) (log : List RingStep) (position : ℕ) (x : RingStep) → StepStandsAt start log position x
+      → StepStandsAt start (y ∷ log) position x
   further y log position x (later, earlier, is, long, true) = (y ∷ later, earlier, ap (λ l. y ∷ l) is, long, true)
 
   pub raise_stands : (log : List RingStep) → AllTrue start log → (n : ℕ) (x : RaiseStep) → get_elem? (raise_side log) n ≡ some x
-      → (position : ℕ) × (get_elem? (raise_positions log) n ≡ some position) × StandsAt start log position (of_raise x)
+      → (position : ℕ) × (get_elem? (raise_positions log) n ≡ some position) × StepStandsAt start log position (of_raise x)
   raise_stands [] h n x e = absurd (some-ne-none x (sym e))
   raise_stands (of_raise z ∷ log) h zero x e = let p : z ≡ x = some-injective z x e in (
     length log,
@@ -216,7 +216,7 @@ module _ (start : ℕ) where
       (r.0, r.1, further (of_drain z) log r.0 (of_raise x) r.2)
 
   pub drain_stands : (log : List RingStep) → AllTrue start log → (n : ℕ) (x : DrainStep) → get_elem? (drain_side log) n ≡ some x
-      → (position : ℕ) × (get_elem? (drain_positions log) n ≡ some position) × StandsAt start log position (of_drain x)
+      → (position : ℕ) × (get_elem? (drain_positions log) n ≡ some position) × StepStandsAt start log position (of_drain x)
   drain_stands [] h n x e = absurd (some-ne-none x (sym e))
   drain_stands (of_drain z ∷ log) h zero x e = let p : z ≡ x = some-injective z x e in (
     length log,

@@ -16,7 +16,7 @@ use Rattle.ring_rule.specs.declared.DrainStep.{DrainStep}
 use Rattle.ring_rule.specs.declared.Setting.{Setting}
 use Rattle.ring_rule.specs.Trail.{consumer_index}
 use Rattle.ring_rule.specs.Shown.{BankHolds, TrailsShow, StillHolds}
-use Rattle.ring_rule.specs.Log.{RingStep, raise_side, drain_side, events_of, level_after, replay}
+use Rattle.ring_rule.specs.Log.{RingStep, raise_side, drain_side, events_of, level_after_steps, replay}
 use Rattle.ring_rule.specs.Rule.{RingState, IsShown, AllShown, MeetsRule}
 use Rattle.ring_rule.proofs.Words.{pend_distinct}
 use Rattle.ring_rule.proofs.Seats.{level, as_wide}
@@ -35,7 +35,7 @@ shown_now k (x ∷ log) h = h.0
 
 -- the same after a log of which no state is at hand
 pub log_now : (k : Setting) (log : List RingStep) → k.ceiling < 2 ^ 32 → AllEnabled k.ceiling (events_of log) → AllShown k log
-    → RingNow k (replay k.start log) (raise_side log) (drain_side log) (level_after k.ceiling log)
+    → RingNow k (replay k.start log) (raise_side log) (drain_side log) (level_after_steps k.ceiling log)
 log_now k log small on shown = let now = shown_now k log shown in record {
   small = small;
   wide = as_wide k.start log;

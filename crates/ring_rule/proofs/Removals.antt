@@ -13,7 +13,7 @@ use Rattle.ring_rule.specs.declared.DrainStep.{DrainStep}
 use Rattle.ring_rule.specs.declared.DrainStep.TheVariants.{LoadedHardBank, LoadedProducer, Took, Subtracted, Followed}
 use Rattle.ring_rule.specs.declared.Setting.{Setting}
 use Rattle.ring_rule.specs.Trail.{open_stay, ended_calls, drainer_hand_of, made_calls}
-use Rattle.ring_rule.specs.Log.{RingStep, of_raise, of_drain, raise_side, drain_side, level_after}
+use Rattle.ring_rule.specs.Log.{RingStep, of_raise, of_drain, raise_side, drain_side, level_after_steps}
 use Rattle.ring_rule.specs.Shown.{IsSameStay}
 use Rattle.ring_rule.specs.Conservation.{LevelStands, AllStood}
 use Rattle.ring_rule.specs.Laws.{IsAdmission, NoneAdmits, IsCall, NoneCalls, NoCallFollowsRemoval}
@@ -58,7 +58,7 @@ no_count made ended (Some s) p e h = absurd (cc)
 -- an id with no open stay is not in the drainer's hand
 hand_free : (k : Setting) (log : List RingStep) (id : ℕ) → LevelStands k log → open_stay id (raise_side log) ≡ None
     → drainer_hand_of (drain_side log) ≢ Some id
-hand_free k log id L none held = let l : SoftLevel = level_after k.ceiling log in
+hand_free k log id L none held = let l : SoftLevel = level_after_steps k.ceiling log in
     let c = no_count (made_calls id (drain_side log)) (ended_calls id (raise_side log)) (open_stay id (raise_side log))
     (l.cyclics id) none (L.shows.stays id) in
     let one = L.lawful.one_place id in let z : one_if_any (count_in (l.cyclics id)) ≡ 0 = ap one_if_any c in

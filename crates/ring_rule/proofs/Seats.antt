@@ -16,14 +16,24 @@ use Rattle.ring_rule.specs.declared.SeatView.{SeatView}
 use Rattle.ring_rule.specs.declared.Setting.{Setting}
 use Rattle.ring_rule.specs.Words.{word_count, first_word}
 use Rattle.ring_rule.specs.Trail.{raise_event, drain_event}
-use Rattle.ring_rule.specs.Log.{RingStep, of_raise, of_drain, raise_side, drain_side, events_of, level_after, word_of, left_by}
+use Rattle.ring_rule.specs.Log.{
+  RingStep,
+  of_raise,
+  of_drain,
+  raise_side,
+  drain_side,
+  events_of,
+  level_after_steps,
+  word_of,
+  left_by_step,
+}
 use Rattle.ring_rule.specs.Log.{FoundIs, raise_word, drain_word, raise_leaves, drain_leaves, RaiseFound, DrainFound, replay}
 use Rattle.ring_rule.specs.Shown.{TrailsShow, StillHolds}
 use Rattle.ring_rule.specs.Rule.{RingState, HasRaises, HasDrains, IsSeat, IsFiring, IsSoft, MeetsRule}
 use Rattle.ring_rule.specs.Steps.{with_raise_step, with_drain_step, ExtendsByRaise, ExtendsByDrain}
 
 abbrev pub level : (k : Setting) (s : RingState) → MeetsRule k s → SoftLevel
-level k s R = level_after k.ceiling R.log
+level k s R = level_after_steps k.ceiling R.log
 
 pub length_set : {A : Type 0} (l : List A) (i : ℕ) (a : A) → length (set l i a) ≡ length l
 length_set [] i a = refl
@@ -68,7 +78,7 @@ module _ (l : List SeatView) (i j : ℕ) (v w : SeatView) (a : get_elem? l i ≡
 pub as_wide : (start : ℕ) (log : List RingStep) → length (replay start log) ≡ word_count
 as_wide start [] = length-map-range_with_len (first_word start) 0 word_count
 as_wide start (x ∷ log) = length-set (replay start log) (word_of start x log)
-    (left_by x (get_or (replay start log) (word_of start x log) 0)) ∙ as_wide start log
+    (left_by_step x (get_or (replay start log) (word_of start x log) 0)) ∙ as_wide start log
 
 pub wide : (k : Setting) (s : RingState) (R : MeetsRule k s) → length s.words ≡ word_count
 wide k s R = ap length R.words ∙ as_wide k.start R.log
@@ -114,7 +124,7 @@ module _ (k : Setting) (s : RingState) (R : MeetsRule k s) (seat : ℕ) (v : Sea
         R.soft_side in
         let e : RingStep = of_raise x in
         let now : set s.words i n ≡ replay k.start (e ∷ R.log) = (λ z. set s.words i (leaves z))
-        ∙ (λ z. set (R.words z) (word z) (left_by e (get_or (R.words z) (word z) 0))) in (
+        ∙ (λ z. set (R.words z) (word z) (left_by_step e (get_or (R.words z) (word z) 0))) in (
           record {
             log = e ∷ R.log;
             raise_seat = R.raise_seat;
@@ -185,7 +195,7 @@ module _ (k : Setting) (s : RingState) (R : MeetsRule k s) (seat : ℕ) (v : Sea
         (length R.log) x v in let f = R.firing_side in
         let e : RingStep = of_drain x in
         let now : set s.words i n ≡ replay k.start (e ∷ R.log) = (λ z. set s.words i (leaves z))
-        ∙ (λ z. set (R.words z) (word z) (left_by e (get_or (R.words z) (word z) 0))) in (
+        ∙ (λ z. set (R.words z) (word z) (left_by_step e (get_or (R.words z) (word z) 0))) in (
           record {
             log = e ∷ R.log;
             raise_seat = R.raise_seat;

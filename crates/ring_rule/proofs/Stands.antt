@@ -9,11 +9,30 @@ use Rattle.ring_rule.specs.declared.Role.{Role}
 use Rattle.ring_rule.specs.declared.Role.TheVariants.{Joint, Raise, Drain, Spent}
 use Rattle.ring_rule.specs.declared.SeatView.{SeatView}
 use Rattle.ring_rule.specs.declared.Setting.{Setting}
-use Rattle.ring_rule.specs.Log.{RingStep, of_raise, of_drain, raise_side, drain_side, step_event, events_of, level_after, replay}
+use Rattle.ring_rule.specs.Log.{
+  RingStep,
+  of_raise,
+  of_drain,
+  raise_side,
+  drain_side,
+  step_event,
+  events_of,
+  level_after_steps,
+  replay,
+}
 use Rattle.ring_rule.specs.Log.{AllTrue}
 use Rattle.ring_rule.specs.Rule.{RingState, HasItsTrail, IsSeat, AllShown, MeetsRule}
 use Rattle.ring_rule.specs.Conservation.{LevelStands, AllStood, EndsWithIts, StandsFor, Conserves}
-use Rattle.ring_rule.specs.Steps.{ThisSeat, with_raise_step, with_drain_step, IsAllowed, IsRaiseStep, IsDrainStep, IsFiringStep}
+use Rattle.ring_rule.specs.Steps.{
+  ThisSeat,
+  Operation,
+  with_raise_step,
+  with_drain_step,
+  IsAllowed,
+  IsRaiseStep,
+  IsDrainStep,
+  IsFiringStep,
+}
 use Rattle.ring_rule.specs.Steps.{IsSoftStep}
 use Rattle.ring_rule.specs.Moves.{ClosingStands}
 use Rattle.ring_rule.proofs.Log.{rest_enabled}
@@ -36,8 +55,8 @@ level_stands k log small true on shown = let N = log_now k log small on shown in
   shows = N.shows;
   still = N.still;
   lawful = N.law;
-  conserved = conserved_level (level_after k.ceiling log) N.law;
-  booked = booked k (replay k.start log) (raise_side log) (drain_side log) (level_after k.ceiling log) N;
+  conserved = conserved_level (level_after_steps k.ceiling log) N.law;
+  booked = booked k (replay k.start log) (raise_side log) (drain_side log) (level_after_steps k.ceiling log) N;
   accounted = accounted k log on N;
   finished = finished_stays k log on N;
 }
@@ -76,27 +95,30 @@ stands_for k s R j v at ends = (
 one_longer : (m : List RingStep) (x : RingStep) (log : List RingStep) → m ≡ x ∷ log → length m ≡ length log + 1
 one_longer m x log is = let e = ap length is in omega (arith, e)
 
+abbrev pub operation : (slots seat : ℕ) (me : ThisSeat) (i : ℕ) (f : ℕ → ℕ) → Operation
+operation slots seat me i f = record { slots = slots; seat = seat; me = me; word = i; leaves = f }
+
 -- a step that extends the log is allowed, and tells that such a level stands at its position
 raise_allowed : (k : Setting) (slots seat : ℕ) (me : ThisSeat) (i : ℕ) (f : ℕ → ℕ) (tells : ℕ → ThisSeat → Type 0)
-    → me.0.role ≡ Raise → IsRaiseStep k slots seat me i f tells → IsAllowed k slots seat me i f tells
+    → me.0.role ≡ Raise → IsRaiseStep k (operation slots seat me i f) tells → IsAllowed k (operation slots seat me i f) tells
 raise_allowed k slots seat me i f tells role A s R homes at small = let x = A s R homes at small in let w : SeatView =
     with_raise_step (length R.log) x.0 me.0 in
     let ends = subst (λ (r : Role). EndsWithIts x.1.0.log w r) (sym role) (one_longer x.1.0.log (of_raise x.0) R.log x.1.1) in
     (w, keeps, tt, x.1.0, (x.2, stands_for k _ x.1.0 seat w (at_here s.views seat me.0 w at) ends))
 
 drain_allowed : (k : Setting) (slots seat : ℕ) (me : ThisSeat) (i : ℕ) (f : ℕ → ℕ) (tells : ℕ → ThisSeat → Type 0)
-    → me.0.role ≡ Drain → IsDrainStep k slots seat me i f tells → IsAllowed k slots seat me i f tells
+    → me.0.role ≡ Drain → IsDrainStep k (operation slots seat me i f) tells → IsAllowed k (operation slots seat me i f) tells
 drain_allowed k slots seat me i f tells role A s R homes at small = let x = A s R homes at small in let w : SeatView =
     with_drain_step (length R.log) x.0 me.0 in
     let ends = subst (λ (r : Role). EndsWithIts x.1.0.log w r) (sym role) (one_longer x.1.0.log (of_drain x.0) R.log x.1.1) in
     (w, keeps, tt, x.1.0, (x.2, stands_for k _ x.1.0 seat w (at_here s.views seat me.0 w at) ends))
 
 pub firing_step : (k : Setting) (slots seat : ℕ) (me : ThisSeat) (i : ℕ) (f : ℕ → ℕ) (tells : ℕ → ThisSeat → Type 0)
-    → me.0.role ≡ Raise → IsRaiseStep k slots seat me i f tells → IsFiringStep k slots seat me i f tells
+    → me.0.role ≡ Raise → IsRaiseStep k (operation slots seat me i f) tells → IsFiringStep k (operation slots seat me i f) tells
 firing_step k slots seat me i f tells role A = (A, raise_allowed k slots seat me i f tells role A)
 
 pub soft_step : (k : Setting) (slots seat : ℕ) (me : ThisSeat) (i : ℕ) (f : ℕ → ℕ) (tells : ℕ → ThisSeat → Type 0)
-    → me.0.role ≡ Drain → IsDrainStep k slots seat me i f tells → IsSoftStep k slots seat me i f tells
+    → me.0.role ≡ Drain → IsDrainStep k (operation slots seat me i f) tells → IsSoftStep k (operation slots seat me i f) tells
 soft_step k slots seat me i f tells role A = (A, drain_allowed k slots seat me i f tells role A)
 
 -- a ring that was closed with the seat of both sides

@@ -20,9 +20,9 @@ use Rattle.ring_rule.specs.declared.DrainStep.TheVariants.{LoadedHardBank, Loade
 use Rattle.ring_rule.specs.declared.SeatView.{SeatView}
 use Rattle.ring_rule.specs.declared.Setting.{Setting}
 use Rattle.ring_rule.specs.Words.{pend_word, mark_bit, producer_word, slot_word, entry_id}
-use Rattle.ring_rule.specs.Trail.{open_stay, ended_calls, held_entry, id_in, made_calls, consumer_index}
+use Rattle.ring_rule.specs.Trail.{open_stay, ended_calls, held_entry, id_in_entry, made_calls, consumer_index}
 use Rattle.ring_rule.specs.Log.{RingStep, of_raise, of_drain, raise_side, raise_positions, drain_side, drain_positions}
-use Rattle.ring_rule.specs.Log.{level_after}
+use Rattle.ring_rule.specs.Log.{level_after_steps}
 use Rattle.ring_rule.specs.Log.{stay_word, held_word, words_after, replay, AllTrue}
 use Rattle.ring_rule.specs.Shown.{IsSameStay}
 use Rattle.ring_rule.specs.Rule.{RingState, HasRaises, HasDrains, IsSeat, IsFiring, IsSoft, MeetsRule}
@@ -226,7 +226,7 @@ stands_now k (x ∷ log) h = h.0
 
 module _ (k : Setting) (log : List RingStep) (L : LevelStands k log) where
   abbrev l : SoftLevel
-  l = level_after k.ceiling log
+  l = level_after_steps k.ceiling log
 
   abbrev ws : List ℕ
   ws = replay k.start log
@@ -247,9 +247,9 @@ module _ (k : Setting) (log : List RingStep) (L : LevelStands k log) where
 
   pub held_found : (o : Option ℕ) → held_entry (drain_side log) ≡ o → (id : ℕ) → l.drainer_hand ≡ Some id
       → get_or ws (held_word o) 0 ≡ pend_of l id
-  held_found None is id hand = let x : None ≡ Some id = sym (ap id_in is) ∙ (sym L.shows.drainer_is ∙ hand) in absurd (cc)
+  held_found None is id hand = let x : None ≡ Some id = sym (ap id_in_entry is) ∙ (sym L.shows.drainer_is ∙ hand) in absurd (cc)
   held_found (Some e) is id hand = let h = L.still.held_is e is in let same : entry_id e ≡ id =
-      some_same (entry_id e) id (sym (ap id_in is) ∙ (sym L.shows.drainer_is ∙ hand)) in
+      some_same (entry_id e) id (sym (ap id_in_entry is) ∙ (sym L.shows.drainer_is ∙ hand)) in
       ap (λ (i : ℕ). get_or ws (pend_word i) 0) (sym h.2)
       ∙ (L.shows.pends (entry_id e) h.0 h.1 ∙ ((λ z. count_in (sym h.1 z) + mark_bit * in_hand (entry_id e) l.marked)
       ∙ ap (pend_of l) same))

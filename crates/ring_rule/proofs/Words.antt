@@ -10,7 +10,7 @@ use Rattle.cyc_level.specs.Level.{AdmittedCyclic, Cyclics}
 use Rattle.cyc_level.specs.Events.{changed_at, first_of}
 use Rattle.cyc_level.proofs.Maps.{some_same, at_cases}
 use Rattle.cyc_level.specs.Limits.{greatest_bank, cyclics}
-use Rattle.ring_rule.specs.Words.{spread, pend_word, slot_word, producer_word, entry}
+use Rattle.ring_rule.specs.Words.{spread_index, pend_word, slot_word, producer_word, entry}
 use Rattle.ring_rule.specs.Shown.{HoldsEntry, BankHolds, IsHandStored}
 
 pub pend_low : (i : ℕ) → i < cyclics → pend_word i < cyclics
@@ -30,7 +30,7 @@ place_low bank i h = let p : 0 < 2 ^ bank = pow_pos bank in let q : 2 ^ bank ≤
     omega (arith, p, q, r, e)
 
 -- nine has an inverse, so that the position shows the index
-pub turned_back : (bank i : ℕ) → bank ≤ 33 → spread (2 ^ bank) i * 954437177 % 2 ^ bank ≡ i % 2 ^ bank
+pub turned_back : (bank i : ℕ) → bank ≤ 33 → spread_index (2 ^ bank) i * 954437177 % 2 ^ bank ≡ i % 2 ^ bank
 turned_back bank i most = let q : 2 ^ 33 ≡ 2 ^ bank * 2 ^ (33 - bank) =
     sym (sym (pow-add 2 bank (33 - bank)) ∙ ap (λ (x : ℕ). 2 ^ x) (let e : bank + (33 - bank) ≡ 33 = omega arith in e)) in
     let e : i * 9 * 954437177 ≡ i + 2 ^ 33 * i = omega arith in
@@ -39,7 +39,7 @@ turned_back bank i most = let q : 2 ^ 33 ≡ 2 ^ bank * 2 ^ (33 - bank) =
     ∙ ap (λ (x : ℕ). i + x) (mul_assoc (2 ^ bank) (2 ^ (33 - bank)) i)))
     ∙ add-mul-mod_self_left i (2 ^ bank) (2 ^ (33 - bank) * i))
 
-pub same_turn : (bank i j : ℕ) → bank ≤ 33 → spread (2 ^ bank) i ≡ spread (2 ^ bank) j → i % 2 ^ bank ≡ j % 2 ^ bank
+pub same_turn : (bank i j : ℕ) → bank ≤ 33 → spread_index (2 ^ bank) i ≡ spread_index (2 ^ bank) j → i % 2 ^ bank ≡ j % 2 ^ bank
 same_turn bank i j most e = sym (turned_back bank i most) ∙ (ap (λ (x : ℕ). x * 954437177 % 2 ^ bank) e ∙ turned_back bank j most)
 
 -- each map has the ids of the first, with their indexes

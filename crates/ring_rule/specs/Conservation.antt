@@ -13,8 +13,8 @@ use Rattle.ring_rule.specs.declared.Role.TheVariants.{Joint, Raise, Drain, Spent
 use Rattle.ring_rule.specs.declared.SeatView.{SeatView}
 use Rattle.ring_rule.specs.declared.Setting.{Setting}
 use Rattle.ring_rule.specs.Words.{pend_word, mark_bit}
-use Rattle.ring_rule.specs.Trail.{open_stay, ended_stays, ended_calls, raises_of, losses_of, seen_pend, made_calls}
-use Rattle.ring_rule.specs.Log.{RingStep, raise_side, drain_side, events_of, level_after, replay, AllTrue, newest}
+use Rattle.ring_rule.specs.Trail.{open_stay, ended_stays, ended_calls, raises_of, losses_on_trail, seen_pend, made_calls}
+use Rattle.ring_rule.specs.Log.{RingStep, raise_side, drain_side, events_of, level_after_steps, replay, AllTrue, newest}
 use Rattle.ring_rule.specs.Shown.{TrailsShow, StillHolds}
 use Rattle.ring_rule.specs.Rule.{RingState, HasItsTrail}
 
@@ -34,17 +34,17 @@ IsPending pend seen (Some s) = pend ≤ seen
 abbrev pub IsAccounted : List RaiseStep → List DrainStep → Type 0
 IsAccounted raise_trail drain_trail = (id : ℕ) → (pend : ℕ)
     × IsPending pend (seen_pend id raise_trail) (open_stay id raise_trail)
-    × (made_calls id drain_trail + pend + losses_of id raise_trail ≡ raises_of id raise_trail)
+    × (made_calls id drain_trail + pend + losses_on_trail id raise_trail ≡ raises_of id raise_trail)
 
 -- after the log: each record of it is true at its position, its events are an enabled run, and the level that the run has reached
 -- is what words and trails show; it is lawful, and no call of it is forgotten
 pub record LevelStands (k : Setting) (log : List RingStep) : Type 0 where
   pub all_true : AllTrue k.start log
   pub enabled : AllEnabled k.ceiling (events_of log)
-  pub shows : TrailsShow k.start (replay k.start log) (raise_side log) (drain_side log) (level_after k.ceiling log)
-  pub still : StillHolds k.start (replay k.start log) (raise_side log) (drain_side log) (level_after k.ceiling log)
-  pub lawful : Lawful (level_after k.ceiling log)
-  pub conserved : IsConserved (level_after k.ceiling log)
+  pub shows : TrailsShow k.start (replay k.start log) (raise_side log) (drain_side log) (level_after_steps k.ceiling log)
+  pub still : StillHolds k.start (replay k.start log) (raise_side log) (drain_side log) (level_after_steps k.ceiling log)
+  pub lawful : Lawful (level_after_steps k.ceiling log)
+  pub conserved : IsConserved (level_after_steps k.ceiling log)
   pub booked : IsBooked (replay k.start log) (raise_side log) (drain_side log)
   pub accounted : IsAccounted (raise_side log) (drain_side log)
   pub finished : (id : ℕ) → AreFinished (ended_stays id (raise_side log)) (past_finishes k.ceiling id (events_of log))

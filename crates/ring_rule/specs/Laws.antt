@@ -17,8 +17,18 @@ use Rattle.ring_rule.specs.declared.SeatView.{SeatView}
 use Rattle.ring_rule.specs.declared.Setting.{Setting}
 use Rattle.ring_rule.specs.Words.{mark_bit, index_range, entry, entry_id}
 use Rattle.ring_rule.specs.Trail.{consumer_index, drainer_hand_of, raise_events, drain_events}
-use Rattle.ring_rule.specs.Log.{RingStep, of_raise, of_drain, raise_side, drain_side, events_of, level_after, words_after, IsTrue}
-use Rattle.ring_rule.specs.Log.{StandsAt}
+use Rattle.ring_rule.specs.Log.{
+  RingStep,
+  of_raise,
+  of_drain,
+  raise_side,
+  drain_side,
+  events_of,
+  level_after_steps,
+  words_after,
+  IsTrue,
+}
+use Rattle.ring_rule.specs.Log.{StepStandsAt}
 use Rattle.ring_rule.specs.Rule.{RingState, MeetsRule}
 use Rattle.ring_rule.specs.Conservation.{AllStood}
 use Rattle.ring_rule.specs.Steps.{with_raise_step, with_drain_step}
@@ -26,11 +36,11 @@ use Rattle.ring_rule.specs.Steps.{with_raise_step, with_drain_step}
 -- each record of a view's side has a position in the log, and is true there
 abbrev pub RaisesStand : ℕ → List RingStep → SeatView → Type 0
 RaisesStand start log v = (n : ℕ) (x : RaiseStep) → get_elem? v.raise_trail n ≡ some x
-    → (position : ℕ) × (get_elem? v.raise_positions n ≡ some position) × StandsAt start log position (of_raise x)
+    → (position : ℕ) × (get_elem? v.raise_positions n ≡ some position) × StepStandsAt start log position (of_raise x)
 
 abbrev pub DrainsStand : ℕ → List RingStep → SeatView → Type 0
 DrainsStand start log v = (n : ℕ) (x : DrainStep) → get_elem? v.drain_trail n ≡ some x
-    → (position : ℕ) × (get_elem? v.drain_positions n ≡ some position) × StandsAt start log position (of_drain x)
+    → (position : ℕ) × (get_elem? v.drain_positions n ≡ some position) × StepStandsAt start log position (of_drain x)
 
 abbrev pub ItsRecordsStand : ℕ → List RingStep → SeatView → Role → Type 0
 ItsRecordsStand start log v Joint = RaisesStand start log v × DrainsStand start log v
@@ -131,8 +141,8 @@ DrainFinds consumer l (Subtracted found) = (id : ℕ) × (l.drainer_hand ≡ Som
 DrainFinds consumer l (Followed bank) = ⊤
 
 abbrev pub Finds : Setting → List RingStep → RingStep → Type 0
-Finds k log (of_raise x) = RaiseFinds (level_after k.ceiling log) x
-Finds k log (of_drain x) = DrainFinds (consumer_index k.start (drain_side log)) (level_after k.ceiling log) x
+Finds k log (of_raise x) = RaiseFinds (level_after_steps k.ceiling log) x
+Finds k log (of_drain x) = DrainFinds (consumer_index k.start (drain_side log)) (level_after_steps k.ceiling log) x
 
 -- each step of the log found what the level just before it shows
 abbrev pub FoundIsShown : Type 0

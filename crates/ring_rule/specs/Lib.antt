@@ -8,3 +8,5 @@ pub mod Conservation
 pub mod Steps
 pub mod Moves
 pub mod Laws
+pub mod FiringSteps
+pub mod SoftSteps

@@ -53,8 +53,8 @@ events_of [] = []
 events_of (x ∷ log) = step_event x ++ events_of log
 
 -- the level after the steps
-abbrev pub level_after : ℕ → List RingStep → SoftLevel
-level_after ceiling log = reached ceiling (events_of log)
+abbrev pub level_after_steps : ℕ → List RingStep → SoftLevel
+level_after_steps ceiling log = reached ceiling (events_of log)
 
 -- the pend word of an open stay; where none is open it is no word of the ring
 abbrev pub stay_word : Option StayCounts → ℕ
@@ -105,9 +105,9 @@ drain_leaves (Subtracted found) n = (n + (2 ^ 64 - 1)) % 2 ^ 64
 drain_leaves (Followed bank) n = bank
 drain_leaves (_) n = n
 
-abbrev pub left_by : RingStep → ℕ → ℕ
-left_by (of_raise x) = raise_leaves x
-left_by (of_drain x) = drain_leaves x
+abbrev pub left_by_step : RingStep → ℕ → ℕ
+left_by_step (of_raise x) = raise_leaves x
+left_by_step (of_drain x) = drain_leaves x
 
 module _ (start : ℕ) where
   -- the word of a step, by its side's steps before it
@@ -140,7 +140,7 @@ module _ (start : ℕ) where
 
   -- the words after a step that follows the log
   abbrev pub words_after : RingStep → List RingStep → List ℕ → List ℕ
-  words_after x log words = slice_set words (word_of x log) (left_by x (slice_index words (word_of x log)))
+  words_after x log words = slice_set words (word_of x log) (left_by_step x (slice_index words (word_of x log)))
 
   -- the words after all steps of the log
   abbrev pub replay : List RingStep → List ℕ
@@ -156,8 +156,8 @@ module _ (start : ℕ) where
   AllTrue (x ∷ log) = IsTrue x log × AllTrue log
 
   -- the step stands at this position of the log, and is true there
-  abbrev pub StandsAt : List RingStep → ℕ → RingStep → Type 0
-  StandsAt log slot_word x = (later earlier : List RingStep) × (log ≡ later ++ x ∷ earlier) × (length earlier ≡ slot_word)
+  abbrev pub StepStandsAt : List RingStep → ℕ → RingStep → Type 0
+  StepStandsAt log slot_word x = (later earlier : List RingStep) × (log ≡ later ++ x ∷ earlier) × (length earlier ≡ slot_word)
       × IsTrue x earlier
 
 -- the position of a side's newest step

@@ -9,7 +9,7 @@ use Rattle.ring_rule.specs.declared.Role.TheVariants.{Joint, Raise, Drain, Spent
 use Rattle.ring_rule.specs.declared.SeatView.{SeatView}
 use Rattle.ring_rule.specs.declared.Setting.{Setting}
 use Rattle.ring_rule.specs.Words.{mark_bit, index_range}
-use Rattle.ring_rule.specs.Log.{RingStep, raise_side, raise_positions, drain_side, drain_positions, events_of, level_after}
+use Rattle.ring_rule.specs.Log.{RingStep, raise_side, raise_positions, drain_side, drain_positions, events_of, level_after_steps}
 use Rattle.ring_rule.specs.Log.{replay}
 use Rattle.ring_rule.specs.Log.{AllTrue}
 use Rattle.ring_rule.specs.Shown.{TrailsShow, StillHolds}
@@ -83,8 +83,8 @@ HasSeat Is views seat = (v : SeatView) × (get_elem? views seat ≡ some v) × I
 
 -- the words after the log and its two sides show the level after it
 abbrev pub IsShown : Setting → List RingStep → Type 0
-IsShown k log = TrailsShow k.start (replay k.start log) (raise_side log) (drain_side log) (level_after k.ceiling log)
-    × StillHolds k.start (replay k.start log) (raise_side log) (drain_side log) (level_after k.ceiling log)
+IsShown k log = TrailsShow k.start (replay k.start log) (raise_side log) (drain_side log) (level_after_steps k.ceiling log)
+    × StillHolds k.start (replay k.start log) (raise_side log) (drain_side log) (level_after_steps k.ceiling log)
 
 -- and so it was before each of its steps
 abbrev pub AllShown : Setting → List RingStep → Type 0

@@ -1,5 +1,5 @@
 -- What each kind of atomic step tells its seat: which step its trail gains, and what is known of the value found.
-use Rattle.std.specs.Prelude.{◌≡◌, ◌≢◌, ℕ, ◌%◌, ◌^◌, ◌<◌, ◌≤◌, true, ◌∷◌, length, slice_index}
+use Rattle.std.specs.Prelude.{◌≡◌, ◌≢◌, ℕ, ◌+◌, ◌%◌, ◌^◌, ◌<◌, ◌≤◌, true, ◌∷◌, length, slice_index}
 use mathlib.Core.Option.{some}
 use lib.ListN.{get_elem?}
 use Rattle.atomic_table.specs.Table.{Me, Step, Allows, keeps, stepped}
@@ -109,13 +109,34 @@ TellsFollow t me found me' = GainsDrainStep (Followed t.first) me me'
 abbrev pub AndStands : Setting → Telling → Telling
 AndStands k tells t me found me' = tells t me found me' × StandsFor k me'.0
 
--- what is said of a step: the seat that makes it, the word, the value that it leaves there, and what it tells
+-- an atomic operation of a seat: of which word, and which value it leaves there by the one that it finds
+pub record Operation : Type 0 where
+  pub slots : ℕ
+  pub seat : ℕ
+  pub me : ThisSeat
+  pub word : ℕ
+  pub leaves : ℕ → ℕ
+
+-- a load leaves what it finds
+abbrev pub loads : (slots seat : ℕ) → ThisSeat → (word : ℕ) → Operation
+loads slots seat me word = record { slots = slots; seat = seat; me = me; word = word; leaves = λ n. n }
+
+-- a store leaves this value
+abbrev pub stores : (slots seat : ℕ) → ThisSeat → (word value : ℕ) → Operation
+stores slots seat me word value = record { slots = slots; seat = seat; me = me; word = word; leaves = λ _. value }
+
+-- a `fetch_add` leaves so much more, in 64 bits; a `fetch_sub` is one of what lacks to 2^64
+abbrev pub adds : (slots seat : ℕ) → ThisSeat → (word more : ℕ) → Operation
+adds slots seat me word more = record { slots = slots; seat = seat; me = me; word = word; leaves = λ n. (n + more) % 2 ^ 64 }
+
+-- what is said of an operation of a ring with this setting, which tells this of the value found and the seat after
 abbrev pub Claim : Type 1
-Claim = (k : Setting) (slots seat : ℕ) (me : ThisSeat) (i : ℕ) → (ℕ → ℕ) → (ℕ → ThisSeat → Type 0) → Type 0
+Claim = Setting → Operation → (ℕ → ThisSeat → Type 0) → Type 0
 
 -- the step keeps the rule, whatever the other side did, and tells beside its own that a lawful level stands now
 abbrev pub IsAllowed : Claim
-IsAllowed k slots seat me i f tells = Allows (MeetsRule k) slots seat me i f (λ found me'. tells found me' × StandsFor k me'.0)
+IsAllowed k o tells = Allows (MeetsRule k) o.slots o.seat o.me o.word o.leaves
+    (λ found me'. tells found me' × StandsFor k me'.0)
 
 -- a step of the firing side: the log gains it, and so the run the event that the step is, or none
 abbrev pub ExtendsByRaise : (k : Setting) (s : RingState) → MeetsRule k s → RingState → RaiseStep → Type 0
@@ -126,25 +147,27 @@ ExtendsByDrain k s R s' x = (R' : MeetsRule k s') × (R'.log ≡ of_drain x ∷ 
 
 -- whatever the other side did, the step extends the log so, and its record has the next position
 abbrev pub IsRaiseStep : Claim
-IsRaiseStep k slots seat me i f tells = (s : RingState) (R : MeetsRule k s) → length s.homes ≡ slots
-    → get_elem? s.views seat ≡ some me.0
-    → slice_index s.words i < 2 ^ 64
+IsRaiseStep k o tells = (s : RingState) (R : MeetsRule k s) → length s.homes ≡ o.slots
+    → get_elem? s.views o.seat ≡ some o.me.0
+    → slice_index s.words o.word < 2 ^ 64
     → (x : RaiseStep)
-    × ExtendsByRaise k s R (stepped s i (f (slice_index s.words i)) seat me.1 (with_raise_step (length R.log) x me.0) keeps) x
-    × tells (slice_index s.words i) (with_raise_step (length R.log) x me.0, me.1)
+    × ExtendsByRaise k s R (stepped s o.word (o.leaves (slice_index s.words o.word)) o.seat o.me.1
+    (with_raise_step (length R.log) x o.me.0) keeps) x
+    × tells (slice_index s.words o.word) (with_raise_step (length R.log) x o.me.0, o.me.1)
 
 abbrev pub IsDrainStep : Claim
-IsDrainStep k slots seat me i f tells = (s : RingState) (R : MeetsRule k s) → length s.homes ≡ slots
-    → get_elem? s.views seat ≡ some me.0
-    → slice_index s.words i < 2 ^ 64
+IsDrainStep k o tells = (s : RingState) (R : MeetsRule k s) → length s.homes ≡ o.slots
+    → get_elem? s.views o.seat ≡ some o.me.0
+    → slice_index s.words o.word < 2 ^ 64
     → (x : DrainStep)
-    × ExtendsByDrain k s R (stepped s i (f (slice_index s.words i)) seat me.1 (with_drain_step (length R.log) x me.0) keeps) x
-    × tells (slice_index s.words i) (with_drain_step (length R.log) x me.0, me.1)
+    × ExtendsByDrain k s R (stepped s o.word (o.leaves (slice_index s.words o.word)) o.seat o.me.1
+    (with_drain_step (length R.log) x o.me.0) keeps) x
+    × tells (slice_index s.words o.word) (with_drain_step (length R.log) x o.me.0, o.me.1)
 
 -- and so it is allowed: what is said of each kind of step of the firing side
 abbrev pub IsFiringStep : Claim
-IsFiringStep k slots seat me i f tells = IsRaiseStep k slots seat me i f tells × IsAllowed k slots seat me i f tells
+IsFiringStep k o tells = IsRaiseStep k o tells × IsAllowed k o tells
 
 -- the same of the soft side
 abbrev pub IsSoftStep : Claim
-IsSoftStep k slots seat me i f tells = IsDrainStep k slots seat me i f tells × IsAllowed k slots seat me i f tells
+IsSoftStep k o tells = IsDrainStep k o tells × IsAllowed k o tells

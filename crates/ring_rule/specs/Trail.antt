@@ -5,7 +5,7 @@ use Rattle.cyc_level.specs.declared.Event.{Event}
 use Rattle.cyc_level.specs.declared.Event.TheVariants.{Admit, Expire, Lose, Publish, Take, Finish, Mark, Clear, Switch, Follow}
 use Rattle.cyc_level.specs.Level.{in_hand}
 use Rattle.cyc_level.specs.Events.{hand_after_expire, hand_after_finish}
-use Rattle.cyc_level.specs.Runs.{StayCounts, current_stay, past_stays, past_calls, expirations, losses}
+use Rattle.cyc_level.specs.Runs.{StayCounts, current_stay, past_stays, past_calls, expirations_of_id, losses}
 use Rattle.ring_rule.specs.declared.RaiseStep.{RaiseStep}
 use Rattle.ring_rule.specs.declared.RaiseStep.TheVariants.{Admitted, Loaded, Lost, Added, Stored, Published, Marked, Cleared}
 use Rattle.ring_rule.specs.declared.RaiseStep.TheVariants.{Switched, LoadedSoftBank}
@@ -56,11 +56,11 @@ ended_calls id t = past_calls id (raise_events t)
 
 -- the expirations of an id in all its stays
 abbrev pub raises_of : ℕ → List RaiseStep → ℕ
-raises_of id t = expirations id (raise_events t)
+raises_of id t = expirations_of_id id (raise_events t)
 
 -- those of them that were lost
-abbrev pub losses_of : ℕ → List RaiseStep → ℕ
-losses_of id t = losses id (raise_events t)
+abbrev pub losses_on_trail : ℕ → List RaiseStep → ℕ
+losses_on_trail id t = losses id (raise_events t)
 
 -- the firer's hand
 abbrev pub firer_hand_of : List RaiseStep → Option ℕ
@@ -118,13 +118,13 @@ held_entry (Took e ∷ t) = Some e
 held_entry (Subtracted found ∷ t) = hand_after_finish (found % mark_bit) (held_entry t)
 held_entry (_ ∷ t) = held_entry t
 
-abbrev pub id_in : Option ℕ → Option ℕ
-id_in None = None
-id_in (Some e) = Some (entry_id e)
+abbrev pub id_in_entry : Option ℕ → Option ℕ
+id_in_entry None = None
+id_in_entry (Some e) = Some (entry_id e)
 
 -- the drainer's hand
 abbrev pub drainer_hand_of : List DrainStep → Option ℕ
-drainer_hand_of t = id_in (held_entry t)
+drainer_hand_of t = id_in_entry (held_entry t)
 
 -- the finishes of an id in all its stays
 abbrev pub made_calls : ℕ → List DrainStep → ℕ

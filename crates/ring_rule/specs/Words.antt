@@ -6,12 +6,12 @@ use Rattle.cyc_level.specs.Level.{bank_size}
 -- which of so many words, a power of two, an index has. Nine is odd, so each word is some index's. Neighbours lie nine words
 -- apart, and so from 32 words on never on one cache line of eight: one side writes at the one while the other side is at the
 -- other (our own rule)
-abbrev pub spread : ℕ → ℕ → ℕ
-spread size index = index * 9 % size
+abbrev pub spread_index : ℕ → ℕ → ℕ
+spread_index size index = index * 9 % size
 
 -- the pend words come first, one for each index (cy_pend)
 abbrev pub pend_word : ℕ → ℕ
-pend_word index = spread cyclics index
+pend_word index = spread_index cyclics index
 
 -- bits 0 to 31 of a pend word are the calls outstanding, and bit 32 is the mark of a removal
 abbrev pub mark_bit : ℕ
@@ -24,7 +24,7 @@ index_range = 2 ^ 32
 -- the buffer word of an index of a bank, which is taken modulo the bank's size (cypc_sizemask). The banks stand one
 -- after another, the smallest first
 abbrev pub slot_word : ℕ → ℕ → ℕ
-slot_word bank i = cyclics - 1 + bank_size bank + spread (bank_size bank) i
+slot_word bank i = cyclics - 1 + bank_size bank + spread_index (bank_size bank) i
 
 -- the next index that the firing side fills in a bank (cypc_prodndx)
 abbrev pub producer_word : ℕ → ℕ

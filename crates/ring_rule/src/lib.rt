@@ -1,7 +1,10 @@
-//! The rule of a ring: what its words and the views of its two seats show together, between any two atomic steps.
+//! The rule of a ring: what its words and the views of its two seats show together, between any two atomic steps; and the law
+//! of each step, that it keeps the rule.
 //!
 //! The definitions stand in `specs/`. They rest on the model of a level in `cyc_level`.
 #![tactic(auto)]
+
+mod step_laws;
 
 ghost use Rattle.ring_rule.specs.declared.Setting.{Setting as TheSetting};
 ghost use Rattle.ring_rule.specs.Rule.{RingState, MeetsRule, opening_view};
@@ -13,6 +16,7 @@ ghost use Rattle.ring_rule.specs.Apart.{WordsAreApart};
 
 use atomic_table::TableRule;
 use std::collections::LinkedList;
+pub use step_laws::{firing_steps, soft_steps};
 
 /// Which side's seat it is. Before the split and after the join one seat is both; the seat that the join leaves is spent.
 pub enum Role {

@@ -19,7 +19,7 @@ use crate::plays::{
 use crate::positions::{HARD, MARK, PRODUCERS, SOFT, buffer_at, pend_at};
 use crate::sides::FiringSide;
 use crate::words::Words;
-use ring_laws::firing_steps;
+use ring_rule::firing_steps;
 
 impl Words {
     /// The load of the pend word of an unused index of the hard bank, which admits the id there. It found 0.

@@ -2,8 +2,8 @@
 //!
 //! `Words` has the table, and each side one seat of it, both in fields of their own. A side changes or reads a word only by its
 //! fifteen steps here. Each adds one record to the side's trail, with the very value that the atomic step returned, and tells
-//! that a lawful level stands at its position. What a record means `ring_rule` says; where a step may be made, and that it keeps
-//! the ring's rule, are the laws of `ring_laws`: the law of a step, its function here and its record have one name.
+//! that a lawful level stands at its position. What a record means, where a step may be made, and that it keeps the ring's rule,
+//! says `ring_rule`: the law of a step, its function here and its record have one name.
 //!
 //! | Step | Word | Record | Event | Call | Seat |
 //! |--|--|--|--|--|--|

@@ -14,7 +14,7 @@ use crate::plays::{
 use crate::positions::{HARD, PRODUCERS, SOFT, buffer_at, pend_at};
 use crate::sides::SoftSide;
 use crate::words::Words;
-use ring_laws::soft_steps;
+use ring_rule::soft_steps;
 
 impl Words {
     /// The load of the hard bank.

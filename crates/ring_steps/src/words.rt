@@ -1,7 +1,7 @@
 //! The words of a ring: opened, split, joined and closed.
 
 ghost use Rattle.std.specs.Prelude.{◌≡◌, ℕ, ◌<◌, ◌^◌, IfOk, length, slice_index};
-ghost use Rattle.ring_rule.specs.Words.{word_count, first_word};
+ghost use Rattle.ring_rule.specs.Words.{word_count, mark_bit, index_range, first_word};
 
 use crate::plays::{Parts, Whole};
 use crate::positions::{HARD, INDEXES, PRODUCERS, WORDS, pend_at};
@@ -21,7 +21,7 @@ pub struct Words {
     pub(crate) setting: Setting,
     ghost wide: { table.shared.table_id.words ≡ word_count },
     ghost no_slots: { table.shared.table_id.slots ≡ 0 },
-    ghost ranges: { (0 < setting.ceiling) × (setting.ceiling < 2 ^ 32) × (setting.start < 2 ^ 32) },
+    ghost ranges: { (0 < setting.ceiling) × (setting.ceiling < mark_bit) × (setting.start < index_range) },
     ghost key: { table.shared.key ≡ setting },
 }
 
@@ -100,8 +100,8 @@ impl Words {
         BothSides { seat }
     }
 
-    /// Ends the words, and puts the pend word of each index into `pends`, so that no such array stands on the stack. There is one order
-    /// of all steps that the two sides made, which left them, and a lawful level stood before and after each of its steps.
+    /// Ends the words, and puts the pend word of each index into `pends`, so that no such array stands on the stack. There is one
+    /// order of all steps that the two sides made, which left them, and a lawful level stood before and after each of its steps.
     pub fn close(self, both: BothSides, pends: &mut [u64; INDEXES])
         requires { both.seat.table_id ≡ self.table.shared.table_id }
         ensures { (log : List RingStep) × HasItsTrail log both.seat.me.0 Joint × AllStood self.setting log

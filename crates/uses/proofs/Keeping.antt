@@ -18,7 +18,7 @@ use Rattle.cyc_system.specs.System.{RunningSystem, SystemView, is_omnipresent, i
 use Rattle.cyc_system_laws.specs.Keeping.{EndsRemoval, SameRecord, SameStays, level_known}
 use Rattle.cyc_system_laws.specs.Sound.{IsSound}
 use Rattle.cyc_system_laws.specs.SoftFault.{SoftFault}
-use Rattle.cyc_system_sums.specs.Totalling.{Steps, expirations_along, losses_along}
+use Rattle.cyc_system_laws.specs.Totalling.{Steps, expirations_along, losses_along}
 use Rattle.uses.specs.System.{KeepsCyclics}
 
 -- ---- what is kept by one call and then by another is kept by both
@@ -83,7 +83,8 @@ module _ {C : Type 0} (handler : Calls C) (n budget : ℕ) (level : Soft) (answe
     everywhere = ap (λ rs. is_omnipresent id (record s.system { records = rs })) e;
   }
 
-  pub served_keeps : ((id : ℕ) → all_expired id t.system ≡ all_expired id s.system + expirations_along one_step id s one_call t run)
+  pub served_keeps : ((id : ℕ) → all_expired id t.system
+      ≡ all_expired id s.system + expirations_along one_step id s one_call t run)
       → ((id : ℕ) → all_lost id t.system
       ≡ all_lost id s.system + losses_along handler raise_tables (Interrupts handler) id s one_call t run)
       → ((id : ℕ) → SameStays id s.system t.system) → KeepsCyclics n s.system t.system

@@ -12,8 +12,8 @@ use Rattle.cyc_types.specs.Series.{due}
 use Rattle.cyc_types.specs.Timers.{Timer}
 use Rattle.cyc_types.specs.declared.level.Level.{Level}
 use Rattle.cyc_types.specs.declared.level.Level.TheVariants.{Low, Lock, High}
-use Rattle.cyc_cpu.specs.Acts.{Sides, is_of, same_level, timer_of}
-use Rattle.cyc_cpu.specs.Calls.{Does, Fire, no_interrupts}
+use Rattle.cyc_cpu.specs.Acts.{Sides, is_of_level, same_level, timer_of}
+use Rattle.cyc_cpu.specs.Calls.{CpuDoes, Fire, no_interrupts}
 use Rattle.cyc_cpu.specs.Cpu.{Running, sides}
 use Rattle.cyc_cpu.specs.FireRefused.{FireRefused}
 use Rattle.cyc_cpu.specs.Fired.{Fired}
@@ -22,11 +22,13 @@ use Rattle.cyc_cpu.specs.Rows.{Cyclic, timers}
 use Rattle.cyc_cpu.specs.Shares.{share}
 use Rattle.cyc_cpu.specs.Soft.{raise_tables}
 use Rattle.cyc_cpu.specs.Tables.{Tables}
-use Rattle.uses.specs.Tick.{IsCalled, calls_of, tasks_calls}
+use Rattle.uses.specs.Tick.{IsCalled, calls_so_far, tasks_calls}
 use Rattle.uses.specs.declared.tick.Tasks.{Tasks}
+use Rattle.cyc_timers.specs.Acts.{acting}
+use Rattle.cyc_timers.specs.Made.{fire_state}
 
 none_made : (level : Level) (ts : List Timer) (id : ℕ) → share level ts [] id ≡ 0
-none_made level ts id = by (is_of level (timer_of id ts))
+none_made level ts id = by (is_of_level level (timer_of id ts))
   where
     by : (b : Bool) → ◌≡◌ {A = ℕ} (cond b 0 0) 0
     by true = refl
@@ -35,8 +37,9 @@ none_made level ts id = by (is_of level (timer_of id ts))
 -- the law of shares, of high level
 abbrev pub HighLaw : Type 0
 HighLaw = (now : ℕ) (made : List Expiration) (cs cs' : List Cyclic) (s s' : Sides Tasks Tables) (lost : ℕ)
-    → Makes (at_level IsCalled High) calls_of raise_tables now made cs cs' s s' lost
-    → (id : ℕ) → calls_of s'.calls id ≡ calls_of s.calls id + share High (timers cs) made id
+    → Makes (acting (at_level IsCalled High) calls_so_far raise_tables) now made (fire_state cs s)
+    (fire_state cs' s') lost
+    → (id : ℕ) → calls_so_far s'.calls id ≡ calls_so_far s.calls id + share High (timers cs) made id
 
 -- ---- a switch
 
@@ -54,34 +57,35 @@ asks id (x ∷ xs) s t some way = asks_last x xs s t way
 module _ (law : HighLaw) (now : ℕ) (s t : Running Tasks Tables) where
   -- the handlers were called for these expirations
   abbrev pub Called : List Expiration → Type 0
-  Called made = (id : ℕ) → calls_of t.calls id ≡ calls_of s.calls id + share High (timers s.cpu.cyclics) made id
+  Called made = (id : ℕ) → calls_so_far t.calls id ≡ calls_so_far s.calls id + share High (timers s.cpu.cyclics) made id
 
-  pub made_whole : (answer : Result Fired FireRefused) → Does tasks_calls raise_tables no_interrupts s (Fire now answer) t
+  pub made_whole : (answer : Result Fired FireRefused) → CpuDoes tasks_calls raise_tables no_interrupts s (Fire now answer) t
       → IfOk answer (λ r. Called (expirations now (timers s.cpu.cyclics)))
   made_whole (Ok r) (early, kept, expired, next, m) = law now (expirations now (timers s.cpu.cyclics)) s.cpu.cyclics t.cpu.cyclics
       (sides s.calls s.cpu) (sides t.calls t.cpu) r.lost m
   made_whole (Err e) d = tt
 
-  pub made_front : (answer : Result Fired FireRefused) → Does tasks_calls raise_tables no_interrupts s (Fire now answer) t
+  pub made_front : (answer : Result Fired FireRefused) → CpuDoes tasks_calls raise_tables no_interrupts s (Fire now answer) t
       → IfErr answer (λ e. (made rest : List Expiration) × (expirations now (timers s.cpu.cyclics) ≡ made ++ rest) × Called made)
   made_front (Ok r) d = tt
   made_front (Err e) (inl (late, is, same)) = (
     [],
     expirations now (timers s.cpu.cyclics),
     refl,
-    (λ id. let a = ap (λ (x : Running Tasks Tables). calls_of x.calls id) same in
+    (λ id. let a = ap (λ (x : Running Tasks Tables). calls_so_far x.calls id) same in
         let b = none_made High (timers s.cpu.cyclics) id in omega (arith, a, b)),
   )
   made_front (Err e) (inr (early, kept, f)) = (
     f.made,
     f.last ∷ f.rest,
     f.listed,
-    (λ id. let a = law now f.made s.cpu.cyclics t.cpu.cyclics (sides s.calls s.cpu) (sides f.at t.cpu) e.lost f.makes id in let b = f.counted id in omega (arith, a, b)),
+    (λ id. let a = law now f.made s.cpu.cyclics t.cpu.cyclics (sides s.calls s.cpu) (sides f.at t.cpu) e.lost f.makes id in
+        let b = f.counted id in omega (arith, a, b)),
   )
 
   -- where an id was called, the last call asks for a switch
-  pub made_switch : (answer : Result Fired FireRefused) → Does tasks_calls raise_tables no_interrupts s (Fire now answer) t
-      → IfOk answer (λ r. (id : ℕ) → calls_of s.calls id < calls_of t.calls id → t.calls.switch ≡ true)
+  pub made_switch : (answer : Result Fired FireRefused) → CpuDoes tasks_calls raise_tables no_interrupts s (Fire now answer) t
+      → IfOk answer (λ r. (id : ℕ) → calls_so_far s.calls id < calls_so_far t.calls id → t.calls.switch ≡ true)
   made_switch (Ok r) (early, kept, expired, next, m) = λ id more.
       asks id _ s.calls t.calls (let a = m.acts.counted id in omega (arith, a, more)) m.acts.called_in_order
   made_switch (Err e) d = tt
@@ -103,10 +107,11 @@ not_high High ne = absurd (ne refl)
 -- the share of a front is at most that of the whole
 share_front : (level : Level) (ts : List Timer) (made rest : List Expiration) (id : ℕ)
     → share level ts made id ≤ share level ts (made ++ rest) id
-share_front level ts made rest id = by (is_of level (timer_of id ts))
+share_front level ts made rest id = by (is_of_level level (timer_of id ts))
   where
     by : (b : Bool) → cond b (times_of id made) 0 ≤ cond b (times_of id (made ++ rest)) 0
-    by true = let e : times_of id (made ++ rest) ≡ times_of id made + times_of id rest = sum_by-append _ made rest in omega (arith, e)
+    by true = let e : times_of id (made ++ rest) ≡ times_of id made + times_of id rest = sum_by-append _ made rest in
+        omega (arith, e)
     by false = omega arith
 
 -- an id that no cyclic of high level has, has no share there
@@ -115,12 +120,12 @@ pub no_share : (cs : List Cyclic) (made : List Expiration) (id : ℕ) → All (�
 no_share cs made id none = ap (λ b. cond b (times_of id made) 0) (found cs none)
   where
     found : (cs : List Cyclic) → All (λ c. c.timer.id ≡ id → c.timer.level ≢ High) cs
-        → is_of High (timer_of id (timers cs)) ≡ false
+        → is_of_level High (timer_of id (timers cs)) ≡ false
     found [] none = refl
     found (c ∷ cs) none = by (c.timer.id == id) refl (found cs (λ k d low. none (suc k) d (omega (arith, low))))
       where
-        by : (b : Bool) → (c.timer.id == id) ≡ b → is_of High (timer_of id (timers cs)) ≡ false
-            → is_of High (cond b (Some c.timer) (timer_of id (timers cs))) ≡ false
+        by : (b : Bool) → (c.timer.id == id) ≡ b → is_of_level High (timer_of id (timers cs)) ≡ false
+            → is_of_level High (cond b (Some c.timer) (timer_of id (timers cs))) ≡ false
         by true is rest = not_high c.timer.level (none 0 c (omega arith) (grind (arith, nat_tests, is)))
         by false is rest = rest
 

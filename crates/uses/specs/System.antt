@@ -25,7 +25,8 @@ pub record KeepsCyclics {R : Type 0} (n : ℕ) (s t : SystemView R) : Type 0 whe
   pub records : (id : ℕ) → SameRecord id s t
 
 -- the soft interrupts of both levels of a CPU and then its offline, each with its answer: a run, as the laws over runs take it
-abbrev pub ServesThenOffline : {C : Type 0} → Calls C → ℕ → ℕ → Result (Unit {0}) Refusal → RunningSystem C Tables → RunningSystem C Tables
+abbrev pub ServesThenOffline : {C : Type 0} → Calls C → ℕ → ℕ → Result (Unit {0}) Refusal → RunningSystem C Tables
+    → RunningSystem C Tables
     → Type 0
 ServesThenOffline handler n budget answer s t = (lock low : Result Ran SoftFault)
     × FoldsTo (Does handler raise_tables (Interrupts handler)) s

@@ -6,8 +6,8 @@ use Rattle.cyc_types.specs.declared.level.Level.{Level}
 use Rattle.uses.specs.declared.tick.Tasks.{Tasks}
 
 -- the calls of an id so far
-abbrev pub calls_of : Tasks → ℕ → ℕ
-calls_of tasks id = tally_count tasks.calls id
+abbrev pub calls_so_far : Tasks → ℕ → ℕ
+calls_so_far tasks id = tally_count tasks.calls id
 
 -- a call of the id was counted, and asks for a switch
 abbrev pub IsCalled : Tasks → ℕ → Level → Tasks → Type 0
@@ -19,4 +19,4 @@ MayRefuse tasks id = TallyRefuses tasks.calls id
 
 -- the three at once
 abbrev pub tasks_calls : Calls Tasks
-tasks_calls = record { count = calls_of; called = IsCalled; may_refuse = MayRefuse }
+tasks_calls = record { count = calls_so_far; called = IsCalled; may_refuse = MayRefuse }

@@ -9,8 +9,7 @@ ghost use Rattle.uses.specs.System.{KeepsCyclics, ServesThenOffline};
 use cyc_cpu::LevelCore;
 use cyc_soft::Ran;
 use cyc_system::{SoftFault, System};
-use cyc_system_laws::{counts_law, stays_law};
-use cyc_system_sums::{expirations_core_law, interrupts_law, offlines_law};
+use cyc_system_laws::{counts_law, expirations_core_law, interrupts_law, offlines_law, stays_law};
 use cyc_types::{Calls, Raise, Refusal, Soft};
 
 /// Takes a CPU offline, over any firing ends. Refuses as `System::offline`, and takes the memory that it takes.
@@ -60,7 +59,8 @@ fn serve<C: Calls>(
 
 /// Makes the calls that are outstanding on a CPU, at most `budget` at each soft level, and takes it offline.
 ///
-/// Refuses as `System::offline`. Where calls are still outstanding, as those that a handler refused, that is with Left or Pending.
+/// Refuses as `System::offline`. Where calls are still outstanding, as those that a handler refused, that is with Left or
+/// Pending.
 pub fn serve_and_offline<C: Calls>(
     system: &mut System<LevelCore>,
     cpu: u32,
@@ -68,7 +68,8 @@ pub fn serve_and_offline<C: Calls>(
     budget: u32,
 ) -> Result<(), Refusal>
     // It is two soft interrupts and the offline.
-    ensures did { ServesThenOffline C.Calls cpu budget result (running_system calls.old system.old) (running_system calls.new system.new) }
+    ensures did { ServesThenOffline C.Calls cpu budget result (running_system calls.old system.old)
+        (running_system calls.new system.new) }
 
     // The CPU is offline, and no cyclic is left on it.
     ensures offline { OnOk result (is_online cpu system.new.cpus ≡ false) }

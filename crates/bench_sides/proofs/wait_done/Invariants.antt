@@ -1,5 +1,5 @@
-use Rattle.bench_sides.specs.Ready.{IsReady}
+use Rattle.bench_sides.specs.Ready.{IsReadyLevel}
 use Rattle.bench_sides.proofs.wait_done.Given as goal
 
 abbrev pub invariant-loop : goal.invariant-loop
-invariant-loop g l = IsReady l.ids l.most (g.R.Raise.view l.raise)
+invariant-loop g l = IsReadyLevel l.ids l.most (g.R.Raise.view l.raise)

@@ -20,7 +20,7 @@ loop-number-init g c = record {
 
 pub begin_at-kept-requires-clause-owns : goal.begin_at-kept-requires-clause-owns
 begin_at-kept-requires-clause-owns g c =
-    owns_still c.args.id c.args.place c.args.cpus.now c.loop-number.cpus c.args.records.now.list c.loop-number.records.list
+    owns_still c.args.id c.args.position c.args.cpus.now c.loop-number.cpus c.args.records.now.list c.loop-number.records.list
     c.requires.owns c.loop-number.invariant.walk.withdraws
 
 pub begin_at-kept-requires-clause-here : goal.begin_at-kept-requires-clause-here
@@ -48,13 +48,13 @@ loop-number-preserved g c =
     elim c.if-has.branch [
       | then-has w ↦ (let low = w.begin_at-kept.ensures.few in let e = w.kept-is in record {
         few = omega arith;
-        walk = along (λ k y ts. BeginWalk g.R.Raise c.args.id c.args.place (n + 1) k v y rs ts)
+        walk = along (λ k y ts. BeginWalk g.R.Raise c.args.id c.args.position (n + 1) k v y rs ts)
             (c.loop-number.kept + w.begin_at-kept.result) c.if-has.kept w.begin_at-kept.new.cpus c.if-has.cpus
             w.begin_at-kept.new.records.list c.if-has.records.list
             w.kept-is w.cpus-is (ap (λ (l : RecordsView). l.list) w.records-is)
             (walk_one (λ (b : Begun) s t. BeginsOn g.R.Raise c.args.id b.cpu b.found s t) (λ b. b.cpu)
             (λ b. kept_in b.found)
-            (λ cpu. list_any (λ own. own == c.args.id) (ids_of cpu)) c.args.id c.args.place n c.loop-number.kept v u rs ss
+            (λ cpu. list_any (λ own. own == c.args.id) (ids_of cpu)) c.args.id c.args.position n c.loop-number.kept v u rs ss
             c.loop-number.invariant.walk
             w.begin_at-kept.result x w.begin_at-kept.new.cpus w.begin_at-kept.new.records.list at (test ∙ w.if-has.true)
             (λ last. (let (found, is, on) = w.begin_at-kept.ensures.did last in
@@ -63,12 +63,12 @@ loop-number-preserved g c =
       })
       | else-has w ↦ (let e = w.kept-is in record {
         few = omega arith;
-        walk = along (λ k y ts. BeginWalk g.R.Raise c.args.id c.args.place (n + 1) k v y rs ts)
+        walk = along (λ k y ts. BeginWalk g.R.Raise c.args.id c.args.position (n + 1) k v y rs ts)
             c.loop-number.kept c.if-has.kept u c.if-has.cpus ss c.if-has.records.list
             w.kept-is w.cpus-is (ap (λ (l : RecordsView). l.list) w.records-is)
             (walk_none (λ (b : Begun) s t. BeginsOn g.R.Raise c.args.id b.cpu b.found s t) (λ b. b.cpu)
             (λ b. kept_in b.found)
-            (λ cpu. list_any (λ own. own == c.args.id) (ids_of cpu)) c.args.id c.args.place n c.loop-number.kept v u rs ss
+            (λ cpu. list_any (λ own. own == c.args.id) (ids_of cpu)) c.args.id c.args.position n c.loop-number.kept v u rs ss
             c.loop-number.invariant.walk
             x at (test ∙ w.if-has.false) (λ h. absurd (false_true (sym w.if-has.false ∙ is ∙ h))));
       })

@@ -15,7 +15,7 @@ loop-number-init g c = walk_start _ _ _ _ _ _ c.args.cpus.now c.args.records.now
 
 pub poll_at-requires-clause-owns : goal.poll_at-requires-clause-owns
 poll_at-requires-clause-owns g c =
-    owns_still c.args.id c.args.place c.args.cpus.now c.loop-number.cpus c.args.records.now.list c.loop-number.records.list
+    owns_still c.args.id c.args.position c.args.cpus.now c.loop-number.cpus c.args.records.now.list c.loop-number.records.list
     c.requires.owns c.loop-number.invariant.withdraws
 
 pub poll_at-requires-clause-open_here : goal.poll_at-requires-clause-open_here
@@ -33,22 +33,22 @@ loop-number-preserved g c =
     let low : n < length u.cpus = omega arith in
     let (x, at) = get_some u.cpus n low in
     elim c.if-is_leaving_at.branch [
-      | then-is_leaving_at w ↦ along (λ (k : ℕ) y ts. PollWalk g.R.Raise c.args.id c.args.place
+      | then-is_leaving_at w ↦ along (λ (k : ℕ) y ts. PollWalk g.R.Raise c.args.id c.args.position
           (n + 1) v y rs ts)
           0 0 w.poll_at.new.cpus c.if-is_leaving_at.cpus w.poll_at.new.records.list c.if-is_leaving_at.records.list
           refl w.cpus-is (ap (λ (l : RecordsView). l.list) w.records-is)
           (walk_one (λ (p : Polled) s t. PollsOn g.R.Raise c.args.id p.cpu p.answer s t) (λ p. p.cpu) (λ p. 0)
-          (is_leaving_here c.args.id) c.args.id c.args.place n 0 v u rs ss walk
+          (is_leaving_here c.args.id) c.args.id c.args.position n 0 v u rs ss walk
           0 x w.poll_at.new.cpus w.poll_at.new.records.list at (sym (c.is_leaving_at.ensures x at) ∙ w.if-is_leaving_at.true)
           (λ last. (let (answer, on) = w.poll_at.ensures.did last in (record { cpu = n; answer = answer }, refl, refl, on)))
           w.poll_at.ensures.withdraws)
-      | else-is_leaving_at w ↦ along (λ (k : ℕ) y ts. PollWalk g.R.Raise c.args.id c.args.place
+      | else-is_leaving_at w ↦ along (λ (k : ℕ) y ts. PollWalk g.R.Raise c.args.id c.args.position
           (n + 1) v y rs ts)
           0 0 u c.if-is_leaving_at.cpus ss c.if-is_leaving_at.records.list
           refl w.cpus-is (ap (λ (l : RecordsView). l.list) w.records-is)
           (walk_none (λ (p : Polled) s t. PollsOn g.R.Raise c.args.id p.cpu p.answer s t) (λ p. p.cpu)
           (λ p. 0)
-          (is_leaving_here c.args.id) c.args.id c.args.place n 0 v u rs ss walk x at (sym (c.is_leaving_at.ensures x at)
+          (is_leaving_here c.args.id) c.args.id c.args.position n 0 v u rs ss walk x at (sym (c.is_leaving_at.ensures x at)
           ∙ w.if-is_leaving_at.false)
           (λ h. ahead_removal _ _ _ _ _ _ n 0 v u rs ss walk
           ∙ c.requires.whole n (sym (ahead_has _ _ _ _ _ _ n 0 v u rs ss walk) ∙ h)))

@@ -11,4 +11,4 @@ returns-in_default-clause-did g c last =
     (unknown_shut g.R.Raise.view v rs first c.args.id h.agrees c.law.ensures c.in_default.ensures.none)
 
 pub at-requires : goal.at-requires
-at-requires g c = let (r, is, named) = c.in-Some.ensures.some in slice_get_within c.args.records.now.list c.in-Some.place r is
+at-requires g c = let (r, is, named) = c.in-Some.ensures.some in slice_get_within c.args.records.now.list c.in-Some.position r is

@@ -3,8 +3,8 @@ use Rattle.cyc_agreement.proofs.AskingEach.{Asked}
 use Rattle.cyc_agreement.proofs.Stepping.{WalksOver}
 use Rattle.cyc_agreement.proofs.retiring.any_pending.Given as goal
 
-abbrev pub invariant-loop-place : goal.invariant-loop-place
-invariant-loop-place g l = record {
-  asked : Asked g.R.Raise l.source l.fn.cpus l._place l.cpus;
-  walk : WalksOver (ids_on l.source l.cpus) l.passed l._place;
+abbrev pub invariant-loop-position : goal.invariant-loop-position
+invariant-loop-position g l = record {
+  asked : Asked g.R.Raise l.source l.fn.cpus l._position l.cpus;
+  walk : WalksOver (ids_on l.source l.cpus) l.passed l._position;
 }

@@ -18,13 +18,13 @@ unreachable-requires-in_default-take_now g c =
 
 pub add_ended-requires-clause-here : goal.add_ended-requires-clause-here
 add_ended-requires-clause-here g c = let (r, is, named) = c.in-Some.ensures.some in
-    slice_get_within c.args.records.now.list c.in-Some.place r is
+    slice_get_within c.args.records.now.list c.in-Some.position r is
 
 pub returns-clause-did : goal.returns-clause-did
 returns-clause-did g c last = let (r, is, named) = c.in-Some.ensures.some in (
   c.in-Ok.taken,
   changed c.args.source _ c.cpu_mut.result.now c.take_now.new.self c.args.cpus.now c.cpu_mut.ensures.cpu c.in-Ok.ensures.did,
-  c.in-Some.place,
+  c.in-Some.position,
   r,
   is,
   named,
@@ -36,7 +36,7 @@ pub returns-clause-within : goal.returns-clause-within
 returns-clause-within g c last h =
     let (r, is, named) = c.in-Some.ensures.some in let (k, q, at, own, fresh) = c.requires.record in
     let same : r ≡ q = same_some (sym is ∙ ap (λ j. slice_get c.args.records.now.list j)
-    (one_record c.args.records.now.list k c.in-Some.place q r c.law.ensures.rising at is (named ∙ sym own)) ∙ at) in
+    (one_record c.args.records.now.list k c.in-Some.position q r c.law.ensures.rising at is (named ∙ sym own)) ∙ at) in
     within_taken g.R.Raise c.args.source c.args.id last c.in-Ok.taken c.args.cpus.now
     (with_cpu c.args.cpus.now c.args.source c.take_now.new.self)
     c.args.records.now c.add_ended.new.self
@@ -48,5 +48,5 @@ returns-clause-within g c last h =
           c.in-Ok.ensures.did;
       rest = refl;
     })
-    c.in-Ok.ensures.counts.1 c.in-Some.place r is (ap (λ (x : Record). ended_on c.args.source x) same ∙ fresh)
+    c.in-Ok.ensures.counts.1 c.in-Some.position r is (ap (λ (x : Record). ended_on c.args.source x) same ∙ fresh)
     (c.add_ended.ensures r is) h

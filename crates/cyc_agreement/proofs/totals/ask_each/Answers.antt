@@ -1,5 +1,5 @@
 use Rattle.std.proofs.Common.{◌+◌, sym, ap, ◌∙◌, subst, arith}
-use Rattle.cyc_cpu.specs.Calls.{Changes, AskTotals}
+use Rattle.cyc_cpu.specs.Calls.{CpuChanges, AskTotals}
 use Rattle.cyc_agreement.specs.Cpus.{with_cpu}
 use Rattle.cyc_agreement.proofs.Holding.{holds_same}
 use Rattle.cyc_agreement.specs.declared.totals.SystemTotals.{SystemTotals}
@@ -18,7 +18,7 @@ loop-number-preserved g c =
           let k = asked_one g.R.Raise c.args.id n c.loop-number.sum.expired c.loop-number.sum.lost
           c.loop-number.sum.pending v u c.loop-number.invariant.asked
           x y c.cpu_mut.ensures.cpu w.in-Some.part
-          (subst (λ r. Changes g.R.Raise x (AskTotals c.args.id r) y) w.in-Some.is c.totals.ensures) in
+          (subst (λ r. CpuChanges g.R.Raise x (AskTotals c.args.id r) y) w.in-Some.is c.totals.ensures) in
           record {
             expired = omega arith;
             lost = omega arith;
@@ -38,7 +38,7 @@ loop-number-preserved g c =
           ap (λ (t : SystemTotals). t.lost) w.sum-is in let p = ap (λ (t : SystemTotals). t.pending) w.sum-is in
           let k = asked_none g.R.Raise c.args.id n c.loop-number.sum.expired c.loop-number.sum.lost
           c.loop-number.sum.pending v u c.loop-number.invariant.asked
-          x y c.cpu_mut.ensures.cpu (subst (λ r. Changes g.R.Raise x (AskTotals c.args.id r) y)
+          x y c.cpu_mut.ensures.cpu (subst (λ r. CpuChanges g.R.Raise x (AskTotals c.args.id r) y)
           w.in_default.is c.totals.ensures) in record {
             expired = omega arith;
             lost = omega arith;

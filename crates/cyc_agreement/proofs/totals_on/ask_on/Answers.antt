@@ -1,5 +1,5 @@
 use Rattle.std.proofs.Common.{◌≡◌, ◌+◌, [], ◌∷◌, refl, sym, ◌∙◌, subst, arith}
-use Rattle.cyc_cpu.specs.Calls.{Changes, AskTotals}
+use Rattle.cyc_cpu.specs.Calls.{CpuChanges, AskTotals}
 use Rattle.cyc_agreement.specs.Cpus.{with_cpu}
 use Rattle.cyc_agreement.specs.Withdrawing.{system}
 use Rattle.cyc_agreement.proofs.CpuSpots.{changed}
@@ -16,14 +16,14 @@ cpu_mut-requires g c = has_low c.args.cpus.now c.args.number c.args.id c.require
 pub unreachable-requires : goal.unreachable-requires
 unreachable-requires g c =
     let x = c.cpu_mut.result.now in let y = c.totals.new.self in
-    let d = subst (λ r. Changes g.R.Raise x (AskTotals c.args.id r) y) c.in_default.is c.totals.ensures in
+    let d = subst (λ r. CpuChanges g.R.Raise x (AskTotals c.args.id r) y) c.in_default.is c.totals.ensures in
     not_both c.args.id x.cyclics (cyclic_here c.args.cpus.now c.args.number c.args.id x c.requires.here c.cpu_mut.ensures.cpu) d.0
 
 pub returns-clause-did : goal.returns-clause-did
 returns-clause-did g c =
     let v = c.args.cpus.now in let n = c.args.number in let x = c.cpu_mut.result.now in let y = c.totals.new.self in
     let t = c.in-Some.part in
-    let d = subst (λ r. Changes g.R.Raise x (AskTotals c.args.id r) y) c.in-Some.is c.totals.ensures in (
+    let d = subst (λ r. CpuChanges g.R.Raise x (AskTotals c.args.id r) y) c.in-Some.is c.totals.ensures in (
       record { cpu = n; totals = t } ∷ [],
       sym (alone c.args.id v n c.requires.only c.requires.here),
       (with_cpu v n y, changed n _ x y v c.cpu_mut.ensures.cpu d, refl),
@@ -37,6 +37,6 @@ returns-clause-did g c =
 pub returns-clause-holds : goal.returns-clause-holds
 returns-clause-holds g c records last h =
     let v = c.args.cpus.now in let n = c.args.number in let x = c.cpu_mut.result.now in let y = c.totals.new.self in
-    let d = subst (λ r. Changes g.R.Raise x (AskTotals c.args.id r) y) c.in-Some.is c.totals.ensures in
+    let d = subst (λ r. CpuChanges g.R.Raise x (AskTotals c.args.id r) y) c.in-Some.is c.totals.ensures in
     holds_same (system v records last) (with_cpu v n y) h
     (same_at v n x y c.cpu_mut.ensures.cpu (same_asked g.R.Raise x y c.args.id c.in-Some.part.pending d.0))

@@ -8,7 +8,7 @@ use Rattle.cyc_agreement.proofs.turning.turn_of.Goals as goal
 
 pub returns-then-bound-clause-did : goal.returns-then-bound-clause-did
 returns-then-bound-clause-did g c last =
-    let (first, a) = c.requires.agrees in let q = c.at.result.now in let k = c.in-Some.place in
+    let (first, a) = c.requires.agrees in let q = c.at.result.now in let k = c.in-Some.position in
     let s = system_of c.args.cpus.now c.args.records.now first in
     let (named, known) = record_read c.args.id k q c.args.records.now.list c.law.ensures.rising c.in-Some.ensures.some
     c.at.ensures in
@@ -21,7 +21,7 @@ returns-then-bound-clause-did g c last =
 
 pub returns-else-bound-clause-did : goal.returns-else-bound-clause-did
 returns-else-bound-clause-did g c last =
-    let (first, a) = c.requires.agrees in let q = c.at.result.now in let k = c.in-Some.place in
+    let (first, a) = c.requires.agrees in let q = c.at.result.now in let k = c.in-Some.position in
     let s = system_of c.args.cpus.now c.args.records.now first in
     let (named, known) = record_read c.args.id k q c.args.records.now.list c.law.ensures.rising c.in-Some.ensures.some
     c.at.ensures in
@@ -29,7 +29,7 @@ returns-else-bound-clause-did g c last =
 
 pub returns-in-Everywhere-clause-did : goal.returns-in-Everywhere-clause-did
 returns-in-Everywhere-clause-did g c last =
-    let (first, a) = c.requires.agrees in let q = c.at.result.now in let k = c.in-Some.place in
+    let (first, a) = c.requires.agrees in let q = c.at.result.now in let k = c.in-Some.position in
     let s = system_of c.args.cpus.now c.args.records.now first in
     let (named, known) = record_read c.args.id k q c.args.records.now.list c.law.ensures.rising c.in-Some.ensures.some
     c.at.ensures in

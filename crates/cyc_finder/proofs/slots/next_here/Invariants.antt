@@ -1,10 +1,10 @@
 use Rattle.std.proofs.Common.{◌-◌, ◌≤◌, length}
 use Rattle.std.specs.List.{AllWithin}
-use Rattle.cyc_finder.specs.Slots.{IsGone}
+use Rattle.cyc_finder.specs.Slots.{IsGoneSlot}
 use Rattle.cyc_finder.proofs.slots.next_here.Given as goal
 
 abbrev pub invariant-loop-position : goal.invariant-loop-position
-invariant-loop-position l = (l.from ≤ l.position) × (l.position ≤ length l.slots) × AllWithin IsGone l.slots l.from l.position
+invariant-loop-position l = (l.from ≤ l.position) × (l.position ≤ length l.slots) × AllWithin IsGoneSlot l.slots l.from l.position
 
 abbrev pub decreases-loop-position : goal.decreases-loop-position
 decreases-loop-position l = length l.slots - l.position

@@ -2,7 +2,7 @@ use Rattle.std.proofs.Common.{◌≡◌, ◌<◌, length, sym, ap, ◌∙◌, su
 use Rattle.std.specs.List.{insert, AllWithin, HoldsAt}
 use Rattle.cyc_finder.specs.declared.slots.Slot.{Slot}
 use Rattle.cyc_finder.specs.Sorted.{Rises, IsAt, IsGap}
-use Rattle.cyc_finder.specs.Slots.{slot_id, entries_of, IsGone}
+use Rattle.cyc_finder.specs.Slots.{slot_id, entries_of, IsGoneSlot}
 use Rattle.cyc_finder.proofs.RisingIds.{rises_inserted}
 use Rattle.cyc_finder.proofs.Here.{rank, some_slot, gap_gone, gap_is, gone_is, come, come_again}
 use Rattle.cyc_finder.proofs.Coming.{IsHere, IsWay, Comes, gap_whole, comes_rises, comes_in}
@@ -33,8 +33,9 @@ module _ (c : goal.After-set_few) where
   low = (let t = c.if-gone-len.true in let long = ap length c.deref-in-Err-2.ensures.value in
       let len = c.deref-in-Err-2.ensures.len in omega (arith, t, long, len))
 
-  gone : HoldsAt IsGone c.args.slots.now.items c.next_gone-gone.result
-  gone = subst (λ ys. c.next_gone-gone.result < length ys → HoldsAt IsGone ys c.next_gone-gone.result) c.deref-in-Err-2.ensures.value
+  gone : HoldsAt IsGoneSlot c.args.slots.now.items c.next_gone-gone.result
+  gone = subst (λ ys. c.next_gone-gone.result < length ys → HoldsAt IsGoneSlot ys c.next_gone-gone.result)
+      c.deref-in-Err-2.ensures.value
       c.next_gone-gone.ensures.gone low
 
 pub returns-then-gone-len-clause-rises : goal.returns-then-gone-len-clause-rises

@@ -5,7 +5,7 @@ use Rattle.std.proofs.lemmas.Bool.{false≢true}
 use Rattle.std.proofs.lemmas.List.{get_or_default}
 use Rattle.cyc_types.specs.Series.{never}
 use Rattle.cyc_heap.specs.declared.entry.Entry.{Entry}
-use Rattle.cyc_heap.specs.Tournament.{nowhere, index_of}
+use Rattle.cyc_heap.specs.Tournament.{nowhere, cyclic_index}
 use Rattle.cyc_heap.proofs.Gathering.{IsGathered, gathered_none, gathered_free, gathered_more, gathered_tree, gathered_kept, leaf}
 use Rattle.cyc_heap.proofs.Gathering.{gather_open, gather_apart}
 use Rattle.cyc_heap.proofs.between.gather.Goals.{then-is_some, else-is_some}
@@ -38,7 +38,7 @@ put-requires-clause-heap c =
     let at = leaf old position c.loop-position.held es h inside x is in
     let m = ap (λ (e : Entry). e.moment) at in
     gather_open old position c.loop-position.held es h inside x is used
-    (sym (ap index_of at) ∙ c.requires.own position test (omega (arith, m, used)))
+    (sym (ap cyclic_index at) ∙ c.requires.own position test (omega (arith, m, used)))
 
 pub put-requires-clause-apart : goal.put-requires-clause-apart
 put-requires-clause-apart c =
@@ -56,7 +56,7 @@ put-requires-clause-apart c =
     let at = leaf old position c.loop-position.held es h inside x is in
     let m = ap (λ (e : Entry). e.moment) at in
     gather_apart old position c.loop-position.held es h inside x is used
-    (sym (ap index_of at) ∙ c.requires.own position test (omega (arith, m, used)))
+    (sym (ap cyclic_index at) ∙ c.requires.own position test (omega (arith, m, used)))
 
 pub loop-position-preserved : goal.loop-position-preserved
 loop-position-preserved c =
@@ -76,7 +76,7 @@ loop-position-preserved c =
           (let used = used_of c.moment.result x.moment (sym c.is_some.ensures ∙ w.if-is_some.true) c.moment.ensures.some in
           let at = leaf old position held es h inside x is in
           let m = ap (λ (e : Entry). e.moment) at in
-          let mine = sym (ap index_of at) ∙ c.requires.own position test (omega (arith, m, used)) in
+          let mine = sym (ap cyclic_index at) ∙ c.requires.own position test (omega (arith, m, used)) in
           let f = w.put.ensures in
           let more = gathered_more old position held es h inside x is used mine w.put.new.entries.items f.long f.heap f.filled
           f.behind in

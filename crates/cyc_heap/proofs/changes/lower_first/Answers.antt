@@ -1,7 +1,7 @@
 use Rattle.std.proofs.Common.{◌≡◌, ℕ, true, List, refl, sym, ap, ◌∙◌, subst, arith}
 use Rattle.std.proofs.lemmas.List.{get_or_default}
 use Rattle.cyc_heap.specs.declared.entry.Entry.{Entry}
-use Rattle.cyc_heap.specs.Tournament.{nowhere, entry_at, index_of}
+use Rattle.cyc_heap.specs.Tournament.{nowhere, entry_at, cyclic_index}
 use Rattle.cyc_heap.specs.Few.{shown, IsChanged}
 use Rattle.cyc_heap.proofs.Sifting.{changed_tree, changed_leaf}
 use Rattle.cyc_heap.proofs.changes.lower_first.Goals as goal
@@ -17,9 +17,9 @@ returns-clause-tree c =
     let e = c.at_moment-entry.ensures in
     let m = ap (λ (e : Entry). e.moment) e.value in
     let valid = e.valid in
-    changed_tree c.args.held c.args.leaves 0 (index_of (entry_at es 0)) es c.put_first.new.entries.items
+    changed_tree c.args.held c.args.leaves 0 (cyclic_index (entry_at es 0)) es c.put_first.new.entries.items
     c.at_moment-entry.result c.requires.tree some refl f.long f.heap f.filled
-    (ap index_of e.value ∙ ap index_of (sym at)) (omega (arith, m, valid))
+    (ap cyclic_index e.value ∙ ap cyclic_index (sym at)) (omega (arith, m, valid))
 
 pub returns-clause-changed : goal.returns-clause-changed
 returns-clause-changed c =
@@ -36,10 +36,10 @@ returns-clause-changed c =
     let new : List Entry = shown true c.args.held c.put_first.new.entries.items in
     let word : c.at_moment-entry.result ≡ record (entry_at es 0) { moment = c.args.moment }
     = e.value ∙ ap (λ (e : Entry). with_moment e c.args.moment) (sym at) in
-    subst (λ e. IsChanged c.args.leaves (index_of (entry_at es 0)) e old new) word
-    (changed_leaf c.args.held c.args.leaves 0 (index_of (entry_at es 0)) es c.put_first.new.entries.items
+    subst (λ e. IsChanged c.args.leaves (cyclic_index (entry_at es 0)) e old new) word
+    (changed_leaf c.args.held c.args.leaves 0 (cyclic_index (entry_at es 0)) es c.put_first.new.entries.items
     c.at_moment-entry.result c.requires.tree some refl f.long f.heap f.filled
-    (ap index_of e.value ∙ ap index_of (sym at)) (omega (arith, m, valid)))
+    (ap cyclic_index e.value ∙ ap cyclic_index (sym at)) (omega (arith, m, valid)))
   where
     with_moment : Entry → ℕ → Entry
     with_moment e m = record e { moment = m }

@@ -2,7 +2,7 @@ use Rattle.std.proofs.Common.{◌-◌, true, List, length, take, sym, ap, ◌∙
 use Rattle.std.proofs.Math.ListN.{set}
 use Rattle.std.proofs.lemmas.List.{get_or_default}
 use Rattle.cyc_heap.specs.declared.entry.Entry.{Entry}
-use Rattle.cyc_heap.specs.Tournament.{nowhere, entry_at, index_of, free_entry}
+use Rattle.cyc_heap.specs.Tournament.{nowhere, entry_at, cyclic_index, free_entry}
 use Rattle.cyc_heap.specs.Few.{shown, IsHeapBut, IsFilled, IsTree, IsChanged}
 use Rattle.cyc_heap.proofs.Sifting.{found, cut_open, cut_apart, last_tree, last_changed, moved_tree, moved_changed}
 use Rattle.cyc_heap.proofs.changes.take_few.Goals as goal
@@ -11,47 +11,29 @@ pub put-requires-clause-heap : goal.put-requires-clause-heap
 put-requires-clause-heap c =
     let es = c.args.entries.now.items in
     let t = c.requires.tree in
-    let (low, here) = found c.args.held es c.as_slice.result.now c.find.result c.unwrap-place.result c.args.index t.within
-    c.as_slice.ensures.value c.unwrap-place.ensures c.find.ensures.some in
-    subst (λ e. IsHeapBut c.unwrap-place.result (take (c.args.held - 1) (set es (c.args.held - 1) e))) (sym c.free.ensures)
-    (cut_open c.args.held c.args.leaves c.unwrap-place.result c.args.index es t low here c.if-place-last.true)
+    let (low, here) = found c.args.held es c.as_slice.result.now c.find.result c.unwrap-position.result c.args.index t.within
+    c.as_slice.ensures.value c.unwrap-position.ensures c.find.ensures.some in
+    subst (λ e. IsHeapBut c.unwrap-position.result (take (c.args.held - 1) (set es (c.args.held - 1) e))) (sym c.free.ensures)
+    (cut_open c.args.held c.args.leaves c.unwrap-position.result c.args.index es t low here c.if-position-last.true)
 
 pub put-requires-clause-apart : goal.put-requires-clause-apart
 put-requires-clause-apart c =
     let es = c.args.entries.now.items in
     let t = c.requires.tree in
-    let (low, here) = found c.args.held es c.as_slice.result.now c.find.result c.unwrap-place.result c.args.index t.within
-    c.as_slice.ensures.value c.unwrap-place.ensures c.find.ensures.some in
+    let (low, here) = found c.args.held es c.as_slice.result.now c.find.result c.unwrap-position.result c.args.index t.within
+    c.as_slice.ensures.value c.unwrap-position.ensures c.find.ensures.some in
     let within = t.within in
     let x = c.index-moved.result.now in
     let at = get_or_default es (c.args.held - 1) nowhere x (omega (arith, low, within)) ∙ sym c.index-moved.ensures in
-    λ p less _ e. cut_apart c.args.held c.args.leaves c.unwrap-place.result c.args.index es t low here p less
-    (ap (λ f. index_of (entry_at (set es (c.args.held - 1) f) p)) (sym c.free.ensures) ∙ e ∙ ap index_of (sym at))
+    λ p less _ e. cut_apart c.args.held c.args.leaves c.unwrap-position.result c.args.index es t low here p less
+    (ap (λ f. cyclic_index (entry_at (set es (c.args.held - 1) f) p)) (sym c.free.ensures) ∙ e ∙ ap cyclic_index (sym at))
 
-pub returns-then-place-last-clause-tree : goal.returns-then-place-last-clause-tree
-returns-then-place-last-clause-tree c =
+pub returns-then-position-last-clause-tree : goal.returns-then-position-last-clause-tree
+returns-then-position-last-clause-tree c =
     let es = c.args.entries.now.items in
     let t = c.requires.tree in
-    let (low, here) = found c.args.held es c.as_slice.result.now c.find.result c.unwrap-place.result c.args.index t.within
-    c.as_slice.ensures.value c.unwrap-place.ensures c.find.ensures.some in
-    let within = t.within in
-    let x = c.index-moved.result.now in
-    let at = get_or_default es (c.args.held - 1) nowhere x (omega (arith, low, within)) ∙ sym c.index-moved.ensures in
-    let f = c.put.ensures in
-    let last = c.args.held - 1 in
-    let new = c.put.new.entries.items in
-    let cut : Entry → List Entry = set es last in
-    moved_tree c.args.held c.args.leaves c.unwrap-place.result c.args.index es t low here new c.if-place-last.true
-    (f.long ∙ ap (λ e. length (cut e)) c.free.ensures) f.heap
-    (subst (λ e. IsFilled c.unwrap-place.result (take last (cut free_entry)) e (take last new)) (sym at)
-    (subst (λ e. IsFilled c.unwrap-place.result (take last (cut e)) x (take last new)) c.free.ensures f.filled))
-
-pub returns-then-place-last-clause-changed : goal.returns-then-place-last-clause-changed
-returns-then-place-last-clause-changed c =
-    let es = c.args.entries.now.items in
-    let t = c.requires.tree in
-    let (low, here) = found c.args.held es c.as_slice.result.now c.find.result c.unwrap-place.result c.args.index t.within
-    c.as_slice.ensures.value c.unwrap-place.ensures c.find.ensures.some in
+    let (low, here) = found c.args.held es c.as_slice.result.now c.find.result c.unwrap-position.result c.args.index t.within
+    c.as_slice.ensures.value c.unwrap-position.ensures c.find.ensures.some in
     let within = t.within in
     let x = c.index-moved.result.now in
     let at = get_or_default es (c.args.held - 1) nowhere x (omega (arith, low, within)) ∙ sym c.index-moved.ensures in
@@ -59,26 +41,44 @@ returns-then-place-last-clause-changed c =
     let last = c.args.held - 1 in
     let new = c.put.new.entries.items in
     let cut : Entry → List Entry = set es last in
-    moved_changed c.args.held c.args.leaves c.unwrap-place.result c.args.index es t low here new c.if-place-last.true
+    moved_tree c.args.held c.args.leaves c.unwrap-position.result c.args.index es t low here new c.if-position-last.true
     (f.long ∙ ap (λ e. length (cut e)) c.free.ensures) f.heap
-    (subst (λ e. IsFilled c.unwrap-place.result (take last (cut free_entry)) e (take last new)) (sym at)
-    (subst (λ e. IsFilled c.unwrap-place.result (take last (cut e)) x (take last new)) c.free.ensures f.filled))
+    (subst (λ e. IsFilled c.unwrap-position.result (take last (cut free_entry)) e (take last new)) (sym at)
+    (subst (λ e. IsFilled c.unwrap-position.result (take last (cut e)) x (take last new)) c.free.ensures f.filled))
 
-pub returns-else-place-last-clause-tree : goal.returns-else-place-last-clause-tree
-returns-else-place-last-clause-tree c =
+pub returns-then-position-last-clause-changed : goal.returns-then-position-last-clause-changed
+returns-then-position-last-clause-changed c =
     let es = c.args.entries.now.items in
     let t = c.requires.tree in
-    let (low, here) = found c.args.held es c.as_slice.result.now c.find.result c.unwrap-place.result c.args.index t.within
-    c.as_slice.ensures.value c.unwrap-place.ensures c.find.ensures.some in
+    let (low, here) = found c.args.held es c.as_slice.result.now c.find.result c.unwrap-position.result c.args.index t.within
+    c.as_slice.ensures.value c.unwrap-position.ensures c.find.ensures.some in
+    let within = t.within in
+    let x = c.index-moved.result.now in
+    let at = get_or_default es (c.args.held - 1) nowhere x (omega (arith, low, within)) ∙ sym c.index-moved.ensures in
+    let f = c.put.ensures in
+    let last = c.args.held - 1 in
+    let new = c.put.new.entries.items in
+    let cut : Entry → List Entry = set es last in
+    moved_changed c.args.held c.args.leaves c.unwrap-position.result c.args.index es t low here new c.if-position-last.true
+    (f.long ∙ ap (λ e. length (cut e)) c.free.ensures) f.heap
+    (subst (λ e. IsFilled c.unwrap-position.result (take last (cut free_entry)) e (take last new)) (sym at)
+    (subst (λ e. IsFilled c.unwrap-position.result (take last (cut e)) x (take last new)) c.free.ensures f.filled))
+
+pub returns-else-position-last-clause-tree : goal.returns-else-position-last-clause-tree
+returns-else-position-last-clause-tree c =
+    let es = c.args.entries.now.items in
+    let t = c.requires.tree in
+    let (low, here) = found c.args.held es c.as_slice.result.now c.find.result c.unwrap-position.result c.args.index t.within
+    c.as_slice.ensures.value c.unwrap-position.ensures c.find.ensures.some in
     subst (λ e. IsTree true (c.args.held - 1) c.args.leaves (set es (c.args.held - 1) e)) (sym c.free.ensures)
-    (last_tree c.args.held c.args.leaves c.unwrap-place.result c.args.index es t low here c.if-place-last.false)
+    (last_tree c.args.held c.args.leaves c.unwrap-position.result c.args.index es t low here c.if-position-last.false)
 
-pub returns-else-place-last-clause-changed : goal.returns-else-place-last-clause-changed
-returns-else-place-last-clause-changed c =
+pub returns-else-position-last-clause-changed : goal.returns-else-position-last-clause-changed
+returns-else-position-last-clause-changed c =
     let es = c.args.entries.now.items in
     let t = c.requires.tree in
-    let (low, here) = found c.args.held es c.as_slice.result.now c.find.result c.unwrap-place.result c.args.index t.within
-    c.as_slice.ensures.value c.unwrap-place.ensures c.find.ensures.some in
+    let (low, here) = found c.args.held es c.as_slice.result.now c.find.result c.unwrap-position.result c.args.index t.within
+    c.as_slice.ensures.value c.unwrap-position.ensures c.find.ensures.some in
     subst (λ e. IsChanged c.args.leaves c.args.index free_entry (shown true c.args.held es)
     (shown true (c.args.held - 1) (set es (c.args.held - 1) e))) (sym c.free.ensures)
-    (last_changed c.args.held c.args.leaves c.unwrap-place.result c.args.index es t low here c.if-place-last.false)
+    (last_changed c.args.held c.args.leaves c.unwrap-position.result c.args.index es t low here c.if-position-last.false)

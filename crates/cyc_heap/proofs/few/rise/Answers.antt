@@ -10,16 +10,16 @@ use Rattle.cyc_heap.proofs.few.rise.Goals as goal
 
 pub loop-hole-init : goal.loop-hole-init
 loop-hole-init c = record {
-  low = c.requires.place;
+  low = c.requires.position;
   heap = c.requires.heap;
-  same = same_self c.args.place c.args.few.now;
+  same = same_self c.args.position c.args.few.now;
 }
 
 -- what the loop keeps
-record Up (place : ℕ) (old : List Entry) (hole : ℕ) (few : List Entry) : Type 0 where
+record Up (position : ℕ) (old : List Entry) (hole : ℕ) (few : List Entry) : Type 0 where
   pub low : hole < length few
   pub heap : IsHeapBut hole few
-  pub same : IsSame place old hole few
+  pub same : IsSame position old hole few
 
 pub loop-hole-preserved : goal.loop-hole-preserved
 loop-hole-preserved c =
@@ -35,11 +35,11 @@ loop-hole-preserved c =
     let x = c.index-few-parent in
     let is : entry_at xs m ≡ x.result = get_or_default xs m nowhere x.result within ∙ sym x.is in
     let long = moved_long xs hole m within low off in
-    let k : Up c.args.place c.args.few.now m (set xs hole x.result)
-    = subst (λ e. Up c.args.place c.args.few.now m (set xs hole e)) is (record {
+    let k : Up c.args.position c.args.few.now m (set xs hole x.result)
+    = subst (λ e. Up c.args.position c.args.few.now m (set xs hole e)) is (record {
       low = omega (arith, long, within);
       heap = heap_up xs hole m within low off h.heap child;
-      same = same_after xs hole m within low off c.args.place c.args.few.now h.same;
+      same = same_after xs hole m within low off c.args.position c.args.few.now h.same;
     }) in
     record { low = k.low; heap = k.heap; same = k.same }
 

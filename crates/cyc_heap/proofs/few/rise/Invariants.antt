@@ -6,7 +6,7 @@ abbrev pub invariant-loop-hole : goal.invariant-loop-hole
 invariant-loop-hole l = record {
   low : l.hole < length l.few;
   heap : IsHeapBut l.hole l.few;
-  same : IsSame l.fn.place l.fn.few l.hole l.few;
+  same : IsSame l.fn.position l.fn.few l.hole l.few;
 }
 
 abbrev pub decreases-loop-hole : goal.decreases-loop-hole

@@ -13,18 +13,18 @@ use Rattle.cyc_heap.proofs.few.sink.Goals as goal
 
 pub loop-hole-init : goal.loop-hole-init
 loop-hole-init c = record {
-  low = c.requires.place;
+  low = c.requires.position;
   heap = c.requires.heap;
   below = c.requires.below;
-  same = same_self c.args.place c.args.few.now;
+  same = same_self c.args.position c.args.few.now;
 }
 
 -- what the loop keeps
-record Down (place : ℕ) (old : List Entry) (e : Entry) (hole : ℕ) (few : List Entry) : Type 0 where
+record Down (position : ℕ) (old : List Entry) (e : Entry) (hole : ℕ) (few : List Entry) : Type 0 where
   pub low : hole < length few
   pub heap : IsHeapBut hole few
   pub below : IsBelow e hole few
-  pub same : IsSame place old hole few
+  pub same : IsSame position old hole few
 
 pub loop-hole-preserved : goal.loop-hole-preserved
 loop-hole-preserved c =
@@ -43,13 +43,13 @@ loop-hole-preserved c =
     let long = moved_long xs hole m within low off in
     let before = OnTrue_at c.if-not-expires_before.false c.expires_before.ensures.before in
     let new : List Entry = set xs hole (entry_at xs m) in
-    let k : Down c.args.place c.args.few.now c.args.entry m (set xs hole x.result)
-    = subst (λ e. Down c.args.place c.args.few.now c.args.entry m (set xs hole e)) is (record {
+    let k : Down c.args.position c.args.few.now c.args.entry m (set xs hole x.result)
+    = subst (λ e. Down c.args.position c.args.few.now c.args.entry m (set xs hole e)) is (record {
       low = omega (arith, long, within);
       heap = heap_down xs hole m within low off h.heap child (first_of_both hole m xs first.left first.right);
       below = λ a above. subst (λ p. comes (entry_at new p) c.args.entry ≡ true) (one_parent hole a m child above)
           (subst (λ e. comes e c.args.entry ≡ true) (sym (here xs hole m within low off ∙ is)) before);
-      same = same_after xs hole m within low off c.args.place c.args.few.now h.same;
+      same = same_after xs hole m within low off c.args.position c.args.few.now h.same;
     }) in
     record { low = k.low; heap = k.heap; below = k.below; same = k.same }
 
@@ -71,9 +71,9 @@ returns-clause-heap c =
           (subst (λ e. comes c.args.entry e ≡ true) (sym at) after)
           (first_of_both hole m xs first.left first.right p is low))
     ])
-    (apart_moved c.args.place c.args.few.now hole xs c.args.entry h.same c.requires.apart)
+    (apart_moved c.args.position c.args.few.now hole xs c.args.entry h.same c.requires.apart)
   where
-    -- nothing stands below the last places
+    -- nothing stands below the last positions
     leaf : (p : ℕ) → IsChild c.loop-hole.hole p → p < length c.loop-hole.few
         → length c.loop-hole.few ≤ 2 * c.loop-hole.hole + 1 → ⊥
     leaf p (inl eq) low past = omega (arith, eq, low, past)
@@ -82,4 +82,4 @@ returns-clause-heap c =
 pub returns-clause-filled : goal.returns-clause-filled
 returns-clause-filled c =
     let h = c.loop-hole.invariant in
-    filled_is c.loop-hole.few c.loop-hole.hole c.args.entry h.low c.args.place c.args.few.now h.same
+    filled_is c.loop-hole.few c.loop-hole.hole c.args.entry h.low c.args.position c.args.few.now h.same

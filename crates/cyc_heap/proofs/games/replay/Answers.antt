@@ -20,5 +20,5 @@ returns-clause-played c =
     let first = c.in-Some.ensures.nearer (16 * 16) (omega (arith, few)) in
     let second = c.in-Some-play_four.ensures.nearer 16 (omega (arith, first)) in
     let last = c.play_four-3 in
-    played_out c.args.leaves c.in-Some-play_four.position last.new.entries last.result (omega (arith, second)) last.ensures.position
-    last.ensures.nearer last.ensures.won last.ensures.played
+    played_out c.args.leaves c.in-Some-play_four.position last.new.entries last.result (omega (arith, second))
+    last.ensures.position last.ensures.nearer last.ensures.won last.ensures.played

@@ -12,7 +12,8 @@ back_is : (c : Then-number) → IsRunOf (c.args.front.now ++ c.args.back.now) c.
 back_is c =
     let is = sym c.in-Some.ensures.value in
     let most : c.in-Some.first.now.id ≤ c.args.id = omega arith in
-    back_run c.args.front.now c.args.back.now c.requires.rises c.args.id (slice_get_within c.args.back.now 0 c.in-Some.first.now is)
+    back_run c.args.front.now c.args.back.now c.requires.rises c.args.id
+    (slice_get_within c.args.back.now 0 c.in-Some.first.now is)
     (λ d. let e = ap id_of (get_or_from_slice_get c.args.back.now 0 c.in-Some.first.now d is) in omega (arith, e, most))
 
 front_is : (c : In_default) → IsRunOf (c.args.front.now ++ c.args.back.now) c.args.front.now c.args.id 0
@@ -31,7 +32,8 @@ absent_where (Ok k) o P Q is gap to = subst (λ o. IfNone o Q) (sym is) tt
 absent_where (Err k) o P Q is gap to = subst (λ o. IfNone o Q) (sym is) (to k gap)
 
 pub search-requires : goal.search-requires
-search-requires c = run_rises (c.args.front.now ++ c.args.back.now) c.args.back.now c.args.id (length c.args.front.now) (back_is c)
+search-requires c =
+    run_rises (c.args.front.now ++ c.args.back.now) c.args.back.now c.args.id (length c.args.front.now) (back_is c)
     c.requires.rises
 
 pub search-requires-in_default : goal.search-requires-in_default
@@ -54,4 +56,4 @@ pub returns-in-Ok-clause-some : goal.returns-in-Ok-clause-some
 returns-in-Ok-clause-some c =
     let s = (goal.at.returns-in-Ok-clause-some c).Then-number in
     found_in_run (s.args.front.now ++ s.args.back.now) s.args.back.now s.args.id (length s.args.front.now) (back_is s)
-    c.in-Ok.place c.in-Ok.ensures.found
+    c.in-Ok.position c.in-Ok.ensures.found

@@ -1,4 +1,5 @@
 use Rattle.std.proofs.Common.{◌≡◌, ◌∙◌, length, subst, arith}
+use Rattle.cyc_replay.specs.SystemAdvancing.{fired_and_lost}
 use Rattle.cyc_replay.specs.Advancing.{IsAdvancing}
 use Rattle.cyc_replay.proofs.advancing.fire_all.Goals as goal
 
@@ -25,4 +26,5 @@ returns-clause-all c = λ step s first a.
     let l = c.loop-cpu in let count = c.count_cpus-cpus.ensures.count in
     let past = c.loop-cpu-test.false in let within = l.auto.cpu-end in
     let same : l.cpu ≡ length c.args.machine.now.system.cpus.cpus = omega (arith, count, past, within) in
-    subst (λ k. IsAdvancing step k l.made.expired l.made.lost s first l.machine) same (l.invariant.so_far step s first a)
+    subst (λ k. IsAdvancing step k (fired_and_lost l.made.expired l.made.lost) s first l.machine) same (l.invariant.so_far step
+    s first a)

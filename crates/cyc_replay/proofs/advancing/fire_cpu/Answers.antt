@@ -38,7 +38,8 @@ returns-in-Ok-clause-next c step expired lost s first a =
       names = a.names;
       remembers = remembers_on s s m (record m { system = c.fire_one-answer.new.self; tally = c.fire_one-answer.new.calls })
           a.remembers
-          (record { names = refl; counted = refl; named = refl }) (omega arith) (λ id low gone. gone) (λ id low gone. refl);
+          (record { names = refl; named = refl }) (omega arith) (λ id low gone. gone) (λ id low gone. gone)
+          (λ id low gone. refl);
       room = c.kept_law.ensures.room (FireOne c.args.cpu m.clock (Ok fired)) before after c.in-Ok.ensures a.system
           (length s.names) a.room;
       tally = wide_fired c.args.cpu m.clock before after fired c.in-Ok.ensures a.tally;
@@ -55,4 +56,4 @@ returns-in-Offline-clause-next c step expired lost s first a =
     (low_here step c.args.cpu expired lost s first m a c.requires.there) a.fired p.0 in
     passed_on step c.args.cpu expired lost s first m
     (record m { system = c.fire_one-answer.new.self; tally = c.fire_one-answer.new.calls }) a p.1 refl
-    (record { names = refl; counted = refl; named = refl }) next
+    (record { names = refl; named = refl }) next

@@ -5,7 +5,7 @@ use Rattle.cyc_script.specs.declared.step.Step.TheVariants.{Advance}
 use Rattle.cyc_system.specs.System.{running_system}
 use Rattle.cyc_agreement.specs.Suspending.{is_suspended}
 use Rattle.cyc_replay.specs.SystemAdvancing.{at_clock}
-use Rattle.cyc_replay.specs.Machine.{Holds}
+use Rattle.cyc_replay.specs.Machine.{ShowsMachine}
 use Rattle.cyc_replay.specs.Words.{TakesWord}
 use Rattle.cyc_replay.proofs.Fired.{many_here}
 use Rattle.cyc_replay.proofs.Taking.{on_ok, refused_takes}
@@ -19,7 +19,8 @@ returns-then-is_suspended-clause-takes c = on_ok _ _ _ c.write_answer.result
     let on : is_suspended m.system ≡ true = sym c.is_suspended.ensures ∙ c.if-is_suspended.true in
     refused_takes texts c.args.step (Advance moment) _ Suspended s (record m { clock = now })
     (stands_still moment s (h.suspended ∙ on)) line
-    (subst (λ k. Holds (at_clock moment s) (record m { clock = k })) (sym c.moment_of-machine.ensures) (holds_at moment s m h)))
+    (subst (λ k. ShowsMachine (at_clock moment s) (record m { clock = k })) (sym c.moment_of-machine.ensures) (holds_at moment
+    s m h)))
     c.write_answer.ensures.line c.write_answer.ensures.other
 
 pub fire_all-made-requires : goal.fire_all-made-requires

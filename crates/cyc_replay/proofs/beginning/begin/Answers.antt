@@ -8,7 +8,7 @@ use Rattle.cyc_core.specs.Tables.{Tables}
 use Rattle.cyc_model.specs.Script.{start}
 use Rattle.cyc_replay.specs.Shown.{ShowsSystem, IsSystem}
 use Rattle.cyc_replay.specs.Kept.{new_system}
-use Rattle.cyc_replay.specs.Beginning.{IsEmpty}
+use Rattle.cyc_replay.specs.Beginning.{IsEmptyCpu}
 use Rattle.cyc_replay.specs.Machine.{AllMost}
 use Rattle.cyc_replay.proofs.Mosts.{most_new}
 use Rattle.cyc_replay.proofs.Start.{fresh_levels, held_new, new_empty, still_system, still_shows, still_most, still_awake}
@@ -24,7 +24,7 @@ with_room-requires c =
     let is : c.in_ok-fresh.fresh ≡ new_system 18446744073709551615 ends =
     c.in_ok-fresh.ensures.ok ∙ (λ z. record (new_system 18446744073709551615 ends) { last = c.first_id.ensures z - 1 }) in
     record {
-      empty = subst (λ (v : SystemView Tables). All IsEmpty v.cpus.cpus) (sym is)
+      empty = subst (λ (v : SystemView Tables). All IsEmptyCpu v.cpus.cpus) (sym is)
           (new_empty 18446744073709551615 c.args.ceiling ends c.in_ok-levels.ensures.new);
     }
 
@@ -40,10 +40,10 @@ returns-clause-holds c =
     let here = subst (λ (x : SystemView Tables). IsSystem x × ShowsSystem (start (length ends) c.args.ceiling c.args.names) x)
     (sym is) shown in
     let most = subst (λ (x : SystemView Tables). AllMost x.cpus) (sym is) (most_new ends) in
-    let empty = subst (λ (x : SystemView Tables). All IsEmpty x.cpus.cpus) (sym is)
+    let empty = subst (λ (x : SystemView Tables). All IsEmptyCpu x.cpus.cpus) (sym is)
     (new_empty 18446744073709551615 c.args.ceiling ends c.in_ok-levels.ensures.new) in
     held_new c.args.cpus c.args.ceiling c.args.names _ refl
-    c.in_ok-tally.ensures.tally c.in_ok-tally.ensures.ids c.in_ok-tally.ensures.counted c.in_ok-tally.ensures.named
+    c.in_ok-tally.ensures.tally c.in_ok-tally.ensures.names c.in_ok-tally.ensures.named
     (still_most k v w two.0 two.1 rest.0 rest.1 most) (now_room k v w two.0 two.1 rest.0 rest.1 c.args.names refl empty)
     (still_awake k v w two.0 two.1 rest.0 rest.1 (ap is_suspended is ∙ awake_new 18446744073709551615 ends)) (
       still_system k v w two.0 two.1 rest.0 rest.1 here.0 c.law-2.ensures,

@@ -1,7 +1,7 @@
 use Rattle.std.proofs.Common.{[], ◌∷◌, length, ap, sym, subst, ◌∙◌, arith}
 use Rattle.std.proofs.lemmas.List.{length-append}
 use Rattle.cyc_core.specs.Tables.{Tables}
-use Rattle.cyc_replay.specs.Kept.{AreNew}
+use Rattle.cyc_replay.specs.Kept.{LevelsAreNew}
 use Rattle.cyc_replay.proofs.Start.{one_more_new}
 use Rattle.cyc_replay.proofs.beginning.new_levels.Goals as goal
 
@@ -12,6 +12,6 @@ loop-preserved c =
     let same = c.in_ok-push.ensures.items in
     record {
       long = ap length same ∙ omega (arith, long, was);
-      new = subst (AreNew c.args.ceiling) (sym same)
+      new = subst (LevelsAreNew c.args.ceiling) (sym same)
           (one_more_new c.args.ceiling old e c.loop.invariant.new c.in_ok-lock.ensures.ok c.in_ok-low.ensures.ok);
     }

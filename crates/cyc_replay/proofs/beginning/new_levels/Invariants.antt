@@ -1,9 +1,9 @@
 use Rattle.std.proofs.Common.{◌≡◌, length}
-use Rattle.cyc_replay.specs.Kept.{AreNew}
+use Rattle.cyc_replay.specs.Kept.{LevelsAreNew}
 use Rattle.cyc_replay.proofs.beginning.new_levels.Given as goal
 
 abbrev pub invariant-loop : goal.invariant-loop
 invariant-loop l = record {
   long : length l.ends.items ≡ l.counter;
-  new : AreNew l.ceiling l.ends.items;
+  new : LevelsAreNew l.ceiling l.ends.items;
 }

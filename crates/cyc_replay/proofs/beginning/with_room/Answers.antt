@@ -6,7 +6,7 @@ use Rattle.cyc_core.specs.Tables.{Tables}
 use Rattle.cyc_cpu.specs.Soft.{firing_at}
 use Rattle.cyc_system.specs.System.{SystemView}
 use Rattle.cyc_system.specs.Splitting.{AllComeBack}
-use Rattle.cyc_replay.specs.Beginning.{IsEmpty, HasReserved}
+use Rattle.cyc_replay.specs.Beginning.{IsEmptyCpu, HasReserved}
 use Rattle.cyc_replay.proofs.Start.{come_back}
 use Rattle.cyc_replay.proofs.beginning.with_room.Goals as goal
 
@@ -14,7 +14,7 @@ pub reserve_each-requires : goal.reserve_each-requires
 reserve_each-requires c =
     let few = c.wanted_of-wanted.ensures in
     record {
-      empty = subst (λ xs. All IsEmpty xs) (sym c.split-desk.ensures.cpus) c.requires.empty;
+      empty = subst (λ xs. All IsEmptyCpu xs) (sym c.split-desk.ensures.cpus) c.requires.empty;
       few = omega (arith, few);
     }
 
@@ -24,7 +24,7 @@ unite-requires c =
     subst (λ xs. AllComeBack firing_at xs c.reserve_each.new.hards.items)
     (left.cpus ∙ sym (ap (λ (v : SystemView Tables). v.cpus.cpus) left.desk))
     (come_back c.wanted_of-wanted.result c.split-desk.result.1.items c.reserve_each.new.hards.items
-    (subst (λ xs. All IsEmpty xs) (sym left.cpus) c.requires.empty) c.in_ok-reserve_each.ensures.did)
+    (subst (λ xs. All IsEmptyCpu xs) (sym left.cpus) c.requires.empty) c.in_ok-reserve_each.ensures.did)
 
 pub returns-clause-cpus : goal.returns-clause-cpus
 returns-clause-cpus c =

@@ -4,7 +4,7 @@ use Rattle.cyc_types.specs.Tally.{TallyView}
 use Rattle.cyc_core.specs.Tables.{Tables}
 use Rattle.cyc_system.specs.System.{RunningSystem, running_system}
 use Rattle.cyc_script.specs.declared.step.Softint.{Softint as SoftintStep}
-use Rattle.cyc_replay.specs.Machine.{Holds}
+use Rattle.cyc_replay.specs.Machine.{ShowsMachine}
 use Rattle.cyc_system.specs.Calls.{SoftInterrupt}
 use Rattle.cyc_replay.proofs.Doing.{keeps}
 use Rattle.cyc_replay.proofs.Named.{reached_good}
@@ -43,5 +43,8 @@ returns-in-NoCpu-clause-none c = λ s h.
     let m = c.args.machine.now in
     let i : SoftintStep = record { cpu = c.args.cpu; level = c.args.level; budget = c.args.budget } in
     let after = running_system c.softint-answer.new.calls c.softint-answer.new.self in
-    let p = no_cpu_there i s m after h (rw c.in-NoCpu.is at c.in-Err.ensures) in
-    (p.0, subst (λ (t : RunningSystem TallyView Tables). Holds s (record m { system = t.system; tally = t.calls })) (sym p.1) h)
+    let p = no_cpu_there i s m after h (rw c.in-NoCpu.is at c.in-Err.ensures) in (
+      p.0,
+      subst (λ (t : RunningSystem TallyView Tables). ShowsMachine s (record m { system = t.system; tally = t.calls })) (sym
+          p.1) h,
+    )

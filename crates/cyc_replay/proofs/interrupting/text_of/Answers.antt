@@ -7,8 +7,7 @@ use Rattle.cyc_replay.proofs.interrupting.text_of.Goals as goal
 pub returns-then-has_id : goal.returns-then-has_id
 returns-then-has_id c = λ s h.
     let m = c.args.machine.now in let name = c.name_of-name.result in
-    let at = ap (λ xs. id_at xs name) (sym c.deref-2.ensures.value) ∙ c.if-has_id.ensures.0 refl in
-    c.name_text.ensures ∙ sym (text_named s m c.args.id name (map string_bytes c.args.names.now) h at)
+    c.name_text.ensures ∙ sym (text_named s m c.args.id name (map string_bytes c.args.names.now) h (c.if-has_id.ensures.0 refl))
 
 pub returns : goal.returns
 returns c = λ s h.
@@ -16,5 +15,4 @@ returns c = λ s h.
     let same = c.name_of-name.ensures ∙ ap (λ xs. name_at xs id) c.deref.ensures.value in
     sym (text_nameless s m id (map string_bytes c.args.names.now) h
     (subst (λ k. 0 < k) c.number-number.ensures.value c.number-number.ensures.valid.0)
-    (λ at. not_true (c.if-has_id.ensures.1 (ap (λ xs. id_at xs name) c.deref-2.ensures.value ∙ ap (id_at m.names.items) same
-    ∙ at))))
+    (λ at. not_true (c.if-has_id.ensures.1 (ap (id_at m.names) same ∙ at))))

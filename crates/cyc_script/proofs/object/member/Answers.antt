@@ -1,5 +1,5 @@
 use Rattle.std.proofs.Common.{refl, ap, ◌∙◌}
-use Rattle.cyc_script.specs.Limits.{most_cpus}
+use Rattle.cyc_types.specs.Limits.{most_cpus}
 use Rattle.cyc_script.specs.Script.{number_between}
 use Rattle.cyc_script.proofs.Objects.{ceiling_put, cpus_put, other_put}
 use Rattle.cyc_script.proofs.Plain.{plain_between}

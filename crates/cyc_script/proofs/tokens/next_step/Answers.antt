@@ -1,7 +1,7 @@
 use Rattle.std.proofs.Common.{rules, ◌≡◌, ◌+◌, ◌-◌, ◌<◌, length, Err, ap, subst, ◌∙◌, arith}
 use Rattle.cyc_script.specs.declared.cause.Cause.TheVariants as cause
 use Rattle.cyc_script.specs.declared.stop.Stop.TheVariants as Stop
-use Rattle.cyc_script.specs.Answers.{Fails, refusal_at}
+use Rattle.cyc_script.specs.Answers.{Fails, refusal_of_step}
 use Rattle.cyc_script.specs.Limits.{most_steps}
 use Rattle.cyc_script.specs.Steps.{step_of}
 use Rattle.cyc_script.specs.Tokens.{step_data}
@@ -50,7 +50,7 @@ returns-in-Err c =
     rw (← c.as_slice.ensures.value) c.in-Err.ensures.reads in
     let place : c.len-number.result ≡ length steps = grind arith in
     let some : length steps < most_steps = grind arith in
-    let at = c.at.ensures ∙ ap (λ k. refusal_at (k + 1) c.in-Err.cause) place in
+    let at = c.at.ensures ∙ ap (λ k. refusal_of_step (k + 1) c.in-Err.cause) place in
     let left : most_steps - (c.len-number.result + 1) ≡ most_steps - (length steps + 1) = omega (arith, place) in
     record {
       value = fault_refused steps before has.0 c.args.reader.now c.step_parts.new.reader c.requires.going has.1 some _ left

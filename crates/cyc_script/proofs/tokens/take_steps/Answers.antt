@@ -1,7 +1,7 @@
 use Rattle.std.proofs.Common.{◌≡◌, ◌-◌, length, None, false, true, refl, arith}
 use Rattle.std.specs.Prelude.{is_some}
 use Rattle.json.specs.Json.{after_end_array}
-use Rattle.cyc_script.specs.Tokens.{TakesStep}
+use Rattle.cyc_script.specs.Tokens.{ReadsStep}
 use Rattle.cyc_script.proofs.Grammar.{shorter}
 use Rattle.cyc_script.proofs.Taken.{end_taken, few_more, keeps_step, refused_steps, step_taken, taken_whole, takes_one}
 use Rattle.cyc_script.proofs.tokens.take_steps.Goals as goal
@@ -20,7 +20,7 @@ loop-alloc-smaller c =
     let l = c.loop-alloc in
     let going : (after_end_array l.reader ≡ None) × (c.take_end_array.new.self ≡ l.reader) = grind arith in
     let none : is_some c.in_ok-refusal.refusal ≡ false = grind arith in
-    let is : TakesStep l.reader c.next_step.new.reader l.steps.items c.next_step.new.steps.items l.context
+    let is : ReadsStep l.reader c.next_step.new.reader l.steps.items c.next_step.new.steps.items l.context
     c.next_step.new.context = rw (← going.1) (takes_one c.in_ok-refusal.refusal _ _ none c.in_ok-refusal.ensures.value) in
     let less = shorter 125 l.reader c.next_step.new.reader is.written is.begins in
     omega (arith, less)
@@ -34,7 +34,7 @@ loop-alloc-preserved c =
     let after = c.next_step.new.context in
     let going : (after_end_array l.reader ≡ None) × (c.take_end_array.new.self ≡ l.reader) = grind arith in
     let none : is_some c.in_ok-refusal.refusal ≡ false = grind arith in
-    let is : TakesStep l.reader c.next_step.new.reader steps longer l.context after =
+    let is : ReadsStep l.reader c.next_step.new.reader steps longer l.context after =
     rw (← going.1) (takes_one c.in_ok-refusal.refusal _ _ none c.in_ok-refusal.ensures.value) in
     let less = shorter 125 l.reader c.next_step.new.reader is.written is.begins in (
       n - 1,

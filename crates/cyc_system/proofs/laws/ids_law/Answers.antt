@@ -1,4 +1,4 @@
-use Rattle.cyc_cpu_laws.specs.Calls.{no_interrupts}
+use Rattle.cyc_cpu.specs.Calls.{no_interrupts}
 use Rattle.cyc_system.proofs.Numbers.{rises_along, given, omni_given}
 use Rattle.cyc_system.proofs.laws.ids_law.Goals as goal
 

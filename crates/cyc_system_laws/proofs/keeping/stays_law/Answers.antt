@@ -40,6 +40,6 @@ returns-clause-known g c id s t call rising d other =
       level = level_read (record_of id t)
           ∙ (look_kept firing (λ (r : Record). Some r.level) None (λ r n bound e. refl)
           (λ r n c. refl) id s t call rising d other ∙ sym (level_read (record_of id s)));
-      everywhere = look_kept firing (λ (r : Record). is_everywhere r.place) false (λ r n bound e. sym e)
+      everywhere = look_kept firing (λ (r : Record). is_everywhere r.placement) false (λ r n bound e. sym e)
           (λ r n c. refl) id s t call rising d other;
     }

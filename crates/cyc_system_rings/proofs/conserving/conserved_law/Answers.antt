@@ -1,5 +1,5 @@
 use Rattle.std.proofs.Common.{ℕ}
-use Rattle.ring_rule.specs.Trail.{raises_of, losses_of}
+use Rattle.ring_rule.specs.Trail.{raises_of, losses_on_trail}
 use Rattle.cyc_ring.specs.declared.ends.RaiseEnd.{RaiseEnd}
 use Rattle.cyc_ring.specs.Ends.{raise_trail, raise_end}
 use Rattle.cyc_ring.proofs.Ways.{raise_ways}
@@ -11,7 +11,7 @@ abbrev raised : ℕ → RaiseEnd → ℕ
 raised id e = raises_of id (raise_trail e.seat)
 
 abbrev dropped : ℕ → RaiseEnd → ℕ
-dropped id e = losses_of id (raise_trail e.seat)
+dropped id e = losses_on_trail id (raise_trail e.seat)
 
 pub returns-clause-expired : goal.returns-clause-expired
 returns-clause-expired g c id s t way run sound ready =

@@ -22,7 +22,7 @@ unreachable-requires g c =
     c.loop-seated.invariant.all c.in-Some.ensures.steps.0 in
     let low = each_low (λ r (s : Seated _). AreSeated r s.seats) c.args.rings.now c.loop-seated.yielded _ c.in-Some.seated each in
     let long = each_long IsAttached c.loop-seated.yielded c.loop-seated.attached.items c.loop-seated.invariant.done in
-    let place = c.len-place.ensures in let far = c.if-place-rings.true in let ok = c.loop-seated.attached.ok.0 in
+    let place = c.len-position.ensures in let far = c.if-position-rings.true in let ok = c.loop-seated.attached.ok.0 in
     omega (arith, low, long, place, far, ok)
 
 pub attach_one-requires : goal.attach_one-requires
@@ -30,9 +30,9 @@ attach_one-requires g c =
     let each = seated_from c.args.rings.now c.args.all.items c.loop-seated.yielded _ _ c.in-Some.seated c.requires
     c.loop-seated.invariant.all c.in-Some.ensures.steps.0 in
     let long = each_long IsAttached c.loop-seated.yielded c.loop-seated.attached.items c.loop-seated.invariant.done in
-    subst (λ (r : Levels Ring). AreSeated r c.in-Some.seated.seats) (sym c.index-rings-place.is)
+    subst (λ (r : Levels Ring). AreSeated r c.in-Some.seated.seats) (sym c.index-rings-position.is)
     (each_at (λ r (s : Seated _). AreSeated r s.seats) c.args.rings.now c.loop-seated.yielded _ c.in-Some.seated
-    c.len-place.result c.index-rings-place.result each (c.len-place.ensures ∙ c.loop-seated.attached.ok.0 ∙ long))
+    c.len-position.result c.index-rings-position.result each (c.len-position.ensures ∙ c.loop-seated.attached.ok.0 ∙ long))
 
 pub loop-seated-preserved : goal.loop-seated-preserved
 loop-seated-preserved g c =

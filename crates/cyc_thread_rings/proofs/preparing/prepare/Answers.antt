@@ -1,7 +1,7 @@
 use Rattle.std.proofs.Common.{◌≡◌, map, refl, sym, subst}
 use Rattle.cyc_workers.specs.declared.settling.Lead.{Lead}
 use Rattle.cyc_thread_rings.specs.declared.attaching.Attached.{Attached}
-use Rattle.cyc_thread_rings.specs.Preparing.{HasRoom}
+use Rattle.cyc_thread_rings.specs.Preparing.{HasThreadRoom}
 use Rattle.cyc_thread_rings.specs.Working.{sides_of}
 use Rattle.cyc_thread_rings.proofs.Each.{taken_all, taken_many, taken_none, same_more}
 use Rattle.cyc_thread_rings.proofs.preparing.prepare.Goals as goal
@@ -13,7 +13,7 @@ loop-attached-preserved g c =
     record {
       all = taken_all c.loop-attached.yielded x _ _ _ step.0 inv.all;
       many = taken_many _ _ x _ _ step.0 step.1 inv.many;
-      room = more.room _ (subst (λ n. HasRoom n c.loop-attached.lists) (sym step.1) inv.room);
+      room = more.room _ (subst (λ n. HasThreadRoom n c.loop-attached.lists) (sym step.1) inv.room);
       ends = same_more (λ (a : Attached _). a.ends) _ _ c.loop-attached.yielded x.ends x more.ends inv.ends refl;
       leads = same_more (λ (a : Attached _). a.high) _ _ c.loop-attached.yielded x.high x more.leads inv.leads refl;
       drainers = same_more (λ (a : Attached _). a.soft) _ _ c.loop-attached.yielded x.soft x more.drainers inv.drainers refl;

@@ -4,7 +4,7 @@ use Rattle.cyc_ring.specs.Ends.{raise_end}
 use Rattle.cyc_workers.specs.declared.settling.Lead.{Lead}
 use Rattle.cyc_workers.proofs.Joining.{at_err}
 use Rattle.cyc_thread_rings.specs.Working.{sides_of}
-use Rattle.cyc_threads.specs.declared.named.Named.TheVariants.{Nothing}
+use Rattle.cyc_words.specs.declared.named.Named.TheVariants.{Nothing}
 use Rattle.cyc_threads.specs.Refusing.{WhyNotPlayed}
 use Rattle.cyc_threads.proofs.Expiring.{none_expired}
 use Rattle.cyc_threads.proofs.Played.{many_ends, some_cpus, few_cpus, many_leads, fresh_ends, begins, not_played, kept, many_soft}

@@ -6,8 +6,9 @@ use Rattle.cyc_types.proofs.Firings.{fire_start, fire_done, fire_bound}
 use Rattle.cyc_timers.specs.Rows.{timers_of, cyclics_of}
 use Rattle.cyc_types.specs.Levels.{at_level}
 use Rattle.cyc_types.specs.declared.level.Level.TheVariants.{High}
-use Rattle.cyc_timers.specs.Ends.{IsReady}
-use Rattle.cyc_timers.specs.Made.{Makes, WhyStopped}
+use Rattle.cyc_timers.specs.Ends.{IsReady, lock_and_low}
+use Rattle.cyc_timers.specs.Made.{Makes, WhyStopped, fire_state}
+use Rattle.cyc_timers.specs.Acts.{acting}
 use Rattle.cyc_timers.proofs.Tables.{timers_long}
 use Rattle.cyc_timers.proofs.Stepping.{turn_written, makes_none, less_left, row_found, front}
 use Rattle.cyc_timers.proofs.fire.fire_all.Goals as goal
@@ -35,7 +36,8 @@ loop-root-init g c =
 pub loop-root-smaller : goal.loop-root-smaller
 loop-root-smaller g c =
     let (k, r, is, at, moment, named, first) = c.in-Some.ensures.first in
-    less_left c.args.now c.loop-root.table.rows c.expire_root.new.self.rows c.in-Ok.more c.following.result k (c.args.now - c.in-Some.root.1) r
+    less_left c.args.now c.loop-root.table.rows c.expire_root.new.self.rows c.in-Ok.more c.following.result k
+    (c.args.now - c.in-Some.root.1) r
     c.record-kept.result is first moment (c.record-kept.ensures k r is at)
     (record {
       due_is = c.following.ensures.due;
@@ -87,8 +89,9 @@ loop-root-preserved g c =
       room = c.expire_root.ensures.room ∙ i.room;
       rising = t.rising;
       sound = t.sound;
-      ready = subst (λ n. IsReady g.R.Raise.view n c.args.most (g.R.Raise.view c.args.lock.now).marked
-          (g.R.Raise.view c.args.low.now).marked c.expire_at.new.lock c.expire_at.new.low c.expire_root.new.self.rows)
+      ready = subst (λ n. IsReady g.R.Raise.view n c.args.most (lock_and_low (g.R.Raise.view c.args.lock.now).marked
+          (g.R.Raise.view
+          c.args.low.now).marked) (lock_and_low c.expire_at.new.lock c.expire_at.new.low) c.expire_root.new.self.rows)
           (sym same_size) t.ready;
       made = (made ++ next_of r.timer ∷ [], simp length-append (omega (arith, long)), t.fires, t.makes, t.few);
     }
@@ -117,10 +120,11 @@ returns-then-count-most-clause-refused g c =
     let (k, r, is, at, moment, named, first) = c.in-Some.ensures.first in
     let i = c.loop-root.invariant in
     let (made, long, f, makes, few) = i.made in
-    let (rest, whole) = front c.args.now made (timers_of c.args.table.now.rows) c.loop-root.table.rows k (c.args.now - c.in-Some.root.1) r f is
+    let (rest, whole) = front c.args.now made (timers_of c.args.table.now.rows) c.loop-root.table.rows k
+    (c.args.now - c.in-Some.root.1) r f is
     first moment (omega arith) in
     let kept = c.record-found.ensures k r is at in
-    let spent = c.if-count-most.true in (
+    let spent = c.if-count-most.true in rw c.stopped.ensures (
       made,
       next_of r.timer,
       rest,
@@ -139,11 +143,12 @@ returns-in-Err-clause-refused g c =
     let (k, r, is, at, moment, named, first) = c.in-Some.ensures.first in
     let i = c.loop-root.invariant in
     let (made, long, f, makes, few) = i.made in
-    let (rest, whole) = front c.args.now made (timers_of c.args.table.now.rows) c.loop-root.table.rows k (c.args.now - c.in-Some.root.1) r f is
+    let (rest, whole) = front c.args.now made (timers_of c.args.table.now.rows) c.loop-root.table.rows k
+    (c.args.now - c.in-Some.root.1) r f is
     first moment (omega arith) in
     let kept = c.record-found.ensures k r is at in
     let h = c.in-Err.ensures in
-    let same_lock = h.lock in let same_low = h.low in (
+    let same_lock = h.lock in let same_low = h.low in rw c.stopped-in-Err.ensures (
       made,
       next_of r.timer,
       rest,
@@ -178,8 +183,12 @@ returns-clause-made g c =
     let (made, long, f, makes, few) = c.loop-root.invariant.made in
     let later = recursion_from_All (λ (t : Timer). c.args.now < t.moment)
     (timers_of c.loop-root.table.rows) c.in_default.ensures.none in
-    subst (λ xs. Makes (at_level g.C.Calls.called High) g.C.Calls.count g.R.Raise c.args.now xs
-    (cyclics_of c.args.table.now.rows) (cyclics_of c.loop-root.table.rows)
-    (record { calls = c.args.calls.now; lock = c.args.lock.now; low = c.args.low.now })
-    (record { calls = c.loop-root.calls; lock = c.loop-root.lock; low = c.loop-root.low }) c.loop-root.lost)
+    subst (λ xs. Makes (acting (at_level g.C.Calls.called High) g.C.Calls.count g.R.Raise) c.args.now xs (fire_state
+    (cyclics_of c.args.table.now.rows) (record { calls = c.args.calls.now; lock = c.args.lock.now; low = c.args.low.now }))
+    (fire_state (cyclics_of c.loop-root.table.rows) (record {
+      calls = c.loop-root.calls;
+      lock = c.loop-root.lock;
+      low =
+          c.loop-root.low;
+    })) c.loop-root.lost)
     (sym (fire_done c.args.now made (timers_of c.args.table.now.rows) (timers_of c.loop-root.table.rows) f later)) makes

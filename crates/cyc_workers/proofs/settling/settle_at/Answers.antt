@@ -9,7 +9,7 @@ pub returns-clause-asked : goal.returns-clause-asked
 returns-clause-asked g c = record {
   before = c.index_mut.result.now;
   after = c.settle.new.hard;
-  here = slice_get_read c.args.all.now.items _ c.args.place c.index_mut.result.now refl c.requires c.index_mut.ensures.value;
+  here = slice_get_read c.args.all.now.items _ c.args.position c.index_mut.result.now refl c.requires c.index_mut.ensures.value;
   asked = c.settle.ensures.asked;
   rest = refl;
 }
@@ -17,6 +17,6 @@ returns-clause-asked g c = record {
 pub returns-clause-settled : goal.returns-clause-settled
 returns-clause-settled g c = if_none_then c.settle.result _ _
     (λ s y at. subst (λ (x : CpuView _). IsSettled g.R.Raise.view x)
-    (same_Some c.settle.new.hard y (sym (get_set_same c.args.all.now.items c.args.place c.settle.new.hard c.requires) ∙ at))
+    (same_Some c.settle.new.hard y (sym (get_set_same c.args.all.now.items c.args.position c.settle.new.hard c.requires) ∙ at))
     s)
     c.settle.ensures.settled

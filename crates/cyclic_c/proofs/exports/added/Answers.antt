@@ -1,8 +1,8 @@
 use Rattle.std.proofs.Common.{ℕ, subst, ap, to_z-of_z, to_z, of_z, w64, ℤ}
 use Rattle.cyc_cpu.specs.Soft.{raise_tables}
-use Rattle.cyc_border.specs.Border.{Adds, add_numbers}
+use Rattle.cyc_border.specs.Border.{CallsAdd, add_numbers}
 use Rattle.cyc_border.specs.declared.cpu.Cpu.{Cpu}
-use Rattle.cyclic_c.specs.OutParameters.{Leaves, number_of}
+use Rattle.cyclic_c.specs.OutParameters.{LeavesNumber, number_out}
 use Rattle.cyclic_c.proofs.Passing.{through}
 use Rattle.cyclic_c.proofs.exports.added.Goals as goal
 
@@ -17,14 +17,14 @@ returns-clause-done c =
     through _ _ _ _ _ _ c.in-Some.ensures.some c.put.ensures (
       answer,
       c.number_of_answer.ensures,
-      subst (λ (k : ℕ). Leaves k (number_of c.written.result)) c.named_in.ensures c.written.ensures.number,
+      subst (λ (k : ℕ). LeavesNumber k (number_out c.written.result)) c.named_in.ensures c.written.ensures.number,
       (
-        subst (λ (v : Cpu). Adds raise_tables (add_numbers id level start interval now) answer v.hard new) same
-            (subst (λ (z : ℤ). Adds raise_tables (add_numbers id level start interval z) answer old new)
+        subst (λ (v : Cpu). CallsAdd raise_tables (add_numbers id level start interval now) answer v.hard new) same
+            (subst (λ (z : ℤ). CallsAdd raise_tables (add_numbers id level start interval z) answer old new)
             (to_z-of_z c.ranges.now)
-            (subst (λ (z : ℤ). Adds raise_tables (add_numbers id level start z (read now)) answer old new)
+            (subst (λ (z : ℤ). CallsAdd raise_tables (add_numbers id level start z (read now)) answer old new)
             (to_z-of_z c.ranges.interval)
-            (subst (λ (z : ℤ). Adds raise_tables (add_numbers id level z (read interval) (read now)) answer old new)
+            (subst (λ (z : ℤ). CallsAdd raise_tables (add_numbers id level z (read interval) (read now)) answer old new)
             (to_z-of_z c.ranges.start) c.add-answer.ensures))),
         ap (λ (v : Cpu). record v { hard = new }) same,
       ),

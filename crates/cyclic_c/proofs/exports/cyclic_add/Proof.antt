@@ -30,7 +30,7 @@ use Rattle.std.proofs.alloc.Global.TheLaws as global_laws
 use Rattle.cyc_border.specs.Border.{Through, add_numbers}
 use Rattle.cyc_cpu.specs.Soft.{raise_tables}
 use Rattle.cyclic_c.specs.Exports.{AddsOut, OnHard}
-use Rattle.cyclic_c.specs.OutParameters.{number_behind, pointer_of, number_of}
+use Rattle.cyclic_c.specs.OutParameters.{number_behind, pointer_of, number_out}
 use Rattle.cyclic_c.specs.contracts.handle.CyclicCpu.{the_row as Handle}
 use Rattle.cyclic_c.proofs.OutValues.{Found, found_laws, found_memory}
 use Rattle.cyclic_c.proofs.OutCalls.{Behind, at_behind, gives, behind_goes, behind_gives, gone, alloc_goes, u64_goes}
@@ -225,9 +225,9 @@ cyclic_add_spec 𝓤 𝓛 𝓜 𝓡 wired =
     (and_then ! (get ! refl) (and_then ! (get ! refl) (and_then ! (get ! refl) (and_then ! (get ! refl) (and_then ! (get ! refl)
     (and_then ! (get ! refl) (and_then ! (get ! refl) (and_then ! (get ! refl) (no_more !))))))))) (λ v.
     use1 𝓛 (later (some (λ (r : Pair.Denot). ((‵ (flft κ q) ⊛ ‵ ftrue) ⊛ ‵ (Pair.own_val r (v ∷ []))) ⊛ some
-    (λ (ws : Lasts g.ended κs z.0.3). ‵ (lasts g.ended κs z.0.3 ws) ⊛ (raw (fact 𝓤 (Done ws.1.0 r.0 (number_of r.1)))
+    (λ (ws : Lasts g.ended κs z.0.3). ‵ (lasts g.ended κs z.0.3 ws) ⊛ (raw (fact 𝓤 (Done ws.1.0 r.0 (number_out r.1)))
     ⊛ raw (fact 𝓤 (pointer_of r.1 ≡ pointer_of m))))))) (id⊢ 𝓤 _) $ await ! tt $ pick !
-    (λ r. split ! $ move ! (1 ∷ []) $ pick ! (λ ws. let Said = Done ws.1.0 r.0 (number_of r.1) in let Left = Ends ws.1.0 r.0 in
+    (λ r. split ! $ move ! (1 ∷ []) $ pick ! (λ ws. let Said = Done ws.1.0 r.0 (number_out r.1) in let Left = Ends ws.1.0 r.0 in
     split ! $ move ! (1 ∷ []) $ split ! $ heard ! Said (λ done. heard ! (pointer_of r.1 ≡ pointer_of m) (λ same.
     fsplit ! $ drop ! $ fsplit ! $ move ! (1 ∷ []) $ drop ! $ move ! (1 ∷ []) $ split ! $ move ! (1 ∷ []) $
     two_out u32 Found r.0 r.1 ! refl refl (uint_Lawful 𝓛 w32) (found_laws.lawful 𝓛) (v ∷ []) (λ v₁ v₂ g₁ g₂ e.
@@ -235,10 +235,10 @@ cyclic_add_spec 𝓤 𝓛 𝓜 𝓡 wired =
     sets ! (of_opd ! (get_in ! (fld ! refl (stop !)) (sub ! 0 refl (whole !)))) refl g₁ $
     returns ! (look_at ! 0 refl) $ free_all ! refl $
     -- [the number; the out-parameter; the token; what the handle is at last]
-    move ! (1 ∷ []) $ use1 𝓛 (‵ (number_behind (pointer_of r.1) (number_of r.1))) (found_memory 𝓛 r.1 (v₂ ∷ [])) $
-    rewrite ! 0 (λ (x : Ptr). ‵ (number_behind x (number_of r.1))) (same ∙ is.0) refl $
+    move ! (1 ∷ []) $ use1 𝓛 (‵ (number_behind (pointer_of r.1) (number_out r.1))) (found_memory 𝓛 r.1 (v₂ ∷ [])) $
+    rewrite ! 0 (λ (x : Ptr). ‵ (number_behind x (number_out r.1))) (same ∙ is.0) refl $
     use0 𝓛 (raw (fact 𝓤 Said)) (fact_i 𝓤 Said (emp 𝓤) done) $ move ! (1 ∷ 0 ∷ []) $
-    use2 𝓛 (raw (ex 𝓤 Left)) (ex_i 𝓤 Left (number_of r.1)) $
+    use2 𝓛 (raw (ex 𝓤 Left)) (ex_i 𝓤 Left (number_out r.1)) $
     nothing ! $ nothing ! $ fjoin ! $ nothing ! $ fjoin ! $ nothing ! $ fjoin ! $ nothing ! $ fjoin ! $ nothing ! $ fjoin ! $
     nothing ! $ fjoin ! $ move ! (4 ∷ 0 ∷ []) $ fjoin ! $ nothing ! $ fjoin ! $ keep ! (3 ∷ 0 ∷ 2 ∷ 1 ∷ []) $
     by ! (leaves 𝓛 f.ended stayed c y v₁ r.0 (tt, (ws.1.0, (tt, (tt, (tt, (tt, (tt, (tt, tt))))))))

@@ -29,7 +29,7 @@ use Rattle.std.proofs.alloc.Global.TheLaws as global_laws
 use Rattle.cyc_border.specs.Border.{Through}
 use Rattle.cyc_cpu.specs.Soft.{raise_tables}
 use Rattle.cyclic_c.specs.Exports.{RemovesOut, OnHard}
-use Rattle.cyclic_c.specs.OutParameters.{number_behind, pointer_of, number_of}
+use Rattle.cyclic_c.specs.OutParameters.{number_behind, pointer_of, number_out}
 use Rattle.cyclic_c.specs.contracts.records.CyclicReceipt.{the_row as Receipt}
 use Rattle.cyclic_c.specs.contracts.handle.CyclicCpu.{the_row as Handle}
 use Rattle.cyclic_c.proofs.OutValues.{Found, found_laws, found_memory}
@@ -167,10 +167,10 @@ cyclic_begin_remove_spec 𝓤 𝓛 𝓜 𝓡 wired =
     (and_then ! (get ! refl) (and_then ! (get ! refl) (and_then ! (get ! refl) (and_then ! (get ! refl) (and_then ! (get ! refl)
     (and_then ! (get ! refl) (no_more !))))))) (λ v.
     use1 𝓛 (later (some (λ (r : Pair.Denot). (toks ⊛ ‵ (Pair.own_val r (v ∷ []))) ⊛ some (λ (ws : Lasts g.ended κs z.0.3).
-    ‵ (lasts g.ended κs z.0.3 ws) ⊛ (raw (fact 𝓤 (Done ws.1.0 ws.1.1.1.0 ws.1.1.1.1.0 r.0 (number_of r.1)))
+    ‵ (lasts g.ended κs z.0.3 ws) ⊛ (raw (fact 𝓤 (Done ws.1.0 ws.1.1.1.0 ws.1.1.1.1.0 r.0 (number_out r.1)))
     ⊛ raw (fact 𝓤 (pointer_of r.1 ≡ pointer_of m))))))) (id⊢ 𝓤 _) $ await ! tt $ pick !
     (λ r. split ! $ move ! (1 ∷ []) $ pick ! (λ ws.
-    let Said = Done ws.1.0 ws.1.1.1.0 ws.1.1.1.1.0 r.0 (number_of r.1) in
+    let Said = Done ws.1.0 ws.1.1.1.0 ws.1.1.1.1.0 r.0 (number_out r.1) in
     let Left = Ends ws.1.0 ws.1.1.1.0 ws.1.1.1.1.0 r.0 in
     split ! $ move ! (1 ∷ []) $ split ! $ heard ! Said (λ done. heard ! (pointer_of r.1 ≡ pointer_of m) (λ same.
     fsplit ! $ drop ! $ fsplit ! $ move ! (1 ∷ []) $ fsplit ! $ drop ! $ fsplit ! $ move ! (1 ∷ []) $ fsplit ! $
@@ -180,10 +180,10 @@ cyclic_begin_remove_spec 𝓤 𝓛 𝓜 𝓡 wired =
     sets ! (of_opd ! (get_in ! (fld ! refl (stop !)) (sub ! 0 refl (whole !)))) refl g₁ $
     returns ! (look_at ! 0 refl) $ free_all ! refl $
     -- [the number; the out-parameter; the tokens; what the receipt, the calls and the handle are at last]
-    move ! (1 ∷ []) $ use1 𝓛 (‵ (number_behind (pointer_of r.1) (number_of r.1))) (found_memory 𝓛 r.1 (v₂ ∷ [])) $
-    rewrite ! 0 (λ (x : Ptr). ‵ (number_behind x (number_of r.1))) (same ∙ is.0) refl $
+    move ! (1 ∷ []) $ use1 𝓛 (‵ (number_behind (pointer_of r.1) (number_out r.1))) (found_memory 𝓛 r.1 (v₂ ∷ [])) $
+    rewrite ! 0 (λ (x : Ptr). ‵ (number_behind x (number_out r.1))) (same ∙ is.0) refl $
     use0 𝓛 (raw (fact 𝓤 Said)) (fact_i 𝓤 Said (emp 𝓤) done) $ move ! (1 ∷ 0 ∷ []) $
-    use2 𝓛 (raw (ex 𝓤 Left)) (ex_i 𝓤 Left (number_of r.1)) $
+    use2 𝓛 (raw (ex 𝓤 Left)) (ex_i 𝓤 Left (number_out r.1)) $
     nothing ! $ nothing ! $ fjoin ! $ move ! (4 ∷ 0 ∷ []) $ fjoin ! $ move ! (4 ∷ 0 ∷ []) $ fjoin ! $ nothing ! $ fjoin ! $
     move ! (4 ∷ 0 ∷ []) $ fjoin ! $ nothing ! $ fjoin ! $ keep ! (3 ∷ 0 ∷ 2 ∷ 1 ∷ []) $
     by ! (leaves 𝓛 f.ended stayed c y v₁ r.0 (tt, (ws.1.0, (tt, (ws.1.1.1.0, (ws.1.1.1.1.0, (tt, tt))))))

@@ -1,6 +1,6 @@
 use Rattle.std.proofs.Common.{subst, ap, to_z-of_z, ℤ}
 use Rattle.cyc_border.specs.Pair.{raise_held}
-use Rattle.cyc_border.specs.Border.{Reprograms}
+use Rattle.cyc_border.specs.Border.{CallsReprogram}
 use Rattle.cyc_border.specs.declared.pair.Firing.{Firing}
 use Rattle.cyclic_c.proofs.Passing.{through}
 use Rattle.cyclic_c.proofs.exports_firing.cyclic_firing_reprogram.Goals as goal
@@ -12,8 +12,8 @@ returns c =
       answer,
       c.number_of_answer.ensures,
       (
-        subst (λ (v : Firing). Reprograms raise_held c.args.id c.args.moment answer v.hard new) same
-            (subst (λ (z : ℤ). Reprograms raise_held c.args.id z answer c.deref_mut.result.now.hard new)
+        subst (λ (v : Firing). CallsReprogram raise_held c.args.id c.args.moment answer v.hard new) same
+            (subst (λ (z : ℤ). CallsReprogram raise_held c.args.id z answer c.deref_mut.result.now.hard new)
             (to_z-of_z c.ranges.moment) c.reprogram-answer.ensures),
         ap (λ (v : Firing). record v { hard = new }) same,
       ),

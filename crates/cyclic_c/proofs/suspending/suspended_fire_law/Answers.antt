@@ -4,7 +4,7 @@ use Rattle.cyc_cpu.specs.Cpu.{CpuView}
 use Rattle.cyc_cpu.specs.Soft.{raise_tables}
 use Rattle.cyc_timers.specs.declared.fire.Fired.{Fired}
 use Rattle.cyc_timers.specs.declared.fire.FireRefused.{FireRefused}
-use Rattle.cyc_border.specs.Border.{Fires, FiresCpu}
+use Rattle.cyc_border.specs.Border.{FiresPart, FiresCpu}
 use Rattle.cyc_border.specs.Pair.{FiresSide, raise_held}
 use Rattle.cyc_border.specs.Parts.{asleep}
 use Rattle.cyc_border.specs.declared.cpu.Cpu.{Cpu}
@@ -23,7 +23,7 @@ returns-clause-cpu c now r out v n through is = kept FiresCpu v answers keeps no
     keeps : (now : ℕ) (answer : Result Fired FireRefused) (w : Cpu) → FiresCpu now answer v w → w ≡ v
     keeps now answer w made =
         let (hard, high) = asleep_keeps raise_tables now v.high w.high v.hard w.hard
-        (subst (λ a. Fires raise_tables now a v.high v.hard w.high w.hard) (answers now answer w made) made.0) in
+        (subst (λ a. FiresPart raise_tables now a v.high v.hard w.high w.hard) (answers now answer w made) made.0) in
         made.1 ∙ ap (λ (x : CpuView Tables). record v { hard = x; high = w.high }) hard
         ∙ ap (λ (h : Option ℕ). record v { high = h }) high
 
@@ -36,6 +36,6 @@ returns-clause-firing c now r out v n through is = kept FiresSide v answers keep
     keeps : (now : ℕ) (answer : Result Fired FireRefused) (w : Firing) → FiresSide now answer v w → w ≡ v
     keeps now answer w made =
         let (hard, high) = asleep_keeps raise_held now v.high w.high v.hard w.hard
-        (subst (λ a. Fires raise_held now a v.high v.hard w.high w.hard) (answers now answer w made) made.0) in
+        (subst (λ a. FiresPart raise_held now a v.high v.hard w.high w.hard) (answers now answer w made) made.0) in
         made.1 ∙ ap (λ (x : CpuView HeldEnd). record v { hard = x; high = w.high }) hard
         ∙ ap (λ (h : Option ℕ). record v { high = h }) high

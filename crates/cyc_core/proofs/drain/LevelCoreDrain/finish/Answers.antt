@@ -4,7 +4,7 @@ use Rattle.cyc_types.specs.Draining.{Finishes}
 use Rattle.cyc_types.specs.declared.draining.Finished.TheVariants.{More, Last, LastOfRemoval}
 use Rattle.cyc_level.specs.Lawful.{Lawful}
 use Rattle.cyc_core.specs.Tables.{Tables, level_of}
-use Rattle.cyc_core.specs.Shown.{shown}
+use Rattle.cyc_core.specs.Shown.{shown_core}
 use Rattle.cyc_core.specs.DrainingSide.{is_marked, Drains}
 use Rattle.cyc_core.proofs.Changes.{reached_lawful}
 use Rattle.cyc_core.proofs.DrainingLaws.{made_one, finish_more, finish_last, holds_is, marked_is, marked_not}
@@ -15,7 +15,7 @@ returns-then-is_some-clause-step c =
     let l = level_of c.args.self.now in
     let m = level_of c.finish_call.new.self in
     let law : Lawful l = subst (λ (t : Tables). Lawful (level_of t)) c.self.view_is
-    (reached_lawful (level_of (shown c.self.inside)) c.self.invariant.reached) in
+    (reached_lawful (level_of (shown_core c.self.inside)) c.self.invariant.reached) in
     let id = c.in-Some.id in
     let holds : l.drainer_hand ≡ Some id = ap (λ (t : Tables). t.drainer_hand) (sym c.self.view_is) ∙ c.in-Some.is in
     let hand : is_some m.drainer_hand ≡ true = ap (λ (t : Tables). is_some t.drainer_hand) (sym c.self-2.view_is)
@@ -32,7 +32,7 @@ returns-then-is_some-clause-made c =
     let l = level_of c.args.self.now in
     let m = level_of c.finish_call.new.self in
     let law : Lawful l = subst (λ (t : Tables). Lawful (level_of t)) c.self.view_is
-    (reached_lawful (level_of (shown c.self.inside)) c.self.invariant.reached) in
+    (reached_lawful (level_of (shown_core c.self.inside)) c.self.invariant.reached) in
     let id = c.in-Some.id in
     let holds : l.drainer_hand ≡ Some id = ap (λ (t : Tables). t.drainer_hand) (sym c.self.view_is) ∙ c.in-Some.is in
     made_one l law id holds m c.finish_call.ensures
@@ -42,7 +42,7 @@ returns-then-eq-clause-step c =
     let l = level_of c.args.self.now in
     let m = level_of c.finish_call.new.self in
     let law : Lawful l = subst (λ (t : Tables). Lawful (level_of t)) c.self.view_is
-    (reached_lawful (level_of (shown c.self.inside)) c.self.invariant.reached) in
+    (reached_lawful (level_of (shown_core c.self.inside)) c.self.invariant.reached) in
     let id = c.in-Some.id in
     let holds : l.drainer_hand ≡ Some id = ap (λ (t : Tables). t.drainer_hand) (sym c.self.view_is) ∙ c.in-Some.is in
     let hand : is_some m.drainer_hand ≡ false = ap (λ (t : Tables). is_some t.drainer_hand) (sym c.self-2.view_is)
@@ -60,7 +60,7 @@ returns-then-eq-clause-made c =
     let l = level_of c.args.self.now in
     let m = level_of c.finish_call.new.self in
     let law : Lawful l = subst (λ (t : Tables). Lawful (level_of t)) c.self.view_is
-    (reached_lawful (level_of (shown c.self.inside)) c.self.invariant.reached) in
+    (reached_lawful (level_of (shown_core c.self.inside)) c.self.invariant.reached) in
     let id = c.in-Some.id in
     let holds : l.drainer_hand ≡ Some id = ap (λ (t : Tables). t.drainer_hand) (sym c.self.view_is) ∙ c.in-Some.is in
     made_one l law id holds m c.finish_call.ensures
@@ -70,7 +70,7 @@ returns-clause-step c =
     let l = level_of c.args.self.now in
     let m = level_of c.finish_call.new.self in
     let law : Lawful l = subst (λ (t : Tables). Lawful (level_of t)) c.self.view_is
-    (reached_lawful (level_of (shown c.self.inside)) c.self.invariant.reached) in
+    (reached_lawful (level_of (shown_core c.self.inside)) c.self.invariant.reached) in
     let id = c.in-Some.id in
     let holds : l.drainer_hand ≡ Some id = ap (λ (t : Tables). t.drainer_hand) (sym c.self.view_is) ∙ c.in-Some.is in
     let hand : is_some m.drainer_hand ≡ false = ap (λ (t : Tables). is_some t.drainer_hand) (sym c.self-2.view_is)
@@ -88,7 +88,7 @@ returns-clause-made c =
     let l = level_of c.args.self.now in
     let m = level_of c.finish_call.new.self in
     let law : Lawful l = subst (λ (t : Tables). Lawful (level_of t)) c.self.view_is
-    (reached_lawful (level_of (shown c.self.inside)) c.self.invariant.reached) in
+    (reached_lawful (level_of (shown_core c.self.inside)) c.self.invariant.reached) in
     let id = c.in-Some.id in
     let holds : l.drainer_hand ≡ Some id = ap (λ (t : Tables). t.drainer_hand) (sym c.self.view_is) ∙ c.in-Some.is in
     made_one l law id holds m c.finish_call.ensures

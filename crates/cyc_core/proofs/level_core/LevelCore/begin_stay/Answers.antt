@@ -4,7 +4,7 @@ use Rattle.cyc_finder.specs.Sorted.{Rises}
 use Rattle.cyc_finder.specs.Indexes.{Entry, id_in}
 use Rattle.cyc_finder.proofs.RisingIds.{rises_inserted}
 use Rattle.cyc_core.specs.declared.admitted.Kept.{Kept}
-use Rattle.cyc_core.specs.Shown.{shown, read_as}
+use Rattle.cyc_core.specs.Shown.{shown_core, read_as}
 use Rattle.cyc_core.proofs.Keeping.{absent_index, finds_admitted, admitted_kept}
 use Rattle.cyc_core.proofs.PlaceLaws.{not_indexed, free_is}
 use Rattle.cyc_core.proofs.Changes.{level_admit, sound_by}
@@ -39,12 +39,13 @@ invariant_of-self c =
     let new : Kept = record { id = c.args.id; sent = 0; done = 0; lost = 0; count = 0; here = true } in
     let absent = absent_index kept entries c.args.id may.2 in
     let free = free_is kept entries sound c.args.index may.3 in
-    let made = level_admit (shown a) _ c.args.id c.args.index (read_as c.args.id c.args.index new)
+    let made = level_admit (shown_core a) _ c.args.id c.args.index (read_as c.args.id c.args.index new)
     (finds_admitted kept c.reach.new.kept.items entries c.insert.new.self.entries sound c.reach.ensures.same c.args.id
-    c.args.index c.number-place.result c.number-place.ensures.value new absent free came.told c.reach.ensures.within refl) refl in
+    c.args.index c.number-position.result c.number-position.ensures.value new absent free came.told c.reach.ensures.within
+    refl) refl in
     sound_by a _ (Admit c.args.id c.args.index) c.self.invariant may made
     (admitted_kept kept c.reach.new.kept.items entries c.insert.new.self.entries sound c.reach.ensures.same c.args.id
-    c.args.index c.number-place.result c.number-place.ensures.value new absent free came.told c.reach.ensures.within refl
+    c.args.index c.number-position.result c.number-position.ensures.value new absent free came.told c.reach.ensures.within refl
     (subst (Rises id_in) (sym is) (rises_inserted id_in entries c.args.id k gap sound.ordered entry refl)))
     (omega (arith, c.reach.ensures.capacity)) (omega (arith, came.room)) (omega arith) (omega arith)
 
@@ -59,6 +60,7 @@ returns c =
     let new : Kept = record { id = c.args.id; sent = 0; done = 0; lost = 0; count = 0; here = true } in
     let absent = absent_index kept entries c.args.id may.2 in
     let free = free_is kept entries sound c.args.index may.3 in
-    rw (← c.self.view_is) (level_admit (shown a) _ c.args.id c.args.index (read_as c.args.id c.args.index new)
+    rw (← c.self.view_is) (level_admit (shown_core a) _ c.args.id c.args.index (read_as c.args.id c.args.index new)
     (finds_admitted kept c.reach.new.kept.items entries c.insert.new.self.entries sound c.reach.ensures.same c.args.id
-    c.args.index c.number-place.result c.number-place.ensures.value new absent free came.told c.reach.ensures.within refl) refl)
+    c.args.index c.number-position.result c.number-position.ensures.value new absent free came.told c.reach.ensures.within
+    refl) refl)

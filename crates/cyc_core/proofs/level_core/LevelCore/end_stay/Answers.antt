@@ -5,7 +5,7 @@ use Rattle.cyc_finder.specs.Indexes.{id_in}
 use Rattle.cyc_finder.proofs.RisingIds.{rises_removed}
 use Rattle.cyc_core.specs.declared.admitted.Kept.{Kept}
 use Rattle.cyc_core.specs.Tables.{level_of}
-use Rattle.cyc_core.specs.Shown.{shown}
+use Rattle.cyc_core.specs.Shown.{shown_core}
 use Rattle.cyc_core.proofs.Keeping.{named_index, left_low, finds_left, left_kept}
 use Rattle.cyc_core.proofs.Changes.{level_clear, sound_by, reached_lawful}
 use Rattle.cyc_core.proofs.level_core.LevelCore.end_stay.Goals as goal
@@ -15,7 +15,7 @@ remove-index-requires c =
     let a = c.self.inside in
     let kept = a.kept.items in
     let entries = a.ids.entries in
-    let t = shown a in
+    let t = shown_core a in
     let law = reached_lawful (level_of t) c.self.invariant.reached in
     let may = rw (← c.self.view_is) at c.requires in
     named_index kept entries c.args.id (law.marked_admitted c.args.id may.1)
@@ -41,7 +41,7 @@ invariant_of-self c =
     let sound = c.self.invariant.cyclics_kept in
     let may = rw (← c.self.view_is) at c.requires in
     let new : Kept = record c.index_mut.result.now { here = false } in
-    let made = level_clear (shown a) _ c.args.id (finds_left kept entries c.remove-index.new.self.entries sound c.args.id
+    let made = level_clear (shown_core a) _ c.args.id (finds_left kept entries c.remove-index.new.self.entries sound c.args.id
     c.remove-index.result c.number.result c.number.ensures.value new gone.index gone.told refl) in
     sound_by a _ (Clear c.args.id) c.self.invariant may made
     (left_kept kept entries c.remove-index.new.self.entries sound c.args.id c.remove-index.result c.number.result
@@ -56,6 +56,6 @@ returns c =
     let entries = a.ids.entries in
     let gone = c.remove-index.ensures in
     let new : Kept = record c.index_mut.result.now { here = false } in
-    rw (← c.self.view_is) (level_clear (shown a) _ c.args.id (finds_left kept entries c.remove-index.new.self.entries
+    rw (← c.self.view_is) (level_clear (shown_core a) _ c.args.id (finds_left kept entries c.remove-index.new.self.entries
     c.self.invariant.cyclics_kept c.args.id c.remove-index.result c.number.result c.number.ensures.value new gone.index gone.told
     refl))

@@ -1,7 +1,7 @@
 use Rattle.std.proofs.Common.{ap, arith, sym}
 use Rattle.std.specs.Option.{option_map}
-use Rattle.cyc_core.specs.Tables.{cyclic_of, level_of}
-use Rattle.cyc_core.specs.Shown.{shown}
+use Rattle.cyc_core.specs.Tables.{cyclic_of_entry, level_of}
+use Rattle.cyc_core.specs.Shown.{shown_core}
 use Rattle.cyc_core.proofs.Keeping.{found_low, found_read}
 use Rattle.cyc_core.proofs.Changes.{reached_lawful}
 use Rattle.cyc_core.proofs.level_core.LevelCore.entry_at.Goals as goal
@@ -31,8 +31,8 @@ returns-clause-cyclic c =
     let kept = a.kept.items in
     let entries = a.ids.entries in
     let found = sym (rw (← c.self.view_is) at c.requires) in
-    rw (← c.self.view_is) (ap (option_map cyclic_of) (found_read kept entries c.self.invariant.cyclics_kept c.args.id
+    rw (← c.self.view_is) (ap (option_map cyclic_of_entry) (found_read kept entries c.self.invariant.cyclics_kept c.args.id
     c.args.index c.number.result c.number.ensures.value found c.index.result.now _ c.index.ensures c.read.ensures))
 
 pub returns-clause-lawful : goal.returns-clause-lawful
-returns-clause-lawful c = rw (← c.self.view_is) (reached_lawful (level_of (shown c.self.inside)) c.self.invariant.reached)
+returns-clause-lawful c = rw (← c.self.view_is) (reached_lawful (level_of (shown_core c.self.inside)) c.self.invariant.reached)

@@ -4,8 +4,8 @@ use Rattle.cyc_level.specs.Level.{AdmittedCyclic}
 use Rattle.cyc_level.specs.Events.{most_sent}
 use Rattle.cyc_core.specs.declared.admitted.Admitted.{Admitted}
 use Rattle.cyc_core.specs.declared.admitted.Kept.{Kept}
-use Rattle.cyc_core.specs.Tables.{cyclic_of}
-use Rattle.cyc_core.specs.Shown.{shown, read_as}
+use Rattle.cyc_core.specs.Tables.{cyclic_of_entry}
+use Rattle.cyc_core.specs.Shown.{shown_core, read_as}
 use Rattle.cyc_core.proofs.Keeping.{place_low, counts_read, counted, counted_kept}
 use Rattle.cyc_core.proofs.Changes.{found_fact, level_expire, sound_by}
 use Rattle.cyc_core.proofs.level_core.LevelCore.expire.Goals as goal
@@ -21,7 +21,7 @@ index_mut-kept-requires c =
 
 pub overflow_add-kept : goal.overflow_add-kept
 overflow_add-kept c =
-    let t = shown c.self.inside in
+    let t = shown_core c.self.inside in
     let may = rw (← c.self.view_is) at c.requires.enabled in
     let here = rw (← c.self.view_is) at c.requires.here in
     let fact = found_fact t c.args.entry.id c.args.entry here (λ (x : AdmittedCyclic). (x.count < t.ceiling)
@@ -30,7 +30,7 @@ overflow_add-kept c =
 
 pub overflow_add-kept-2 : goal.overflow_add-kept-2
 overflow_add-kept-2 c =
-    let t = shown c.self.inside in
+    let t = shown_core c.self.inside in
     let may = rw (← c.self.view_is) at c.requires.enabled in
     let here = rw (← c.self.view_is) at c.requires.here in
     let fact = found_fact t c.args.entry.id c.args.entry here (λ (x : AdmittedCyclic). (x.count < t.ceiling)
@@ -51,9 +51,9 @@ invariant_of-self c =
     let read = c.index_mut-kept.result.now in
     let new : Kept = record read { sent = entry.sent + 1; count = entry.count + 1 } in
     let same = counts_read kept entries sound entry place is here read c.index_mut-kept.ensures.value in
-    let made = ap (λ (x : Admitted). cyclic_of (record x { sent = entry.sent + 1; count = entry.count + 1 })) (sym same) in
+    let made = ap (λ (x : Admitted). cyclic_of_entry (record x { sent = entry.sent + 1; count = entry.count + 1 })) (sym same) in
     sound_by a _ (Expire entry.id) c.self.invariant may
-    (level_expire (shown a) _ entry.id entry (read_as entry.id entry.index new) here
+    (level_expire (shown_core a) _ entry.id entry (read_as entry.id entry.index new) here
     (counted kept entries sound entry place is here read c.index_mut-kept.ensures.value new refl refl) _ made
     c.then_some-self-inside.ensures may.0)
     (counted_kept kept entries sound entry place is here read c.index_mut-kept.ensures.value new refl refl)
@@ -73,7 +73,7 @@ returns c =
     let read = c.index_mut-kept.result.now in
     let new : Kept = record read { sent = entry.sent + 1; count = entry.count + 1 } in
     let same = counts_read kept entries sound entry place is here read c.index_mut-kept.ensures.value in
-    let made = ap (λ (x : Admitted). cyclic_of (record x { sent = entry.sent + 1; count = entry.count + 1 })) (sym same) in
-    rw (← c.self.view_is) (level_expire (shown a) _ entry.id entry (read_as entry.id entry.index new) here
+    let made = ap (λ (x : Admitted). cyclic_of_entry (record x { sent = entry.sent + 1; count = entry.count + 1 })) (sym same) in
+    rw (← c.self.view_is) (level_expire (shown_core a) _ entry.id entry (read_as entry.id entry.index new) here
     (counted kept entries sound entry place is here read c.index_mut-kept.ensures.value new refl refl) _ made
     c.then_some-self-inside.ensures may.0)

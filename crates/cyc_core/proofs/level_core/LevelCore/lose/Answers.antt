@@ -5,8 +5,8 @@ use Rattle.cyc_level.specs.Level.{AdmittedCyclic}
 use Rattle.cyc_level.specs.Events.{most_sent}
 use Rattle.cyc_core.specs.declared.admitted.Admitted.{Admitted}
 use Rattle.cyc_core.specs.declared.admitted.Kept.{Kept}
-use Rattle.cyc_core.specs.Tables.{cyclic_of, level_of}
-use Rattle.cyc_core.specs.Shown.{shown, read_as}
+use Rattle.cyc_core.specs.Tables.{cyclic_of_entry, level_of}
+use Rattle.cyc_core.specs.Shown.{shown_core, read_as}
 use Rattle.cyc_core.proofs.Keeping.{place_low, counts_read, counted, counted_kept}
 use Rattle.cyc_core.proofs.Changes.{found_fact, level_lose, sound_by, reached_lawful}
 use Rattle.cyc_core.proofs.level_core.LevelCore.lose.Goals as goal
@@ -22,7 +22,7 @@ index_mut-kept-requires c =
 
 pub prove-unreachable-requires : goal.prove-unreachable-requires
 prove-unreachable-requires c =
-    let t = shown c.self.inside in
+    let t = shown_core c.self.inside in
     let may = rw (← c.self.view_is) at c.requires.enabled in
     let here = rw (← c.self.view_is) at c.requires.here in
     let fact = found_fact t c.args.entry.id c.args.entry here (λ (x : AdmittedCyclic). (x.count ≡ t.ceiling)
@@ -31,7 +31,7 @@ prove-unreachable-requires c =
 
 pub overflow_add-kept : goal.overflow_add-kept
 overflow_add-kept c =
-    let t = shown c.self.inside in
+    let t = shown_core c.self.inside in
     let may = rw (← c.self.view_is) at c.requires.enabled in
     let here = rw (← c.self.view_is) at c.requires.here in
     let fact = found_fact t c.args.entry.id c.args.entry here (λ (x : AdmittedCyclic). (x.count ≡ t.ceiling)
@@ -40,13 +40,13 @@ overflow_add-kept c =
 
 pub overflow_add-kept-2 : goal.overflow_add-kept-2
 overflow_add-kept-2 c =
-    let t = shown c.self.inside in
+    let t = shown_core c.self.inside in
     let may = rw (← c.self.view_is) at c.requires.enabled in
     let here = rw (← c.self.view_is) at c.requires.here in
     let fact = found_fact t c.args.entry.id c.args.entry here (λ (x : AdmittedCyclic). (x.count ≡ t.ceiling)
     × (x.sent < most_sent)) may.2 in
-    let even = (reached_lawful (level_of t) c.self.invariant.reached).conserved c.args.entry.id (cyclic_of c.args.entry)
-    (ap (option_map cyclic_of) here) in
+    let even = (reached_lawful (level_of t) c.self.invariant.reached).conserved c.args.entry.id (cyclic_of_entry c.args.entry)
+    (ap (option_map cyclic_of_entry) here) in
     omega (arith, fact, even)
 
 pub invariant_of-self : goal.invariant_of-self
@@ -63,9 +63,9 @@ invariant_of-self c =
     let read = c.index_mut-kept.result.now in
     let new : Kept = record read { sent = entry.sent + 1; lost = entry.lost + 1 } in
     let same = counts_read kept entries sound entry place is here read c.index_mut-kept.ensures.value in
-    let made = ap (λ (x : Admitted). cyclic_of (record x { sent = entry.sent + 1; lost = entry.lost + 1 })) (sym same) in
+    let made = ap (λ (x : Admitted). cyclic_of_entry (record x { sent = entry.sent + 1; lost = entry.lost + 1 })) (sym same) in
     sound_by a _ (Lose entry.id) c.self.invariant may
-    (level_lose (shown a) _ entry.id entry (read_as entry.id entry.index new) here
+    (level_lose (shown_core a) _ entry.id entry (read_as entry.id entry.index new) here
     (counted kept entries sound entry place is here read c.index_mut-kept.ensures.value new refl refl) made)
     (counted_kept kept entries sound entry place is here read c.index_mut-kept.ensures.value new refl refl)
     (omega arith) (omega arith) (omega arith) (omega arith)
@@ -83,6 +83,6 @@ returns c =
     let read = c.index_mut-kept.result.now in
     let new : Kept = record read { sent = entry.sent + 1; lost = entry.lost + 1 } in
     let same = counts_read kept entries sound entry place is here read c.index_mut-kept.ensures.value in
-    let made = ap (λ (x : Admitted). cyclic_of (record x { sent = entry.sent + 1; lost = entry.lost + 1 })) (sym same) in
-    rw (← c.self.view_is) (level_lose (shown a) _ entry.id entry (read_as entry.id entry.index new) here
+    let made = ap (λ (x : Admitted). cyclic_of_entry (record x { sent = entry.sent + 1; lost = entry.lost + 1 })) (sym same) in
+    rw (← c.self.view_is) (level_lose (shown_core a) _ entry.id entry (read_as entry.id entry.index new) here
     (counted kept entries sound entry place is here read c.index_mut-kept.ensures.value new refl refl) made)

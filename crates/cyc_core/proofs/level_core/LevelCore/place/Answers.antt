@@ -2,7 +2,7 @@ use Rattle.std.proofs.Common.{◌≡◌, ◌≢◌, ◌<◌, ap, arith, rules, s
 use Rattle.cyc_level.specs.Level.{times_in}
 use Rattle.cyc_level.specs.Lawful.{Lawful}
 use Rattle.cyc_core.specs.Tables.{Tables, level_of}
-use Rattle.cyc_core.specs.Shown.{shown}
+use Rattle.cyc_core.specs.Shown.{shown_core}
 use Rattle.cyc_core.specs.declared.books.Place.TheVariants.{FirerHand, OldBank, NewBank, DrainerHand}
 use Rattle.cyc_core.proofs.Changes.{reached_lawful}
 use Rattle.cyc_core.proofs.PlaceLaws.{the_place, stands_and_owes, any_times, none_times, no_place, nothing_owed}
@@ -12,7 +12,7 @@ pub returns-then-eq-clause-place : goal.returns-then-eq-clause-place
 returns-then-eq-clause-place c =
     let l = level_of c.args.self.now in
     let law : Lawful l = subst (λ (t : Tables). Lawful (level_of t)) c.self.view_is
-    (reached_lawful (level_of (shown c.self.inside)) c.self.invariant.reached) in
+    (reached_lawful (level_of (shown_core c.self.inside)) c.self.invariant.reached) in
     let firer : l.firer_hand ≡ Some c.args.id = search rules in
     the_place l law c.args.id FirerHand firer
 
@@ -20,7 +20,7 @@ pub returns-then-eq-clause-outstanding : goal.returns-then-eq-clause-outstanding
 returns-then-eq-clause-outstanding c =
     let l = level_of c.args.self.now in
     let law : Lawful l = subst (λ (t : Tables). Lawful (level_of t)) c.self.view_is
-    (reached_lawful (level_of (shown c.self.inside)) c.self.invariant.reached) in
+    (reached_lawful (level_of (shown_core c.self.inside)) c.self.invariant.reached) in
     let firer : l.firer_hand ≡ Some c.args.id = search rules in
     stands_and_owes l law c.args.id FirerHand firer
 
@@ -28,7 +28,7 @@ pub returns-then-eq-2-clause-place : goal.returns-then-eq-2-clause-place
 returns-then-eq-2-clause-place c =
     let l = level_of c.args.self.now in
     let law : Lawful l = subst (λ (t : Tables). Lawful (level_of t)) c.self.view_is
-    (reached_lawful (level_of (shown c.self.inside)) c.self.invariant.reached) in
+    (reached_lawful (level_of (shown_core c.self.inside)) c.self.invariant.reached) in
     let drainer : l.drainer_hand ≡ Some c.args.id = search rules in
     the_place l law c.args.id DrainerHand drainer
 
@@ -36,7 +36,7 @@ pub returns-then-eq-2-clause-outstanding : goal.returns-then-eq-2-clause-outstan
 returns-then-eq-2-clause-outstanding c =
     let l = level_of c.args.self.now in
     let law : Lawful l = subst (λ (t : Tables). Lawful (level_of t)) c.self.view_is
-    (reached_lawful (level_of (shown c.self.inside)) c.self.invariant.reached) in
+    (reached_lawful (level_of (shown_core c.self.inside)) c.self.invariant.reached) in
     let drainer : l.drainer_hand ≡ Some c.args.id = search rules in
     stands_and_owes l law c.args.id DrainerHand drainer
 
@@ -44,7 +44,7 @@ pub returns-then-stands_in-clause-place : goal.returns-then-stands_in-clause-pla
 returns-then-stands_in-clause-place c =
     let l = level_of c.args.self.now in
     let law : Lawful l = subst (λ (t : Tables). Lawful (level_of t)) c.self.view_is
-    (reached_lawful (level_of (shown c.self.inside)) c.self.invariant.reached) in
+    (reached_lawful (level_of (shown_core c.self.inside)) c.self.invariant.reached) in
     let old_is : c.self.inside.old_list.items ≡ l.old_list = ap (λ (t : Tables). t.old_list) c.self.view_is in
     let stands = subst (λ xs. 0 < times_in c.args.id xs) old_is
     (any_times c.args.id c.self.inside.old_list.items (sym c.stands_in.ensures ∙ c.if-stands_in.true)) in
@@ -54,7 +54,7 @@ pub returns-then-stands_in-clause-outstanding : goal.returns-then-stands_in-clau
 returns-then-stands_in-clause-outstanding c =
     let l = level_of c.args.self.now in
     let law : Lawful l = subst (λ (t : Tables). Lawful (level_of t)) c.self.view_is
-    (reached_lawful (level_of (shown c.self.inside)) c.self.invariant.reached) in
+    (reached_lawful (level_of (shown_core c.self.inside)) c.self.invariant.reached) in
     let old_is : c.self.inside.old_list.items ≡ l.old_list = ap (λ (t : Tables). t.old_list) c.self.view_is in
     let stands = subst (λ xs. 0 < times_in c.args.id xs) old_is
     (any_times c.args.id c.self.inside.old_list.items (sym c.stands_in.ensures ∙ c.if-stands_in.true)) in
@@ -64,7 +64,7 @@ pub returns-then-stands_in-2-clause-place : goal.returns-then-stands_in-2-clause
 returns-then-stands_in-2-clause-place c =
     let l = level_of c.args.self.now in
     let law : Lawful l = subst (λ (t : Tables). Lawful (level_of t)) c.self.view_is
-    (reached_lawful (level_of (shown c.self.inside)) c.self.invariant.reached) in
+    (reached_lawful (level_of (shown_core c.self.inside)) c.self.invariant.reached) in
     let new_is : c.self.inside.new_list.items ≡ l.new_list = ap (λ (t : Tables). t.new_list) c.self.view_is in
     let stands = subst (λ xs. 0 < times_in c.args.id xs) new_is
     (any_times c.args.id c.self.inside.new_list.items (sym c.stands_in-2.ensures ∙ c.if-stands_in-2.true)) in
@@ -74,7 +74,7 @@ pub returns-then-stands_in-2-clause-outstanding : goal.returns-then-stands_in-2-
 returns-then-stands_in-2-clause-outstanding c =
     let l = level_of c.args.self.now in
     let law : Lawful l = subst (λ (t : Tables). Lawful (level_of t)) c.self.view_is
-    (reached_lawful (level_of (shown c.self.inside)) c.self.invariant.reached) in
+    (reached_lawful (level_of (shown_core c.self.inside)) c.self.invariant.reached) in
     let new_is : c.self.inside.new_list.items ≡ l.new_list = ap (λ (t : Tables). t.new_list) c.self.view_is in
     let stands = subst (λ xs. 0 < times_in c.args.id xs) new_is
     (any_times c.args.id c.self.inside.new_list.items (sym c.stands_in-2.ensures ∙ c.if-stands_in-2.true)) in
@@ -84,7 +84,7 @@ pub returns-clause-place : goal.returns-clause-place
 returns-clause-place c =
     let l = level_of c.args.self.now in
     let law : Lawful l = subst (λ (t : Tables). Lawful (level_of t)) c.self.view_is
-    (reached_lawful (level_of (shown c.self.inside)) c.self.invariant.reached) in
+    (reached_lawful (level_of (shown_core c.self.inside)) c.self.invariant.reached) in
     let firer : l.firer_hand ≢ Some c.args.id = search rules in
     let drainer : l.drainer_hand ≢ Some c.args.id = search rules in
     let old_is : c.self.inside.old_list.items ≡ l.old_list = ap (λ (t : Tables). t.old_list) c.self.view_is in
@@ -99,7 +99,7 @@ pub returns-clause-outstanding : goal.returns-clause-outstanding
 returns-clause-outstanding c =
     let l = level_of c.args.self.now in
     let law : Lawful l = subst (λ (t : Tables). Lawful (level_of t)) c.self.view_is
-    (reached_lawful (level_of (shown c.self.inside)) c.self.invariant.reached) in
+    (reached_lawful (level_of (shown_core c.self.inside)) c.self.invariant.reached) in
     let firer : l.firer_hand ≢ Some c.args.id = search rules in
     let drainer : l.drainer_hand ≢ Some c.args.id = search rules in
     let old_is : c.self.inside.old_list.items ≡ l.old_list = ap (λ (t : Tables). t.old_list) c.self.view_is in

@@ -2,14 +2,14 @@ use Rattle.std.proofs.Common.{◌≡◌, ◌≤◌, [], ap, subst, sym, ◌∙�
 use Rattle.cyc_types.specs.Limits.{cyclics}
 use Rattle.cyc_level.specs.declared.Event.TheVariants.{Switch}
 use Rattle.cyc_core.specs.Tables.{level_of}
-use Rattle.cyc_core.specs.Shown.{shown}
+use Rattle.cyc_core.specs.Shown.{shown_core}
 use Rattle.std.specs.VecDeque.{deque_capacity}
 use Rattle.cyc_core.proofs.Changes.{level_switch, sound_roomy, reached_lawful}
 use Rattle.cyc_core.proofs.level_core.LevelCore.switch_to.Goals as goal
 
 pub invariant_of-self : goal.invariant_of-self
 invariant_of-self c =
-    let t = shown c.self.inside in
+    let t = shown_core c.self.inside in
     let may = rw (← c.self.view_is) at c.requires in
     let old : c.swap.new.x.items ≡ t.new_list = ap (λ d. d.items) c.swap.ensures.x_after in
     let new : c.swap.new.y.items ≡ [] = ap (λ d. d.items) c.swap.ensures.y_after
@@ -24,7 +24,7 @@ invariant_of-self c =
 
 pub returns : goal.returns
 returns c =
-    let t = shown c.self.inside in
+    let t = shown_core c.self.inside in
     let may = rw (← c.self.view_is) at c.requires in
     let old : c.swap.new.x.items ≡ t.new_list = ap (λ d. d.items) c.swap.ensures.x_after in
     let new : c.swap.new.y.items ≡ [] = ap (λ d. d.items) c.swap.ensures.y_after

@@ -2,7 +2,7 @@ use Rattle.std.proofs.Common.{subst, sym}
 use Rattle.cyc_types.specs.Firing.{Learns, Sound, Marks}
 use Rattle.cyc_level.specs.declared.Event.TheVariants.{Mark}
 use Rattle.cyc_level.specs.Level.{SoftLevel}
-use Rattle.cyc_core.specs.Tables.{cyclic_of, level_of}
+use Rattle.cyc_core.specs.Tables.{cyclic_of_entry, level_of}
 use Rattle.cyc_core.specs.FiringSide.{firing_view}
 use Rattle.cyc_core.proofs.FiringLaws.{learns_mark, can_mark, sound_after}
 use Rattle.cyc_core.proofs.raise.LevelCoreRaise.mark.Goals as goal
@@ -13,7 +13,7 @@ returns-clause-learns c =
     let entry = c.entry_of-entry.result in
     let facts = c.entry_of-entry.ensures in
     subst (λ (m : SoftLevel). Learns (firing_view l) (Marks c.args.id entry.count) (firing_view m)) (sym c.begin_removal.ensures)
-    (learns_mark l c.args.id (cyclic_of entry) facts.cyclic)
+    (learns_mark l c.args.id (cyclic_of_entry entry) facts.cyclic)
 
 pub returns-clause-sound : goal.returns-clause-sound
 returns-clause-sound c =
@@ -22,4 +22,4 @@ returns-clause-sound c =
     let facts = c.entry_of-entry.ensures in
     subst (λ (m : SoftLevel). Sound (firing_view m)) (sym c.begin_removal.ensures)
     (sound_after l (Mark c.args.id) facts.lawful facts.some_ceiling
-    (can_mark l c.args.id (cyclic_of entry) facts.cyclic c.requires))
+    (can_mark l c.args.id (cyclic_of_entry entry) facts.cyclic c.requires))

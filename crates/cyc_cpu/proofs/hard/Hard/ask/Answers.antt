@@ -52,7 +52,7 @@ returns-clause-some g c =
     × (c.record-kept.result.expired ≡ asks.cyclic.timer.expired) × (c.record-kept.result.lost ≡ asks.cyclic.lost)
     × IsSparedAt g.R.Raise.view x asks.cyclic) c.self.view_is (
       record {
-        place = k;
+        position = k;
         cyclic = cyclic_of r;
         here = is_cyclic i.table.rows k r is;
         named = named;

@@ -7,7 +7,7 @@ use Rattle.cyc_types.specs.Runs.{Goes}
 use Rattle.cyc_types.specs.declared.level.Level.TheVariants.{Low, Lock, High}
 use Rattle.cyc_timers.specs.Rows.{cyclic_of, cyclics_of, at_moment}
 use Rattle.cyc_cpu.specs.Cpu.{CpuView, IsCyclic, HasNoCyclic}
-use Rattle.cyc_timers.specs.Ends.{IsHard}
+use Rattle.cyc_timers.specs.Ends.{IsHard, lock_and_low}
 use Rattle.cyc_cpu.specs.Removal.{calls_at, HasPolled}
 use Rattle.cyc_cpu.proofs.Lawful.{spared_row}
 use Rattle.cyc_cpu.proofs.Cyclics.{is_cyclic, no_cyclic, cyclics_set}
@@ -58,11 +58,12 @@ invariant_of-self g c =
     let opened = hard_opened g.R.Raise i.table.size i.table.rows k n r c.law.ensures.rising is
     i.most i.removal i.lock i.low c.remove_at-left.new.lock c.remove_at-left.new.low h c.in_default-removal.is soft lock low
     (e.sound_lock h.ready.lock_end.sound) (e.sound_low h.ready.low_end.sound) in
-    subst (λ q. IsHard g.R.Raise.view c.reprogram.new.self.size i.most
-    (Some q) c.remove_at-left.new.lock c.remove_at-left.new.low c.reprogram.new.self.rows) named
-    (subst (λ xs. IsHard g.R.Raise.view c.reprogram.new.self.size i.most
-    (Some r.timer.id) c.remove_at-left.new.lock c.remove_at-left.new.low xs) (sym (c.reprogram.ensures.rows k r is there))
-    (subst (λ m. IsHard g.R.Raise.view m i.most (Some r.timer.id) c.remove_at-left.new.lock c.remove_at-left.new.low
+    subst (λ q. IsHard g.R.Raise.view c.reprogram.new.self.size i.most (Some q) (lock_and_low c.remove_at-left.new.lock
+    c.remove_at-left.new.low) c.reprogram.new.self.rows) named
+    (subst (λ xs. IsHard g.R.Raise.view c.reprogram.new.self.size i.most (Some r.timer.id) (lock_and_low c.remove_at-left.new.lock
+    c.remove_at-left.new.low) xs) (sym (c.reprogram.ensures.rows k r is there))
+    (subst (λ m. IsHard g.R.Raise.view m i.most (Some r.timer.id) (lock_and_low c.remove_at-left.new.lock
+    c.remove_at-left.new.low)
     (set i.table.rows k (at_moment never r))) (sym c.reprogram.ensures.size) opened))
 
 pub returns-then-left-gt0 : goal.returns-then-left-gt0
@@ -76,7 +77,7 @@ returns-then-left-gt0 g c =
     absurd (omega (arith, z, m))) in (
       sym (ap (λ (x : CpuView _). x.removal) c.self.view_is) ∙ c.in_default-removal.is,
       opens_from g.R.Raise c.args.id n _ _ _ c.self.view_is (record {
-        place = k;
+        position = k;
         cyclic = cyclic_of r;
         here = is_cyclic i.table.rows k r is;
         named = named;
@@ -119,12 +120,14 @@ invariant_of-self-2 g c =
     (e.sound_lock h.ready.lock_end.sound) (λ off. no_mark (g.R.Raise.view i.lock).marked i.removal h.lock_marked none))
     (begun_left g.R.Raise Low r.timer.level r.timer.id counts i.low c.remove_at-left.new.low low
     (e.sound_low h.ready.low_end.sound) (λ off. no_mark (g.R.Raise.view i.low).marked i.removal h.low_marked none)) in
-    subst (λ o. IsHard g.R.Raise.view c.remove.new.self.size i.most o c.remove_at-left.new.lock c.remove_at-left.new.low
+    subst (λ o. IsHard g.R.Raise.view c.remove.new.self.size i.most o (lock_and_low c.remove_at-left.new.lock
+    c.remove_at-left.new.low)
     c.remove.new.self.rows) (sym none)
-    (subst (λ xs. IsHard g.R.Raise.view c.remove.new.self.size i.most None c.remove_at-left.new.lock c.remove_at-left.new.low xs)
+    (subst (λ xs. IsHard g.R.Raise.view c.remove.new.self.size i.most None (lock_and_low c.remove_at-left.new.lock
+    c.remove_at-left.new.low) xs)
     (sym (c.remove.ensures.rows k r is named))
-    (subst (λ m. IsHard g.R.Raise.view m i.most None c.remove_at-left.new.lock c.remove_at-left.new.low
-    (remove i.table.rows k)) (sym c.remove.ensures.size) left))
+    (subst (λ m. IsHard g.R.Raise.view m i.most None (lock_and_low c.remove_at-left.new.lock c.remove_at-left.new.low) (remove
+    i.table.rows k)) (sym c.remove.ensures.size) left))
 
 pub returns : goal.returns
 returns g c =
@@ -159,7 +162,7 @@ returns g c =
         polled,
         leaves_from g.R.Raise c.args.id (Marks c.args.id 0 ∷ Polls c.args.id (Some counts) ∷ [])
             (cyclic_of r) _ _ _ c.self.view_is (record {
-              place = k;
+              position = k;
               here = is_cyclic i.table.rows k r is;
               named = named;
               goes = (

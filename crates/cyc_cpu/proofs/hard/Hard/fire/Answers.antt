@@ -2,7 +2,7 @@ use Rattle.std.proofs.Common.{◌≢◌, arith, subst, refl}
 use Rattle.cyc_types.specs.Series.{never}
 use Rattle.cyc_timers.specs.Rows.{cyclics_of}
 use Rattle.cyc_cpu.specs.Cpu.{CpuView, running}
-use Rattle.cyc_cpu.specs.Calls.{Fire, Does, no_interrupts}
+use Rattle.cyc_cpu.specs.Calls.{Fire, CpuDoes, no_interrupts}
 use Rattle.cyc_cpu.proofs.Calling.{fired}
 use Rattle.cyc_cpu.proofs.hard.Hard.fire.Goals as goal
 
@@ -33,7 +33,7 @@ returns g c =
       low = i.low;
     } in
     let early : c.args.now ≢ never = λ q. absurd (omega (arith, q)) in
-    subst (λ (v : CpuView _). Does g.C.Calls g.R.Raise
+    subst (λ (v : CpuView _). CpuDoes g.C.Calls g.R.Raise
     no_interrupts (running c.args.calls.now v) (Fire c.args.now c.fire_all.result) (running n.calls w)) c.self.view_is
     (fired g.C.Calls g.R.Raise no_interrupts c.args.now
     (running c.args.calls.now u) (running n.calls w) (record { awake = c.if-self.false; early = early })

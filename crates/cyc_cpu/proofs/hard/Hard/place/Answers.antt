@@ -6,7 +6,7 @@ use Rattle.cyc_types.specs.declared.level.Level.TheVariants.{Low, Lock}
 use Rattle.cyc_timers.specs.declared.table.Record.{Record}
 use Rattle.cyc_timers.specs.Rows.{cyclic_of, cyclics_of, with_record, vacant_row}
 use Rattle.cyc_cpu.specs.Cpu.{CpuView, HasNoCyclic, cyclic_with}
-use Rattle.cyc_timers.specs.Ends.{IsHard}
+use Rattle.cyc_timers.specs.Ends.{IsHard, lock_and_low}
 use Rattle.cyc_timers.specs.Quiet.{admits_at}
 use Rattle.cyc_cpu.proofs.Cyclics.{no_row_of, cyclics_insert, not_removed, rising_cyclics}
 use Rattle.cyc_cpu.proofs.Entering.{hard_entered, may_admit}
@@ -53,9 +53,11 @@ invariant_of-self g c =
     let u = with_record c.args.moment kept (vacant_row c.args.id c.insert-index.result) in
     let most : c.args.carried.sent ≤ i.most =
     (let m = c.requires.most in let v = ap (λ (x : CpuView _). x.most) c.self.view_is in omega (arith, m, v)) in
-    subst (λ xs. IsHard g.R.Raise.view c.insert-index.new.self.size i.most i.removal c.admit_at.new.lock c.admit_at.new.low xs)
+    subst (λ xs. IsHard g.R.Raise.view c.insert-index.new.self.size i.most i.removal (lock_and_low c.admit_at.new.lock
+    c.admit_at.new.low) xs)
     (sym rows)
-    (subst (λ n. IsHard g.R.Raise.view n i.most i.removal c.admit_at.new.lock c.admit_at.new.low (insert i.table.rows q u))
+    (subst (λ n. IsHard g.R.Raise.view n i.most i.removal (lock_and_low c.admit_at.new.lock c.admit_at.new.low) (insert
+    i.table.rows q u))
     (sym c.insert-index.ensures.size)
     (hard_entered g.R.Raise i.table.size i.most i.removal i.lock i.low c.admit_at.new.lock c.admit_at.new.low
     i.table.rows q c.args.id c.insert-index.result c.args.level u
@@ -77,7 +79,7 @@ returns g c =
     let u = with_record c.args.moment kept (vacant_row c.args.id c.insert-index.result) in (
       record { absent = c.requires.absent; free = c.requires.free; lost = c.requires.lost; most = c.requires.most },
       record {
-        place = q;
+        position = q;
         index = c.insert-index.result;
         within = (let l = ap (λ (x : CpuView _). length x.cyclics) v in let m = length-map i.table.rows cyclic_of in
             omega (arith, bound, l, m));

@@ -5,7 +5,7 @@ use Rattle.cyc_types.specs.Runs.{Goes}
 use Rattle.cyc_types.specs.declared.level.Level.TheVariants.{Low, Lock}
 use Rattle.cyc_timers.specs.Rows.{cyclic_of, cyclics_of}
 use Rattle.cyc_cpu.specs.Cpu.{CpuView}
-use Rattle.cyc_timers.specs.Ends.{IsHard}
+use Rattle.cyc_timers.specs.Ends.{IsHard, lock_and_low}
 use Rattle.cyc_cpu.specs.Removal.{calls_at, HasPolled}
 use Rattle.cyc_cpu.proofs.Lawful.{spared_row}
 use Rattle.cyc_cpu.proofs.Cyclics.{is_cyclic}
@@ -60,7 +60,7 @@ returns-then-not-poll_at g c =
       c.in_ok-id.id,
       sym (ap (λ (x : CpuView _). x.removal) c.self.view_is) ∙ c.in_ok-id.was,
       waits_from g.R.Raise c.in_ok-id.id _ _ _ c.self.view_is (record {
-        place = k;
+        position = k;
         cyclic = cyclic_of r;
         here = is_cyclic i.table.rows k r is;
         named = named;
@@ -100,9 +100,9 @@ invariant_of-self-2 g c =
     (e.sound_low h.ready.low_end.sound)
     (unmarked_low g.R.Raise.view i.table.size i.most i.removal i.lock i.low i.table.rows k r h c.law.ensures.rising
     is removed)) in
-    subst (λ xs. IsHard g.R.Raise.view c.remove.new.self.size i.most None c.poll_at.new.lock c.poll_at.new.low xs)
+    subst (λ xs. IsHard g.R.Raise.view c.remove.new.self.size i.most None (lock_and_low c.poll_at.new.lock c.poll_at.new.low) xs)
     (sym (c.remove.ensures.rows k r is named))
-    (subst (λ m. IsHard g.R.Raise.view m i.most None c.poll_at.new.lock c.poll_at.new.low (remove i.table.rows k))
+    (subst (λ m. IsHard g.R.Raise.view m i.most None (lock_and_low c.poll_at.new.lock c.poll_at.new.low) (remove i.table.rows k))
     (sym c.remove.ensures.size) left)
 
 pub returns : goal.returns
@@ -132,7 +132,7 @@ returns g c =
     (c.receipt_of.ensures.id ∙ sym named, c.receipt_of.ensures.sent ∙ rec.2, c.receipt_of.ensures.lost ∙ rec.3)
     polled
     (record {
-      place = k;
+      position = k;
       here = is_cyclic i.table.rows k r is;
       named = named;
       goes = (

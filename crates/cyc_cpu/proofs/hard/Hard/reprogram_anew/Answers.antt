@@ -1,6 +1,6 @@
 use Rattle.std.proofs.Common.{Ok, ap, sym, ◌∙◌, subst, refl, inl}
 use Rattle.cyc_timers.specs.Rows.{TableView}
-use Rattle.cyc_timers.specs.Ends.{IsHard}
+use Rattle.cyc_timers.specs.Ends.{IsHard, lock_and_low}
 use Rattle.cyc_cpu.specs.Calls.{Reprogram}
 use Rattle.cyc_cpu.specs.Cpu.{CpuView, HasNoCyclic}
 use Rattle.cyc_cpu.proofs.Cyclics.{no_cyclic, changes_from}
@@ -12,7 +12,8 @@ invariant_of-self g c = let i = c.self.inside in
     hard_reprogrammed g.R.Raise i.removal i.most i.lock i.low c.seek.new.self c.reprogram.new.self c.args.id c.in-Some.index
     c.args.moment c.in-Some.ensures.some (λ q. c.requires (sym (ap (λ (v : CpuView _). v.removal) c.self.view_is) ∙ q))
     c.reprogram.ensures.rows c.reprogram.ensures.size
-    (subst (λ (t : TableView). IsHard g.R.Raise.view t.size i.most i.removal i.lock i.low t.rows) (sym c.seek.ensures.same)
+    (subst (λ (t : TableView). IsHard g.R.Raise.view t.size i.most i.removal (lock_and_low i.lock i.low) t.rows) (sym
+    c.seek.ensures.same)
     c.self.invariant)
 
 pub returns-in-Some : goal.returns-in-Some

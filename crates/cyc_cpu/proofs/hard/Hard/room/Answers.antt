@@ -2,7 +2,7 @@ use Rattle.std.proofs.Common.{[], ◌∷◌, arith, sym, subst, refl}
 use Rattle.std.proofs.lemmas.List.{length-map}
 use Rattle.cyc_timers.specs.Rows.{cyclic_of}
 use Rattle.cyc_cpu.specs.Cpu.{CpuView}
-use Rattle.cyc_cpu.specs.Calls.{Changes, AskRoom}
+use Rattle.cyc_cpu.specs.Calls.{CpuChanges, AskRoom}
 use Rattle.cyc_cpu.proofs.Cyclics.{looked_from}
 use Rattle.cyc_cpu.proofs.hard.Hard.room.Goals.{then-both_followed, else-both_followed}
 use Rattle.cyc_cpu.proofs.hard.Hard.room.Goals as goal
@@ -34,7 +34,7 @@ returns g c =
     let fits = c.if-more-from.false in let grows = c.if-len-more.false in let few = c.len-len.ensures.few in let most =
     c.size-size.ensures.few in
     elim c.if-both_followed.branch [
-      | then-both_followed h ↦ subst (λ r. Changes g.R.Raise c.args.self.now (AskRoom c.args.more r) w)
+      | then-both_followed h ↦ subst (λ r. CpuChanges g.R.Raise c.args.self.now (AskRoom c.args.more r) w)
           (sym h.result-is) (
             looked,
             record {
@@ -43,7 +43,7 @@ returns g c =
                   λ more. (c.in_default.is, h.if-both_followed.ensures.yes);
             },
           )
-      | else-both_followed h ↦ subst (λ r. Changes g.R.Raise c.args.self.now (AskRoom c.args.more r) w)
+      | else-both_followed h ↦ subst (λ r. CpuChanges g.R.Raise c.args.self.now (AskRoom c.args.more r) w)
           (sym h.result-is) (
             looked,
             (

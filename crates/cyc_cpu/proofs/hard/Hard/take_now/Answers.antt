@@ -5,7 +5,7 @@ use Rattle.cyc_types.specs.Runs.{Goes}
 use Rattle.cyc_types.specs.declared.level.Level.TheVariants.{Low, Lock}
 use Rattle.cyc_timers.specs.Rows.{cyclic_of, cyclics_of}
 use Rattle.cyc_cpu.specs.Cpu.{CpuView, IsCyclic, HasNoCyclic}
-use Rattle.cyc_timers.specs.Ends.{IsHard}
+use Rattle.cyc_timers.specs.Ends.{IsHard, lock_and_low}
 use Rattle.cyc_timers.specs.Quiet.{asks_at}
 use Rattle.cyc_cpu.specs.Removal.{calls_at, HasPolled}
 use Rattle.cyc_cpu.proofs.Lawful.{spared_row}
@@ -58,7 +58,7 @@ returns-then-not-take_at-clause-did g c =
       n,
       some,
       asks_from g.R.Raise c.args.id n _ _ _ c.self.view_is (record {
-        place = k;
+        position = k;
         cyclic = cyclic_of r;
         here = is_cyclic i.table.rows k r is;
         named = named;
@@ -93,11 +93,12 @@ invariant_of-self-2 g c =
     (e.sound_lock h.ready.lock_end.sound) (λ off. no_mark (g.R.Raise.view i.lock).marked i.removal h.lock_marked none))
     (taken_left g.R.Raise Low r.timer.level r.timer.id counts i.low c.take_at.new.low low
     (e.sound_low h.ready.low_end.sound) (λ off. no_mark (g.R.Raise.view i.low).marked i.removal h.low_marked none)) in
-    subst (λ o. IsHard g.R.Raise.view c.remove.new.self.size i.most o c.take_at.new.lock c.take_at.new.low c.remove.new.self.rows)
+    subst (λ o. IsHard g.R.Raise.view c.remove.new.self.size i.most o (lock_and_low c.take_at.new.lock c.take_at.new.low)
+    c.remove.new.self.rows)
     (sym none)
-    (subst (λ xs. IsHard g.R.Raise.view c.remove.new.self.size i.most None c.take_at.new.lock c.take_at.new.low xs)
+    (subst (λ xs. IsHard g.R.Raise.view c.remove.new.self.size i.most None (lock_and_low c.take_at.new.lock c.take_at.new.low) xs)
     (sym (c.remove.ensures.rows k r is named))
-    (subst (λ m. IsHard g.R.Raise.view m i.most None c.take_at.new.lock c.take_at.new.low (remove i.table.rows k))
+    (subst (λ m. IsHard g.R.Raise.view m i.most None (lock_and_low c.take_at.new.lock c.take_at.new.low) (remove i.table.rows k))
     (sym c.remove.ensures.size) left))
 
 pub returns-clause-did : goal.returns-clause-did
@@ -134,7 +135,7 @@ returns-clause-did g c =
         leaves_from g.R.Raise c.args.id
             (Loads c.args.id 0 ∷ Marks c.args.id 0 ∷ Polls c.args.id (Some counts) ∷ []) (cyclic_of r) _ _ _ c.self.view_is
             (record {
-              place = k;
+              position = k;
               here = is_cyclic i.table.rows k r is;
               named = named;
               goes = (

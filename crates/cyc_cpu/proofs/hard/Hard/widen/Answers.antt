@@ -4,7 +4,7 @@ use Rattle.cyc_types.specs.Firing.{Expands}
 use Rattle.cyc_types.specs.Runs.{Taught}
 use Rattle.cyc_timers.specs.Rows.{TableView, cyclic_of, cyclics_of}
 use Rattle.cyc_cpu.specs.Cpu.{CpuView, bank_for}
-use Rattle.cyc_timers.specs.Ends.{IsHard}
+use Rattle.cyc_timers.specs.Ends.{IsHard, lock_and_low}
 use Rattle.cyc_cpu.proofs.Entering.{hard_expanded, pow_order}
 use Rattle.cyc_cpu.proofs.Sizes.{size_grows, size_stays}
 use Rattle.cyc_cpu.proofs.hard.Hard.widen.Goals as goal
@@ -40,8 +40,8 @@ invariant_of-self g c =
     let i = c.self.inside in let b = c.least_bank-bank.ensures in let p = c.places_of.ensures in
     let e = ap (λ (x : TableView). x.size) c.widen.ensures in
     let is : c.widen.new.self.size ≡ 2 ^ c.least_bank-bank.result = omega (arith, e, b, p) in
-    subst (λ xs. IsHard g.R.Raise.view c.widen.new.self.size i.most i.removal c.expand.new.self c.expand-then-needed-size.new.self
-    xs) (sym (ap (λ (x : TableView). x.rows) c.widen.ensures))
+    subst (λ xs. IsHard g.R.Raise.view c.widen.new.self.size i.most i.removal (lock_and_low c.expand.new.self
+    c.expand-then-needed-size.new.self) xs) (sym (ap (λ (x : TableView). x.rows) c.widen.ensures))
     (hard_expanded g.R.Raise.view i.table.size c.widen.new.self.size i.most i.removal i.lock i.low c.expand.new.self
     c.expand-then-needed-size.new.self i.table.rows c.least_bank-bank.result c.self.invariant is
     c.expand.ensures.learns c.expand.ensures.sound c.expand-then-needed-size.ensures.learns

@@ -22,14 +22,16 @@ unreachable-requires-in_default-index c = let xs = c.self.inside.slots.items in 
     let p = c.in-Some.position in
     let at = subst (λ ys. IsAt slot_id ys id p) c.deref.ensures.value c.in-Some.ensures.some in
     c.requires (sym (ap (λ (v : FinderView). index_of id v.entries) c.self.view_is)
-    ∙ index_is xs c.self.invariant.rises id p at c.index_mut-slot.result.now ∙ ap (λ (s : Slot). s.index) (sym c.index_mut-slot.ensures.value)
+    ∙ index_is xs c.self.invariant.rises id p at c.index_mut-slot.result.now
+    ∙ ap (λ (s : Slot). s.index) (sym c.index_mut-slot.ensures.value)
     ∙ c.in_default-index.is)
 
 pub returns-clause-index : goal.returns-clause-index
 returns-clause-index c = let xs = c.self.inside.slots.items in let id = c.args.id in let p = c.in-Some.position in
     let at = subst (λ ys. IsAt slot_id ys id p) c.deref.ensures.value c.in-Some.ensures.some in
     sym (ap (λ (v : FinderView). index_of id v.entries) c.self.view_is)
-    ∙ index_is xs c.self.invariant.rises id p at c.index_mut-slot.result.now ∙ ap (λ (s : Slot). s.index) (sym c.index_mut-slot.ensures.value)
+    ∙ index_is xs c.self.invariant.rises id p at c.index_mut-slot.result.now
+    ∙ ap (λ (s : Slot). s.index) (sym c.index_mut-slot.ensures.value)
     ∙ c.in-Some-index.is
 
 pub invariant_of-self : goal.invariant_of-self

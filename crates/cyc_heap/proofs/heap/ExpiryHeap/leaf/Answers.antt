@@ -2,10 +2,10 @@ use Rattle.std.proofs.Common.{◌≡◌, length, take, Some, sym, ap, ◌∙◌,
 use Rattle.std.proofs.lemmas.List.{length-take-le, get_or_default}
 use Rattle.cyc_heap.specs.declared.entry.Entry.{Entry}
 use Rattle.cyc_heap.specs.Tournament.{nowhere, key, entry_at}
-use Rattle.cyc_heap.specs.Few.{shown, HasNo}
+use Rattle.cyc_heap.specs.Few.{shown, HasNoIndex}
 use Rattle.cyc_heap.proofs.Views.{within, at_past, at_used, at_free}
 use Rattle.cyc_heap.proofs.Sifting.{found}
-use Rattle.cyc_heap.proofs.Fronts.{tree, shown_many, none_free, place_held}
+use Rattle.cyc_heap.proofs.Fronts.{tree, shown_many, none_free, position_held}
 use Rattle.cyc_heap.proofs.heap.ExpiryHeap.leaf.Goals as goal
 
 pub slice_bounds-find-end : goal.slice_bounds-find-end
@@ -23,12 +23,12 @@ returns-in-Some-clause-used c = λ _. (
     let es = i.entries.items in
     let t = tree i.is_few i.held i.root i.leaves i.size i.given es i.free.items c.self.invariant.0 c.self.invariant.1 in
     let w = t.within in
-    let (low, here) = found i.held es c.as_slice.result.now c.find.result c.in-Some.place c.args.index w c.as_slice.ensures.value
-    c.in-Some.is c.find.ensures.some in
+    let (low, here) = found i.held es c.as_slice.result.now c.find.result c.in-Some.position c.args.index w
+    c.as_slice.ensures.value c.in-Some.is c.find.ensures.some in
     let x = c.index.result.now in
-    let at = get_or_default es c.in-Some.place nowhere x (omega (arith, low, w)) ∙ sym c.index.ensures in
-    place_held i.is_few i.held i.root i.leaves i.size i.given es i.free.items c.self.invariant.0 c.self.invariant.1 i.room
-    c.args.self.now c.self.view_is c.if-self.true c.args.index c.in-Some.place low here
+    let at = get_or_default es c.in-Some.position nowhere x (omega (arith, low, w)) ∙ sym c.index.ensures in
+    position_held i.is_few i.held i.root i.leaves i.size i.given es i.free.items c.self.invariant.0 c.self.invariant.1 i.room
+    c.args.self.now c.self.view_is c.if-self.true c.args.index c.in-Some.position low here
     ∙ ap (λ (e : Entry). Some (key e)) at)
 
 pub returns-in-None-clause-free : goal.returns-in-None-clause-free
@@ -36,7 +36,7 @@ returns-in-None-clause-free c = λ _. (
     let i = c.self.inside in
     none_free i.is_few i.held i.root i.leaves i.size i.given i.entries.items i.free.items c.self.invariant.0
     c.self.invariant.1 i.room c.args.self.now c.self.view_is c.if-self.true c.args.index
-    (subst (λ l. HasNo c.args.index (take i.held l)) c.as_slice.ensures.value c.in-None.ensures.none))
+    (subst (λ l. HasNoIndex c.args.index (take i.held l)) c.as_slice.ensures.value c.in-None.ensures.none))
 
 pub returns-then-position-self-clause-free : goal.returns-then-position-self-clause-free
 returns-then-position-self-clause-free c = λ _. (

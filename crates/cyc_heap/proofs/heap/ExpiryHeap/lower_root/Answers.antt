@@ -1,8 +1,8 @@
 use Rattle.std.proofs.Common.{◌≡◌, take, IfSome, sym, ap, ◌∙◌, subst, subst₂, arith}
 use Rattle.std.proofs.lemmas.List.{get_or_default}
-use Rattle.cyc_heap.specs.Tournament.{nowhere, entry_at, index_of, slots}
+use Rattle.cyc_heap.specs.Tournament.{nowhere, entry_at, cyclic_index, slots}
 use Rattle.cyc_heap.specs.Few.{shown, IsTree, IsChanged}
-use Rattle.cyc_heap.specs.Heap.{with_moment}
+use Rattle.cyc_heap.specs.Heap.{slots_moved}
 use Rattle.cyc_heap.proofs.Changing.{leaf_low}
 use Rattle.cyc_heap.proofs.Fronts.{tree, tree_few, few_held, many_held, root_low, root_is, root_held, leaf_is}
 use Rattle.cyc_heap.proofs.Fronts.{tournament_after, front_after, slots_after}
@@ -27,7 +27,7 @@ invariant_of-self c =
     i.leaves i.size i.given es i.free.items c.self.invariant.0 c.self.invariant.1 small)) in
     let f = c.lower_first.ensures in
     let new = c.lower_first.new.entries.items in
-    let changed = subst (λ b. IsChanged i.leaves (index_of x) (record x { moment = c.args.moment }) (shown b i.held es)
+    let changed = subst (λ b. IsChanged i.leaves (cyclic_index x) (record x { moment = c.args.moment }) (shown b i.held es)
     (shown b i.held new)) (sym small) f.changed in
     let after = subst (λ b. IsTree b i.held i.leaves new) (sym small) f.tree in
     let room = f.room in
@@ -53,11 +53,11 @@ returns-then-held-gt0-clause-slots c =
     i.leaves i.size i.given es i.free.items c.self.invariant.0 c.self.invariant.1 small)) in
     let f = c.lower_first.ensures in
     let new = c.lower_first.new.entries.items in
-    let changed = subst (λ b. IsChanged i.leaves (index_of x) (record x { moment = c.args.moment }) (shown b i.held es)
+    let changed = subst (λ b. IsChanged i.leaves (cyclic_index x) (record x { moment = c.args.moment }) (shown b i.held es)
     (shown b i.held new)) (sym small) f.changed in
     let after = subst (λ b. IsTree b i.held i.leaves new) (sym small) f.tree in
     subst (λ root. IfSome root (λ index. slots i.size (shown i.is_few i.held new)
-    ≡ with_moment c.args.self.now.slots index c.args.moment)) (sym root)
+    ≡ slots_moved c.args.self.now.slots index c.args.moment)) (sym root)
     (slots_after i.is_few i.held i.root i.leaves i.size i.given es i.free.items c.self.invariant.0 c.self.invariant.1
     i.room c.args.self.now c.self.view_is x has new c.args.moment f.valid changed after)
 
@@ -93,8 +93,8 @@ invariant_of-self-2 c =
     let new = c.change_many.new.entries.items in
     let named = subst (λ n. IsChanged i.leaves n (record (entry_at es n) { moment = c.args.moment }) es new) c.index-index.ensures
     f.changed in
-    let leaf = subst (λ e. IsChanged i.leaves (index_of x) (record e { moment = c.args.moment }) es new) own named in
-    let changed = subst (λ b. IsChanged i.leaves (index_of x) (record x { moment = c.args.moment }) (shown b i.held es)
+    let leaf = subst (λ e. IsChanged i.leaves (cyclic_index x) (record e { moment = c.args.moment }) es new) own named in
+    let changed = subst (λ b. IsChanged i.leaves (cyclic_index x) (record x { moment = c.args.moment }) (shown b i.held es)
     (shown b i.held new)) (sym many) leaf in
     let after = subst₂ (λ b n. IsTree b n i.leaves new) (sym many) (sym (c.self.invariant.1.none many)) f.tree in
     let room = f.room in
@@ -126,11 +126,11 @@ returns-clause-slots c =
     let new = c.change_many.new.entries.items in
     let named = subst (λ n. IsChanged i.leaves n (record (entry_at es n) { moment = c.args.moment }) es new) c.index-index.ensures
     f.changed in
-    let leaf = subst (λ e. IsChanged i.leaves (index_of x) (record e { moment = c.args.moment }) es new) own named in
-    let changed = subst (λ b. IsChanged i.leaves (index_of x) (record x { moment = c.args.moment }) (shown b i.held es)
+    let leaf = subst (λ e. IsChanged i.leaves (cyclic_index x) (record e { moment = c.args.moment }) es new) own named in
+    let changed = subst (λ b. IsChanged i.leaves (cyclic_index x) (record x { moment = c.args.moment }) (shown b i.held es)
     (shown b i.held new)) (sym many) leaf in
     let after = subst₂ (λ b n. IsTree b n i.leaves new) (sym many) (sym (c.self.invariant.1.none many)) f.tree in
     subst (λ root. IfSome root (λ index. slots i.size (shown i.is_few i.held new)
-    ≡ with_moment c.args.self.now.slots index c.args.moment)) (sym root)
+    ≡ slots_moved c.args.self.now.slots index c.args.moment)) (sym root)
     (slots_after i.is_few i.held i.root i.leaves i.size i.given es i.free.items c.self.invariant.0 c.self.invariant.1
     i.room c.args.self.now c.self.view_is x has new c.args.moment f.valid changed after)

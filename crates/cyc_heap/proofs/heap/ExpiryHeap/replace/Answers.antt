@@ -1,7 +1,7 @@
 use Rattle.std.proofs.Common.{take, refl, sym, ap, ◌∙◌, subst, arith}
 use Rattle.cyc_heap.specs.Tournament.{entry_at}
 use Rattle.cyc_heap.specs.Few.{shown, IsChanged}
-use Rattle.cyc_heap.specs.Heap.{with_moment}
+use Rattle.cyc_heap.specs.Heap.{slots_moved}
 use Rattle.cyc_heap.proofs.Views.{in_use, leaf_held}
 use Rattle.cyc_heap.proofs.Fronts.{tree, tournament_after, front_after, slots_after}
 use Rattle.cyc_heap.proofs.heap.ExpiryHeap.replace.Goals as goal
@@ -62,4 +62,4 @@ returns-clause-slots c =
     let changed = subst (λ n. IsChanged i.leaves n (record x { moment = c.args.moment }) xs ys) (sym own) f.changed in
     slots_after i.is_few i.held i.root i.leaves i.size i.given i.entries.items i.free.items c.self.invariant.0
     c.self.invariant.1 i.room c.args.self.now c.self.view_is x has c.change.new.entries.items c.args.moment f.valid changed f.tree
-    ∙ ap (λ n. with_moment c.args.self.now.slots n c.args.moment) own
+    ∙ ap (λ n. slots_moved c.args.self.now.slots n c.args.moment) own

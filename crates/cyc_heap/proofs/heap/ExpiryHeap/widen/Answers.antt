@@ -4,7 +4,7 @@ use Rattle.std.proofs.lemmas.List.{append-nil}
 use Rattle.cyc_types.specs.Expirations.{Expiration}
 use Rattle.cyc_heap.specs.declared.entry.Entry.{Entry}
 use Rattle.cyc_heap.specs.Tournament.{slots, winner_of}
-use Rattle.cyc_heap.specs.Few.{shown, first_of}
+use Rattle.cyc_heap.specs.Few.{shown, first_index}
 use Rattle.cyc_heap.specs.Heap.{HeapView, size_of}
 use Rattle.cyc_heap.proofs.Slots.{slots_kept, slots_more}
 use Rattle.cyc_heap.proofs.Views.{within, size_is, few_or_many, root_many, root_few}
@@ -144,12 +144,12 @@ returns-then-size-self-clause-root c =
     let unused = wide_unused i.is_few i.held i.leaves wider es new t q.none more (omega (arith, long)) f.front f.kept
     f.unused f.played in
     elim (few_or_many i.is_few) [
-      | inl small ↦ cond-true i.is_few (first_of (take i.held new)) (winner_of wider ys) small
-          ∙ ap first_of (same_front i.held i.leaves wider es new (tree_few i.is_few i.held i.leaves es small t) more
+      | inl small ↦ cond-true i.is_few (first_index (take i.held new)) (winner_of wider ys) small
+          ∙ ap first_index (same_front i.held i.leaves wider es new (tree_few i.is_few i.held i.leaves es small t) more
           (omega (arith, long)) (f.front small))
           ∙ sym (root_few i.is_few (take i.held es) i.leaves i.size i.given xs i.free.items i.room c.args.self.now h
           c.self.view_is small)
-      | inr many ↦ cond-false i.is_few (first_of (take i.held new)) (winner_of wider ys) many
+      | inr many ↦ cond-false i.is_few (first_index (take i.held new)) (winner_of wider ys) many
           ∙ same_root i.leaves wider xs ys (h.played many)
           (played_new i.is_few i.held i.leaves wider es new t q.none more (omega (arith, long)) f.front f.kept f.unused
           f.played many) h.some more kept

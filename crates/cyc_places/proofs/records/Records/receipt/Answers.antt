@@ -9,9 +9,9 @@ use Rattle.cyc_places.proofs.records.Records.receipt.Goals as goal
 pub invariant_of-result : goal.invariant_of-result
 invariant_of-result c =
     let x = c.index-record.result.now in
-    let low = subst (λ (v : RecordsView). c.args.place < length v.list) (sym c.self.view_is) c.requires in
-    let at = at_place c.self.inside.list.items c.args.place x low c.index-record.ensures in
-    let le = lost_le x.value.ended (c.self.invariant.1 c.args.place x.value at) in
+    let low = subst (λ (v : RecordsView). c.args.position < length v.list) (sym c.self.view_is) c.requires in
+    let at = at_place c.self.inside.list.items c.args.position x low c.index-record.ensures in
+    let le = lost_le x.value.ended (c.self.invariant.1 c.args.position x.value at) in
     let a = c.ended_sent.ensures.value ∙ ap (λ (q : Record). sum_by (λ s. s.sent) q.ended) c.deref-2.ensures in
     let b = c.ended_lost.ensures.value ∙ ap (λ (q : Record). sum_by (λ s. s.lost) q.ended) c.deref-3.ensures in
     record { counted = omega (arith, le, a, b) }
@@ -19,9 +19,9 @@ invariant_of-result c =
 pub returns : goal.returns
 returns c r is =
     let x = c.index-record.result.now in
-    let low = subst (λ (v : RecordsView). c.args.place < length v.list) (sym c.self.view_is) c.requires in
-    let at = at_place c.self.inside.list.items c.args.place x low c.index-record.ensures in
-    let here = subst (λ (v : RecordsView). IsRecord v.list c.args.place r) (sym c.self.view_is) is in
+    let low = subst (λ (v : RecordsView). c.args.position < length v.list) (sym c.self.view_is) c.requires in
+    let at = at_place c.self.inside.list.items c.args.position x low c.index-record.ensures in
+    let here = subst (λ (v : RecordsView). IsRecord v.list c.args.position r) (sym c.self.view_is) is in
     let e : x.value ≡ r = same_Some x.value r (sym at ∙ here) in
     record {
       id = ap (λ (q : Record). q.id) (c.deref.ensures ∙ e);

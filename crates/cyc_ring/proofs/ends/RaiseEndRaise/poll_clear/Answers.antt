@@ -10,7 +10,7 @@ use Rattle.cyc_ring.proofs.Calls.{no_raise, one_raise, raise_call}
 use Rattle.cyc_types.specs.Firing.{Polls, Learns}
 use Rattle.ring_rule.specs.Words.{mark_bit}
 use Rattle.ring_rule.specs.Trail.{open_stay, seen_pend}
-use Rattle.cyc_ring.specs.Views.{firing_view}
+use Rattle.cyc_ring.specs.Views.{trail_view}
 use Rattle.cyc_ring.proofs.Learning.{the_stay, learns_kept}
 use Rattle.cyc_ring.proofs.ends.RaiseEndRaise.poll_clear.Goals as goal
 
@@ -41,8 +41,8 @@ returns-then-found-ne0-clause-learns c = let e = c.args.self.now in let s = e.se
     let low : found % mark_bit ≤ seen_pend c.args.id t =
     subst (λ (x : ℕ). found % mark_bit ≤ seen_pend x t) named c.load_as-found.ensures.bound in let more =
     c.if-found-ne0.true in
-    subst (λ (p : Setting × List RaiseStep). Learns (firing_view k.ceiling t) (Polls c.args.id None)
-    (firing_view p.0.ceiling p.1)) (λ z. (sym c.load_as-found.ensures.own.1 z, sym same z))
+    subst (λ (p : Setting × List RaiseStep). Learns (trail_view k.ceiling t) (Polls c.args.id None)
+    (trail_view p.0.ceiling p.1)) (λ z. (sym c.load_as-found.ensures.own.1 z, sym same z))
     (learns_kept k.ceiling t c.args.id found w.0 w.1 (omega (arith, more)) low)
 
 pub returns-clause-step : goal.returns-clause-step

@@ -1,6 +1,6 @@
 use Rattle.std.proofs.Common.{◌≡◌, ◌<◌, ◌++◌, ◌∷◌, [], Ok, None, refl, sym, ap, ◌∙◌, subst, arith, length, false, get_or}
 use Rattle.std.proofs.lemmas.Result.{err_from_is_err_and}
-use Rattle.cyc_cpu_laws.specs.Cpu.{MayWiden}
+use Rattle.cyc_cpu.specs.Cpu.{MayWiden}
 use Rattle.cyc_agreement.proofs.CpuSpots.{of_cpu}
 use Rattle.cyc_places.specs.declared.record.Record.{Record}
 use Rattle.cyc_places.specs.declared.record.Placement.TheVariants.{On}
@@ -16,7 +16,7 @@ use Rattle.cyc_agreement.proofs.Entering.{online_low, not_given, none_here, belo
 use Rattle.cyc_system.proofs.Added.{add_done, add_unrecorded}
 use Rattle.cyc_agreement.proofs.Lists.{among}
 use Rattle.cyc_agreement.proofs.Spots.{seen, get_last}
-use Rattle.cyc_cpu_laws.specs.Calls.{Reserve}
+use Rattle.cyc_cpu.specs.Calls.{Reserve}
 use Rattle.cyc_agreement.specs.Cpus.{on}
 use Rattle.cyc_agreement.specs.Adding.{entering}
 use Rattle.cyc_agreement.proofs.FirstReason.{not_never, not_spent}

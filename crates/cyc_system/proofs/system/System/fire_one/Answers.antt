@@ -1,5 +1,5 @@
-use Rattle.cyc_cpu_laws.specs.Calls.{no_interrupts}
-use Rattle.cyc_cpu_laws.specs.Cpu.{running}
+use Rattle.cyc_cpu.specs.Calls.{no_interrupts}
+use Rattle.cyc_cpu.specs.Cpu.{running}
 use Rattle.cyc_agreement.proofs.Who.{same_changed, same_fired}
 use Rattle.cyc_agreement.proofs.Holding.{holds_same}
 use Rattle.cyc_system.proofs.system.System.fire_one.Goals as goal

@@ -15,24 +15,24 @@ pub reprogram_at-requires-clause-number : goal.reprogram_at-requires-clause-numb
 reprogram_at-requires-clause-number g c =
     let (r, p) = c.if-not-stays.ensures.stays in
     let s = seen c.self.inside.cpus c.self.inside.records.list c.self.inside.last in
-    let q = subst (λ (x : SystemView _). IsPresent c.args.id c.args.place r x) (sym c.self.view_is) p in
+    let q = subst (λ (x : SystemView _). IsPresent c.args.id c.args.position r x) (sym c.self.view_is) p in
     has_low c.self.inside.cpus c.in-On.cpu c.args.id
-    (at_home s c.self.invariant.0.agrees c.args.id c.args.place r c.at.result.now q c.at.ensures c.in-On.cpu c.in-On.bound
+    (at_home s c.self.invariant.0.agrees c.args.id c.args.position r c.at.result.now q c.at.ensures c.in-On.cpu c.in-On.bound
     c.in-On.is)
 
 pub reprogram_at-requires-clause-here : goal.reprogram_at-requires-clause-here
 reprogram_at-requires-clause-here g c cpu at =
     let (r, p) = c.if-not-stays.ensures.stays in
     let s = seen c.self.inside.cpus c.self.inside.records.list c.self.inside.last in
-    let q = subst (λ (x : SystemView _). IsPresent c.args.id c.args.place r x) (sym c.self.view_is) p in
+    let q = subst (λ (x : SystemView _). IsPresent c.args.id c.args.position r x) (sym c.self.view_is) p in
     cyclic_here c.self.inside.cpus c.in-On.cpu c.args.id cpu
-    (at_home s c.self.invariant.0.agrees c.args.id c.args.place r c.at.result.now q c.at.ensures c.in-On.cpu c.in-On.bound
+    (at_home s c.self.invariant.0.agrees c.args.id c.args.position r c.at.result.now q c.at.ensures c.in-On.cpu c.in-On.bound
     c.in-On.is) at
 
 pub reprogram_at-requires-clause-still : goal.reprogram_at-requires-clause-still
 reprogram_at-requires-clause-still g c cpu at =
     let (r, p) = c.if-not-stays.ensures.stays in
-    let q = subst (λ (x : SystemView _). IsPresent c.args.id c.args.place r x) (sym c.self.view_is) p in
+    let q = subst (λ (x : SystemView _). IsPresent c.args.id c.args.position r x) (sym c.self.view_is) p in
     not_leaving c.self.inside.cpus c.args.id q.still c.in-On.cpu cpu at
 
 pub invariant_of-self : goal.invariant_of-self
@@ -49,8 +49,8 @@ returns-in-On g c =
     let (r, p) = c.if-not-stays.ensures.stays in
     let s = seen c.self.inside.cpus c.self.inside.records.list c.self.inside.last in
     let t = seen c.reprogram_at.new.cpus c.self.inside.records.list c.self.inside.last in
-    let q = subst (λ (x : SystemView _). IsPresent c.args.id c.args.place r x) (sym c.self.view_is) p in
-    let a = c.self.invariant.0.agrees in let k = c.args.place in let now = c.at.result.now in
+    let q = subst (λ (x : SystemView _). IsPresent c.args.id c.args.position r x) (sym c.self.view_is) p in
+    let a = c.self.invariant.0.agrees in let k = c.args.position in let now = c.at.result.now in
     subst (λ (x : SystemView _). Changes g.R.Raise x (Reprogram c.args.id c.args.moment (Ok tt)) t)
     c.self.view_is
     (inr (
@@ -67,8 +67,8 @@ pub returns-in-Everywhere : goal.returns-in-Everywhere
 returns-in-Everywhere g c =
     let (r, p) = c.if-not-stays.ensures.stays in
     let s = seen c.self.inside.cpus c.self.inside.records.list c.self.inside.last in
-    let q = subst (λ (x : SystemView _). IsPresent c.args.id c.args.place r x) (sym c.self.view_is) p in
-    let a = c.self.invariant.0.agrees in let k = c.args.place in let now = c.at.result.now in
+    let q = subst (λ (x : SystemView _). IsPresent c.args.id c.args.position r x) (sym c.self.view_is) p in
+    let a = c.self.invariant.0.agrees in let k = c.args.position in let now = c.at.result.now in
     subst (λ (x : SystemView _). Changes g.R.Raise x (Reprogram c.args.id c.args.moment (Err Omnipresent)) x)
     c.self.view_is
     (inl (

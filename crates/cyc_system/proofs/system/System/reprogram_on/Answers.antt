@@ -18,7 +18,7 @@ reprogram_at-requires-clause-here g c cpu at =
 pub reprogram_at-requires-clause-still : goal.reprogram_at-requires-clause-still
 reprogram_at-requires-clause-still g c cpu at =
     let (r, p) = c.in-Some.ensures.some in
-    let q = subst (λ (x : SystemView _). IsPresent c.args.id c.in-Some.place r x) (sym c.self.view_is) p in
+    let q = subst (λ (x : SystemView _). IsPresent c.args.id c.in-Some.position r x) (sym c.self.view_is) p in
     not_leaving c.self.inside.cpus c.args.id q.still c.args.cpu cpu at
 
 pub invariant_of-self : goal.invariant_of-self

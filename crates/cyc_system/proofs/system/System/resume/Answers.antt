@@ -1,5 +1,5 @@
 use Rattle.std.proofs.Common.{false}
-use Rattle.cyc_cpu_laws.specs.Calls.{Resume}
+use Rattle.cyc_cpu.specs.Calls.{Resume}
 use Rattle.cyc_agreement.proofs.Marked.{holds_marked}
 use Rattle.cyc_system.proofs.system.System.resume.Goals as goal
 

@@ -13,13 +13,13 @@ use Rattle.cyc_system.proofs.system.System.stays.Goals as goal
 pub returns-clause-stays : goal.returns-clause-stays
 returns-clause-stays g c =
     let (r, at, named) = c.requires in
-    let is = subst (λ (s : SystemView _). IsRecord s.records c.args.place r) (sym c.self.view_is) at in
-    OnTrue_from _ _ (λ e. subst (λ (s : SystemView _). (r : Record) × IsPresent c.args.id c.args.place r s) c.self.view_is (
+    let is = subst (λ (s : SystemView _). IsRecord s.records c.args.position r) (sym c.self.view_is) at in
+    OnTrue_from _ _ (λ e. subst (λ (s : SystemView _). (r : Record) × IsPresent c.args.id c.args.position r s) c.self.view_is (
       r,
       record {
         here = is;
         named = named;
-        known = record_here c.args.id c.args.place r c.self.inside.records.list c.law.ensures.rising is named;
+        known = record_here c.args.id c.args.position r c.self.inside.records.list c.law.ensures.rising is named;
         still = sym c.is_leaving.ensures ∙ not-true _ e;
       },
     ))

@@ -1,5 +1,5 @@
 use Rattle.std.proofs.Common.{true}
-use Rattle.cyc_cpu_laws.specs.Calls.{Suspend}
+use Rattle.cyc_cpu.specs.Calls.{Suspend}
 use Rattle.cyc_agreement.proofs.Marked.{holds_marked}
 use Rattle.cyc_system.proofs.system.System.suspend.Goals as goal
 

@@ -1,8 +1,9 @@
-use Rattle.std.proofs.Common.{◌≡◌, ℕ, ◌-◌, ◌<◌, ◌⊎◌, inl, inr, List, length, get_or, Option, Some, None, All, IfNone, IfSome, sym, ◌∙◌}
+use Rattle.std.proofs.Common.{◌≡◌, ℕ, ◌-◌, ◌<◌, ◌⊎◌, inl, inr, List, length, get_or, Option, Some, None}
+use Rattle.std.proofs.Common.{All, IfNone, IfSome, sym, ◌∙◌}
 use Rattle.std.proofs.Common.{subst, arith}
 use Rattle.cyc_types.specs.Expirations.{Expiration}
 use Rattle.cyc_types.specs.Timers.{Timer}
-use Rattle.cyc_heap.specs.Heap.{HeapView, IsEmpty, IsLeast}
+use Rattle.cyc_heap.specs.Heap.{HeapView, IsEmptyHeap, IsLeast}
 use Rattle.cyc_finder.specs.Indexes.{Entry}
 use Rattle.cyc_timers.specs.declared.table.Record.{Record}
 use Rattle.cyc_timers.specs.Rows.{Row, TableView, IsRow, IsTable, IsFirstAt, rows_of, timers_of}
@@ -13,7 +14,7 @@ use Rattle.cyc_timers.proofs.table.Table.due_root.Goals as goal
 -- where the root of the heap isn't due, no row is
 none_due : (h : HeapView) (records : List Record) (entries : List Entry) → IsTable h.slots records entries
     → (now : ℕ) (o : Option (ℕ × ℕ × ℕ))
-    → IfNone o (IsEmpty h ⊎ ((i : ℕ) × (e : Expiration) × IsLeast h i e × (now < e.moment)))
+    → IfNone o (IsEmptyHeap h ⊎ ((i : ℕ) × (e : Expiration) × IsLeast h i e × (now < e.moment)))
     → IfNone o (All (λ (t : Timer). now < t.moment) (timers_of (rows_of h.slots records entries)))
 none_due h records entries t now (Some found) is = tt
 none_due h records entries t now None (inl empty) = λ k d low. absurd (

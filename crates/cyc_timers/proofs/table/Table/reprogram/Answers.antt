@@ -1,6 +1,6 @@
 use Rattle.std.proofs.Common.{◌≡◌, refl, sym, ap, ◌∙◌, subst, arith, length, length-set, option_map, None, get_or, IsSome}
 use Rattle.std.proofs.Math.ListN.{set}
-use Rattle.cyc_heap.specs.Heap.{with_moment, at_moment as at_moment_of}
+use Rattle.cyc_heap.specs.Heap.{slots_moved, expiration_moved as at_moment_of}
 use Rattle.cyc_timers.specs.Rows.{Row, TableView, IsRow, at_moment}
 use Rattle.cyc_timers.proofs.Tables.{standing, replaced, table_replaced}
 use Rattle.cyc_timers.proofs.table.Table.reprogram.Goals as goal
@@ -22,7 +22,7 @@ invariant_of-self c =
     let same : s.p.index ≡ c.args.index = ap (λ (x : Row). x.index) (sym s.row) ∙ at in
     let room = c.replace.ensures.room in let caps = c.self.invariant in (
       table_replaced slots c.replace.new.self.slots records entries k r s m t c.requires.moment
-          (c.replace.ensures.slots ∙ ap (λ n. with_moment slots n m) (sym same)),
+          (c.replace.ensures.slots ∙ ap (λ n. slots_moved slots n m) (sym same)),
       omega (arith, room, caps),
       omega (arith, room, caps),
       (let l = ap length c.replace.ensures.slots in
@@ -38,5 +38,5 @@ returns-clause-rows c k r is at =
     let s = standing slots records entries k r t (subst (λ (v : TableView). IsRow v.rows k r) (sym c.self.view_is) is) in
     let same : s.p.index ≡ c.args.index = ap (λ (x : Row). x.index) (sym s.row) ∙ at in
     replaced slots c.replace.new.self.slots records entries k r s m t
-    (c.replace.ensures.slots ∙ ap (λ n. with_moment slots n m) (sym same))
+    (c.replace.ensures.slots ∙ ap (λ n. slots_moved slots n m) (sym same))
     ∙ ap (λ (v : TableView). set v.rows k (at_moment m r)) c.self.view_is

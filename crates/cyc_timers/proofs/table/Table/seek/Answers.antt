@@ -13,6 +13,7 @@ returns-clause-none c = let i = c.self.inside in
 
 pub returns-clause-some : goal.returns-clause-some
 returns-clause-some c = let i = c.self.inside in
-    subst (λ (f : FinderView). IfSome c.seek.result (λ index. IsFound (rows_of i.heap.slots i.records.items f.entries) c.args.id index))
+    subst (λ (f : FinderView). IfSome c.seek.result
+    (λ index. IsFound (rows_of i.heap.slots i.records.items f.entries) c.args.id index))
     (sym c.seek.ensures.same)
     (find_some i.heap.slots i.records.items i.finder.entries c.self.invariant.0 c.args.id c.seek.result c.seek.ensures.value)

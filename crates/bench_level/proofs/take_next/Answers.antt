@@ -1,5 +1,0 @@
-use Rattle.bench_level.proofs.Rounds.{take_ready}
-use Rattle.bench_level.proofs.take_next.Goals as goal
-
-pub returns-then-is_none : goal.returns-then-is_none
-returns-then-is_none c = take_ready _ _ _ _ c.take-taken.result c.requires c.take-taken.ensures.step

@@ -1,9 +1,0 @@
-use Rattle.std.specs.Prelude.{◌≡◌, ℕ, ◌<◌, false}
-use Rattle.cyc_threads.specs.Names.{named_at, is_leaving}
-use Rattle.cyc_threads.proofs.named.Names.leaving.Given as goal
-
-abbrev pub invariant-loop-name : goal.invariant-loop-name
-invariant-loop-name l = record {
-  same : l.self-inside.list.items ≡ l.fn.self;
-  none : (k : ℕ) → k < l.name → is_leaving (named_at l.self-inside.list.items k) ≡ false;
-}

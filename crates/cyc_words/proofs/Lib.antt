@@ -1,0 +1,2 @@
+pub mod Leaving
+pub mod Within
