@@ -15,7 +15,7 @@ use Rattle.cyc_agreement.proofs.CpuSpots.{get_set_other, changed}
 use Rattle.cyc_agreement.specs.System.{ids_of}
 use Rattle.cyc_agreement.proofs.Lists.{among}
 use Rattle.cyc_agreement.proofs.Presence.{has_here}
-use Rattle.cyc_agreement.proofs.Who.{SameWho, same_none, same_then, same_at, same_asked, ids_there}
+use Rattle.cyc_agreement.proofs.Who.{SameWho, same_then, same_at, same_asked, ids_there}
 use Rattle.cyc_agreement.specs.Removing.{cpus_with}
 use Rattle.cyc_agreement.specs.Counting.{Counted, asked}
 use Rattle.cyc_agreement.proofs.Opening.{tested}
@@ -37,18 +37,6 @@ module _ {R : Type 0} (firing : Raise R) (id : ℕ) where
     pub pending_is : pending ≡ sum_by (λ a. a.totals.pending) way
     pub same : SameWho v w
     pub ahead : (m : ℕ) → n ≤ m → slice_get w.cpus m ≡ slice_get v.cpus m
-
-  pub asked_start : (v : CpusView R) → Asked 0 0 0 0 v v
-  asked_start v = record {
-    way = [];
-    split = refl;
-    works = refl;
-    expired_is = refl;
-    lost_is = refl;
-    pending_is = refl;
-    same = same_none v;
-    ahead = λ m low. refl;
-  }
 
   module _ (n expired lost pending : ℕ) (v w : CpusView R) (k : Asked n expired lost pending v w) (x y : CpuView R)
       (at : IsCpu n x w) where

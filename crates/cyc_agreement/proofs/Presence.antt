@@ -1,5 +1,5 @@
 -- Where a cyclic is, and whether its removal is open.
-use Rattle.std.proofs.Common.{◌≡◌, ◌≢◌, ◌==◌, ℕ, zero, suc, ◌-◌, ◌<◌, ◌≤◌, Bool, true, false, not, Some, None, List, [], ◌∷◌}
+use Rattle.std.proofs.Common.{◌≡◌, ◌≢◌, ◌==◌, ℕ, zero, suc, ◌-◌, ◌<◌, Bool, true, false, not, Some, None, List, [], ◌∷◌}
 use Rattle.std.proofs.Common.{length, get_or, refl, sym, ap, ◌∙◌, arith}
 use Rattle.std.specs.Bool.{OnTrue, OnFalse}
 use Rattle.std.specs.Prelude.{◌||◌, ◌&&◌, nat_le, is_some}
@@ -22,10 +22,10 @@ use Rattle.cyc_agreement.specs.Binding.{HasPlacement}
 use Rattle.cyc_agreement.proofs.Spots.{same_some}
 use Rattle.cyc_agreement.specs.System.{SystemView, is_everywhere, is_omnipresent, ids_of, has, is_leaving_here, is_leaving}
 use Rattle.cyc_agreement.specs.System.{is_unknown, record_of, is_online}
-use Rattle.cyc_agreement.specs.Refusals.{no_cyclic, omnipresent, no_component, no_cpu, offline_cpu, IsPresent}
+use Rattle.cyc_agreement.specs.Refusals.{no_cyclic, omnipresent, no_cpu, offline_cpu, IsPresent}
 use Rattle.cyc_agreement.proofs.Lists.{among, any_at, any_none, any_place, any_map, eq_true, true_eq, false_ne, false_true}
 use Rattle.cyc_agreement.proofs.Who.{ids_there, id_in}
-use Rattle.cyc_agreement.proofs.FirstReason.{not_when, is_when, not_le, le_true}
+use Rattle.cyc_agreement.proofs.FirstReason.{not_when, is_when, not_le}
 
 -- a CPU that has a cyclic is there
 pub has_low : {R : Type 0} (v : CpusView R) (n id : ℕ) → has n id v ≡ true → n < length v.cpus
@@ -136,29 +136,14 @@ has_is v n id cpu false at here none = sym (ap (λ ids. among id ids) (ids_there
 both_true : (a b : Bool) → a ≡ true → (a && b) ≡ b
 both_true a b e = ap (λ x. x && b) e
 
-both_false : (a b : Bool) → a ≡ false → (a && b) ≡ false
-both_false a b e = ap (λ x. x && b) e
-
 module _ {R : Type 0} (s : SystemView R) (id k n : ℕ) (r q : Record) (p : IsPresent id k r s) (at : IsRecord s.records k q) where
   omni_is : is_omnipresent id s ≡ is_everywhere q.placement
   omni_is = ap (λ o. option_map_or (λ (x : Record). is_everywhere x.placement) o false) p.known
       ∙ ap (λ (x : Record). is_everywhere x.placement) (same_some (sym p.here ∙ at))
 
-  pub component_not : is_everywhere q.placement ≡ false → false ≡ (is_omnipresent id s && has n id s.cpus)
-  component_not e = sym (both_false (is_omnipresent id s) (has n id s.cpus) (omni_is ∙ e))
-
   pub component_is : (b : Bool) → is_everywhere q.placement ≡ true → b ≡ has n id s.cpus
       → b ≡ (is_omnipresent id s && has n id s.cpus)
   component_is b e f = f ∙ sym (both_true (is_omnipresent id s) (has n id s.cpus) (omni_is ∙ e))
-
--- the CPU has a component
-pub component_clear : {R : Type 0} (s : SystemView R) (id n : ℕ) (b : Bool) → b ≡ (is_omnipresent id s && has n id s.cpus)
-    → b ≡ true → no_component id n s ≡ None
-component_clear s id n b is e = not_when (not (is_omnipresent id s && has n id s.cpus)) NoCyclic (ap not (sym is ∙ e))
-
-pub component_refused : {R : Type 0} (s : SystemView R) (id n : ℕ) (b : Bool) → b ≡ (is_omnipresent id s && has n id s.cpus)
-    → b ≡ false → no_component id n s ≡ Some NoCyclic
-component_refused s id n b is e = is_when (not (is_omnipresent id s && has n id s.cpus)) NoCyclic (ap not (sym is ∙ e))
 
 pub component_has : {R : Type 0} (s : SystemView R) (id n : ℕ) (b : Bool) → b ≡ (is_omnipresent id s && has n id s.cpus)
     → b ≡ true → has n id s.cpus ≡ true
@@ -172,9 +157,6 @@ component_has s id n b is e = by (is_omnipresent id s) (has n id s.cpus) (sym is
 
 pub cpu_clear : {R : Type 0} (s : SystemView R) (n : ℕ) → n < length s.cpus.cpus → no_cpu n s ≡ None
 cpu_clear s n low = not_when (nat_le (length s.cpus.cpus) n) NoCpu (not_le (length s.cpus.cpus) n low)
-
-pub cpu_refused : {R : Type 0} (s : SystemView R) (n : ℕ) → length s.cpus.cpus ≤ n → no_cpu n s ≡ Some NoCpu
-cpu_refused s n past = is_when (nat_le (length s.cpus.cpus) n) NoCpu (le_true (length s.cpus.cpus) n past)
 
 pub online_clear : {R : Type 0} (s : SystemView R) (n : ℕ) → is_online n s.cpus ≡ true → offline_cpu n s ≡ None
 online_clear s n on = not_when (not (is_online n s.cpus)) Offline (ap not on)

@@ -1,7 +1,7 @@
 -- A round over the online CPUs, with the same call on each.
 use Rattle.std.proofs.Common.{◌≡◌, ◌≢◌, ℕ, ◌+◌, ◌<◌, ◌≤◌, List, [], ◌∷◌, ◌++◌, map, drop, length, true, false, Some, refl, sym}
 use Rattle.std.proofs.Common.{ap, ◌∙◌, subst, append_assoc, arith}
-use Rattle.std.proofs.lemmas.List.{append-nil, map-append, length-set, drop_all}
+use Rattle.std.proofs.lemmas.List.{map-append, length-set}
 use Rattle.std.proofs.lemmas.Option.{slice_get_within}
 use Rattle.std.specs.List.{slice_get}
 use mathlib.Core.Logic.{dite}
@@ -82,12 +82,6 @@ module _ {R : Type 0} (firing : Raise R) (call : CpuCall)
         (λ ne. r.passed m (omega (arith, low, ne)) on);
     left = λ m low. r.left m (omega (arith, low));
   }
-
-  pub round_done : (v w : CpusView R) (n : ℕ) → length w.online ≤ n → Round v n w →
-      Works firing (map (λ m. on m call) (online_cpus v)) v w
-  round_done v w n all r = subst (λ ns. Works firing (map (λ m. on m call) ns) v w)
-      (sym (r.split ∙ ap (λ xs. r.before ++ numbers_from n xs) (drop_all n v.online (subst (λ xs. length xs ≤ n) r.online all))
-      ∙ append-nil r.before)) r.works
 
   pub round_all : (v w : CpusView R) (n : ℕ) → length w.online ≤ n → Round v n w → (m : ℕ) → IsOnline m w → OfCpu m Done w
   round_all v w n all r m on = (let low = slice_get_within w.online m true on in r.passed m (omega (arith, low, all)) on)

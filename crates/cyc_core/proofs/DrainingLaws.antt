@@ -111,12 +111,6 @@ marked_not (Some m) id ne = by (eqb m id) refl
 pub holds_is : (o : Option ℕ) (id : ℕ) (P : ℕ → Type 0) → o ≡ Some id → P id → IfSome o P
 holds_is o id P e h = subst (λ (x : Option ℕ). IfSome x P) (sym e) h
 
-pub done_after_take : (l : SoftLevel) (q : ℕ) → done_of (after Take l) q ≡ done_of l q
-done_after_take l q = refl
-
-pub done_after_follow : (l : SoftLevel) (q : ℕ) → done_of (after Follow l) q ≡ done_of l q
-done_after_follow l q = refl
-
 -- a look: the soft side followed, or it didn't have to
 pub data Looked (l m : SoftLevel) : Type 0 where
   Followed : Enabled Follow l → m ≡ after Follow l → Looked l m

@@ -4,7 +4,7 @@ use Rattle.std.proofs.Common.{refl, sym, ap, ◌∙◌, subst, arith}
 use Rattle.std.specs.Prelude.{is_none}
 use Rattle.std.specs.Option.{option_map}
 use Rattle.std.proofs.lemmas.Bool.Decides.{nat_tests}
-use Rattle.cyc_types.specs.Firing.{Stay, FiringView, Admits, Loads, Raises, Marks, Polls, Expands, Learns, Sound}
+use Rattle.cyc_types.specs.Firing.{Stay, FiringView, Admits, Raises, Marks, Polls, Expands, Learns, Sound}
 use Rattle.cyc_types.specs.Firing.{edited as stay_edited, seen_in, seen_of, sent_in, saw, MayAdmit, MayRaise, MayMark, MayPoll}
 use Rattle.cyc_types.specs.Firing.{MayExpand}
 use Rattle.cyc_types.specs.declared.firing.Raised.TheVariants.{First, More, Lost}
@@ -118,9 +118,6 @@ module _ (l : SoftLevel) (id : ℕ) (c : AdmittedCyclic) (is : l.cyclics id ≡ 
           ap (option_map stay_of) here ∙ sym (ap (λ o. stay_edited (λ s. record s { seen = c.count }) (option_map stay_of o))
           here)
       at j false e = refl
-
-  pub learns_load : Learns (firing_view l) (Loads id c.count) (firing_view l)
-  learns_load = ((let e = seen_is in omega (arith, e)), view_saw)
 
   pub learns_kept : 0 < c.count → Learns (firing_view l) (Polls id None) (firing_view l)
   learns_kept some = (c.count, some, (let e = seen_is in omega (arith, e)), view_saw)

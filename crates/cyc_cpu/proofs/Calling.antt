@@ -89,15 +89,6 @@ refused_not now v why.Suspended may is = false≢true (sym may.awake ∙ is)
 refused_not now v why.BadNow may is = may.early is.1
 refused_not now v e may is = is
 
--- what refused a fire that was taken up
-pub not_fired : {C R : Type 0} (handler : Calls C) (firing : Raise R)
-    (interrupts : Soft → ℕ → Result Ran SoftRefused → Running C R → Running C R → Type 0) (now : ℕ) (s t : Running C R)
-    (e : FireRefused) → MayFire now s.cpu
-    → CpuDoes handler firing interrupts s (Fire now (Err e)) t
-    → Stopped handler firing now e s t
-not_fired handler firing interrupts now s t e may (inl d) = absurd (refused_not now s.cpu e.why may d.0)
-not_fired handler firing interrupts now s t e may (inr d) = d.2
-
 -- what a cyclic may expire at most is the same for good
 not_taken_most : {R : Type 0} (firing : Raise R) (id : ℕ) (v w : CpuView R)
     (e : Refusal) → WhyNotTaken firing id v e w → w.most ≡ v.most

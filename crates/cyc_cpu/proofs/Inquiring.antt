@@ -16,8 +16,8 @@ use Rattle.cyc_types.proofs.Runs.{goes_on}
 use Rattle.std.proofs.lemmas.List.{map-append, get_or_default}
 use Rattle.std.proofs.lemmas.Bool.Decides.{nat_tests}
 use Rattle.cyc_timers.specs.Ends.{IsEnd}
-use Rattle.cyc_timers.specs.Quiet.{KeepsStays, OnlyLoads, OnlyLooks, asks_at}
-use Rattle.cyc_timers.proofs.Readying.{loads_keep, looks_keep, keeps_itself}
+use Rattle.cyc_timers.specs.Quiet.{KeepsStays, OnlyLoads, asks_at}
+use Rattle.cyc_timers.proofs.Readying.{loads_keep, keeps_itself}
 use Rattle.cyc_cpu.proofs.Softs.{keeps_on}
 use Rattle.cyc_cpu.proofs.Cleared.{goes_here, goes_not, level_cases, one_row}
 
@@ -69,16 +69,6 @@ module _ {R : Type 0} (firing : Raise R) where
 
   pub only_loads_keep : (e f : R) → OnlyLoads firing e f → KeepsStays (firing.view e) (firing.view f)
   only_loads_keep e f o = loads_keep_all e f o.0 o.1
-
-  looks_keep_all : (e f : R) (answers : List Bool) → Goes firing e (map Looks answers) f
-      → KeepsStays (firing.view e) (firing.view f)
-  looks_keep_all e f [] g = subst (λ x. KeepsStays (firing.view e) (firing.view x)) g (keeps_itself (firing.view e))
-  looks_keep_all e f (a ∷ answers) (m, (s, l), rest) =
-      keeps_on (firing.view e) (firing.view m) (firing.view f) (looks_keep (firing.view e) (firing.view m) a l)
-      (looks_keep_all m f answers rest)
-
-  pub only_looks_keep : (e f : R) → OnlyLooks firing e f → KeepsStays (firing.view e) (firing.view f)
-  only_looks_keep e f o = looks_keep_all e f o.0 o.1
 
   pub looks_see : (e f : R) (answer : Bool) (id : ℕ) → Learns (firing.view e) (Looks answer) (firing.view f)
       → seen_of id (firing.view f) ≡ seen_of id (firing.view e)

@@ -146,12 +146,6 @@ module _ {R : Type 0} (view : R → FiringView) (size most : ℕ) (removal : Opt
     | inr (low_is, m) ↦ m
   ]
 
-  pub marked_soft : r.timer.level ≢ level.High
-  marked_soft at = elim marked_cases [
-    | inl (lock_is, m) ↦ absurd (let no : level.Lock ≡ level.High = sym lock_is ∙ at in cc)
-    | inr (low_is, m) ↦ absurd (let no : level.Low ≡ level.High = sym low_is ∙ at in cc)
-  ]
-
   none_at : (o : Option ℕ) (level : Level) → ((id : ℕ) → o ≡ Some id → removal ≡ Some id)
       → ((id : ℕ) → o ≡ Some id → HasRow level id rows) → r.timer.level ≢ level → o ≡ None
   none_at None level to row off = refl

@@ -176,11 +176,6 @@ list_of (Some why) b = refl
 
 -- ---- the cyclic
 
--- the shown CPU has the cyclic
-has_shown_it : (id k : ℕ) (online : Bool) (x : Timed) (v : CpuView Tables) → IsCyclic v.cyclics k x → x.timer.id ≡ id
-    → has_cyclic id (shown_cpu online v) ≡ true
-has_shown_it id k online x v is named = has_it id v.cyclics k x is named
-
 pub asked_outstanding : (id n : ℕ) (online : Bool) (v w : CpuView Tables) → IsTied v
     → (a : Asks raise_tables id n v w) → n ≡ outstanding_here id (shown_cpu online v)
 asked_outstanding id n online v w law a =

@@ -231,9 +231,6 @@ module _ (indexes : ℕ → ℕ) (step n : ℕ) (s : State) where
   long_back : length back.cpus ≡ length s.cpus
   long_back = long_returns indexes n (staying_omni s) widens ∙ on_long n (widen_here n (length (staying_omni s))) s
 
-  pub online_long : length (online indexes step n s).state.cpus ≡ length s.cpus
-  online_long = on_long n (λ c. nothing_here (go_online c)) back ∙ long_back
-
   pub online_there : n < length s.cpus → cpu_of n (online indexes step n s).state ≡ go_online (cpu_of n back)
   online_there within = on_there n (λ c. nothing_here (go_online c)) back (subst (λ k. n < k) (sym long_back) within)
 

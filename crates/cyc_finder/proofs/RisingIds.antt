@@ -37,16 +37,6 @@ module _ {T : Type 0} (id_of : T → ℕ) where
       let rest = look_up_present xs id i d (is_at_tail x xs id i at) (no_id_before_tail x xs id i none) in
       grind (arith, nat_tests, first, rest)
 
-  -- writing over the first thing of the id changes the look-up of that id alone
-  look_up_set : (xs : List T) (id i : ℕ) (e : T) → IsAt id_of xs id i → NoIdBefore xs id i → id_of e ≡ id → (q : ℕ)
-      → look_up id_of q (set xs i e) ≡ cond (eqb q id) (Some e) (look_up id_of q xs)
-  look_up_set [] id i e at none same q = absurd (omega (arith, at.in_range))
-  look_up_set (x ∷ xs) id zero e at none same q = let here : id_of x ≡ id = at.has_id e in grind (arith, nat_tests, here, same)
-  look_up_set (x ∷ xs) id (suc i) e at none same q =
-      let first = none 0 x (omega arith) in
-      let rest = look_up_set xs id i e (is_at_tail x xs id i at) (no_id_before_tail x xs id i none) same q in
-      grind (arith, nat_tests, first, rest)
-
   -- so does a new thing before any of its id
   look_up-insert : (xs : List T) (id i : ℕ) (e : T) → NoIdBefore xs id i → id_of e ≡ id → (q : ℕ)
       → look_up id_of q (insert xs i e) ≡ cond (eqb q id) (Some e) (look_up id_of q xs)
@@ -105,10 +95,6 @@ module _ {T : Type 0} (id_of : T → ℕ) where
     -- what is read there is found
     pub look_up_read : (d : T) → d ≡ get_or xs position d → look_up id_of id xs ≡ Some d
     look_up_read d read = look_up_at d ∙ ap Some (sym read)
-
-    pub look_up_written : (e : T) → id_of e ≡ id → (q : ℕ)
-        → look_up id_of q (set xs position e) ≡ cond (eqb q id) (Some e) (look_up id_of q xs)
-    look_up_written e same = look_up_set xs id position e at no_id_before_place same
 
     pub rises_set : (e : T) → id_of e ≡ id → Rises id_of (set xs position e)
     rises_set e same i j d less in_range =

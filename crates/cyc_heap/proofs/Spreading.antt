@@ -7,7 +7,7 @@ use Rattle.std.proofs.lemmas.List.{length-set, length-replicate, length-take-le,
 use Rattle.std.proofs.lemmas.List.{get_or-replicate}
 use Rattle.cyc_types.specs.Series.{never}
 use Rattle.cyc_heap.specs.declared.entry.Entry.{Entry}
-use Rattle.cyc_heap.specs.Tournament.{nowhere, entry_at, cyclic_index, free_entry, IsPlayed}
+use Rattle.cyc_heap.specs.Tournament.{nowhere, entry_at, cyclic_index, free_entry}
 use Rattle.cyc_heap.specs.Few.{spread, shown, HasNoIndex, StandsIn, HasBareLeaves, IsHeap, IsFew, IsBareFront, IsTree, IsChanged}
 
 -- whether one of the first n has this index
@@ -104,17 +104,6 @@ few_tree held leaves es long within heap low used front = record {
   front = λ _. front;
   played = λ no. absurd (false≢true (sym no));
   bare = spread_bare (take held es) leaves (length es) heap low used (omega (arith, long));
-}
-
-pub many_tree : (leaves : ℕ) (es : List Entry) → suc (length es) ≡ 2 * leaves → IsPlayed leaves es → HasBareLeaves leaves es
-    → IsTree false 0 leaves es
-many_tree leaves es long played bare = record {
-  long = long;
-  within = omega arith;
-  heap = λ no. absurd (false≢true no);
-  front = λ no. absurd (false≢true no);
-  played = λ _. played;
-  bare = bare;
 }
 
 -- the few, after a change

@@ -1,5 +1,5 @@
 -- A removal that begins or is polled, on all CPUs of the cyclic, and its answer.
-use Rattle.std.proofs.Common.{◌≡◌, ◌≢◌, ℕ, ◌-◌, ◌==◌, eq-eqb, eqb-true, true, false, List, [], ◌∷◌, Option, Some, None, refl, ap}
+use Rattle.std.proofs.Common.{◌≡◌, ◌≢◌, ℕ, ◌-◌, ◌==◌, eqb-true, true, false, List, [], ◌∷◌, Option, Some, None, refl, ap}
 use Rattle.std.proofs.Common.{sym, ◌∙◌, subst, inl, ⊎_elim, arith}
 use Rattle.std.specs.Prelude.{IsSome, is_some}
 use Rattle.std.specs.Option.{option_map_or}
@@ -157,9 +157,6 @@ open_is id c h = by c.removal refl h
     by : (r : Option ℕ) → c.removal ≡ r → option_map_or (λ busy. busy == id) r false ≡ true → c.removal ≡ Some id
     by None is e = absurd (cc)
     by (Some j) is e = is ∙ ap Some (eqb-true j id e)
-
-is_opened : (id : ℕ) (c : Cpu) → c.removal ≡ Some id → is_open id c ≡ true
-is_opened id c is = ap (λ o. option_map_or (λ busy. busy == id) o false) is ∙ eq-eqb id id refl
 
 -- where a removal is open, it is open wherever the cyclic is
 pub all_leaving : (id k : ℕ) (s : State) → Good s → (cpu_of k s).removal ≡ Some id → Leaving id s

@@ -10,7 +10,7 @@ use Rattle.cyc_types.specs.declared.level.Soft.{Soft}
 use Rattle.cyc_model.specs.Acts.{Act, events_at, calls_of, losses_of}
 use Rattle.cyc_model.specs.Cpu.{CyclicState, Cpu, Here}
 use Rattle.cyc_model.specs.Questions.{outstanding_here}
-use Rattle.cyc_model.specs.State.{State, Outcome, Placement, On, OnAll, on_number, absent, cpu_of, nothing, followed_by}
+use Rattle.cyc_model.specs.State.{State, Outcome, Placement, On, OnAll, on_number, absent, cpu_of}
 use Rattle.cyc_model.specs.Places.{placement_of}
 use Rattle.cyc_model.specs.Remove.{ended_expired, ended_lost}
 use Rattle.cyc_model.specs.Report.{expired_here, lost_here}
@@ -226,11 +226,3 @@ module _ (n : ℕ) (f : Cpu → Here) (made : ℕ → ℕ) (s : State) (within :
 -- the outcome goes on well from the machine
 abbrev pub Sure : Outcome → State → Type 0
 Sure o s = Goes o.acts s o.state × Base None o.state
-
-pub sure_then : (o : Outcome) (f : State → Outcome) (s : State) → Sure o s → (Base None o.state → Sure (f o.state) o.state)
-    → Sure (followed_by o f) s
-sure_then o f s one next = let two = next one.1 in
-    (goes_append o.acts (f o.state).acts s o.state (f o.state).state one.0 two.0, two.1)
-
-pub sure_nothing : (s : State) → Base None s → Sure (nothing s) s
-sure_nothing s b = (goes_nothing s s refl refl (λ id g. g), b)

@@ -124,16 +124,6 @@ place_put_same id place s p known =
     by (Some q) is e = ap (λ (b : Bool). Some ((cond b (record q { placement = place }) q).placement))
         (eq-eqb q.id id (entry_id id q s.placed is))
 
-pub place_put_none : (id : ℕ) (place : Placement) (s : State) → placement_of id s ≡ None
-    → placement_of id (put_at id place s) ≡ None
-place_put_none id place s none =
-    ap (option_map (λ (q : Placed). q.placement)) (entry_replaced id id place s.placed) ∙ by (entry id s.placed) none
-  where
-    by : (o : Option Placed) → option_map (λ (q : Placed). q.placement) o ≡ None
-        → option_map (λ (q : Placed). q.placement) (option_map (replaced id place) o) ≡ None
-    by None e = refl
-    by (Some q) e = absurd (cc)
-
 abbrev pub kept : Bool → Placed → List Placed → List Placed
 kept b p ps = cond b (p ∷ ps) ps
 

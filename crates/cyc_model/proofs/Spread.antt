@@ -45,21 +45,11 @@ pub record SameView (c d : Cpu) : Type 0 where
 pub view_refl : (c : Cpu) → SameView c c
 view_refl c = record { ids = λ j. refl; removal = refl; online = refl }
 
-pub view_then : (c d e : Cpu) → SameView c d → SameView d e → SameView c e
-view_then c d e one two = record {
-  ids = λ j. two.ids j ∙ one.ids j;
-  removal = two.removal ∙ one.removal;
-  online = two.online ∙ one.online;
-}
-
 -- as far as one id goes
 pub record Still (j : ℕ) (s t : State) : Type 0 where
   pub ids : (m : ℕ) → is_some (found j (cpu_of m t).cyclics) ≡ is_some (found j (cpu_of m s).cyclics)
   pub removal : (m : ℕ) → (cpu_of m t).removal ≡ (cpu_of m s).removal
   pub online : (m : ℕ) → (cpu_of m t).online ≡ (cpu_of m s).online
-
-pub still_refl : (j : ℕ) (s : State) → Still j s s
-still_refl j s = record { ids = λ m. refl; removal = λ m. refl; online = λ m. refl }
 
 pub still_then : (j : ℕ) (s t u : State) → Still j s t → Still j t u → Still j s u
 still_then j s t u one two = record {

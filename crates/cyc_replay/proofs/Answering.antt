@@ -29,7 +29,7 @@ use Rattle.cyc_replay.specs.Removal.{told_by_receipt}
 use Rattle.cyc_replay.proofs.Cpus.{cpu_at, long_shown}
 use Rattle.cyc_replay.proofs.Asking.{any_id}
 use Rattle.cyc_replay.proofs.Sums.{tally_none, sum_ended, none_in_all}
-use Rattle.cyc_replay.proofs.Half.{Half, half_parts, half_gone, stood}
+use Rattle.cyc_replay.proofs.Half.{Half, stood}
 use Rattle.cyc_replay.proofs.Ending.{none_out, own_at}
 
 -- ---- the CPUs of which a test holds
@@ -142,10 +142,6 @@ module _ (id : ℕ) (receipt : Receipt) (m : State) (u t : SystemView Tables) (h
     fresh = h.fresh;
     last = h.last ∙ sym a.last;
   }
-
-  pub forgotten_half : Half t
-  forgotten_half = half_parts (record u { records = without u.records a.position }) t
-      (half_gone u a.position hu) a.cpus a.records a.last
 
   pub all_expired : ended_expired id m ≡ receipt.sent
   all_expired = ended_sent id a.position a.own m u h hu a.here a.named ∙ sym a.counts.sent

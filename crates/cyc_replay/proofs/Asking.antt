@@ -177,9 +177,6 @@ is_refused e o is other = is
 pub later : (e : Refusal) (a b : Option Refusal) → a ≡ None → IsRefused e b → IsRefused e (or_else a b)
 later e a b none is = subst (λ o. IsRefused e (or_else o b)) (sym none) is
 
-pub none_later : (a b : Option Refusal) → a ≡ None → b ≡ None → or_else a b ≡ None
-none_later a b none rest = ap (λ o. or_else o b) none ∙ rest
-
 pub or_none : (o : Option Refusal) → or_else o None ≡ o
 or_none None = refl
 or_none (Some e) = refl

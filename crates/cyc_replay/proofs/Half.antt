@@ -17,17 +17,15 @@ use Rattle.cyc_places.proofs.Counts.{get_either}
 use Rattle.cyc_places.specs.declared.record.Placement.{Placement as RecordPlacement}
 use Rattle.cyc_places.specs.declared.record.Record.{Record}
 use Rattle.cyc_places.specs.Places.{IsRecord, HasRisingIds, ended_on, with_ended, new_record}
-use Rattle.cyc_system.specs.Cpus.{CpusView, CallOn, on, DoesAt, Works, RunningCpus}
+use Rattle.cyc_system.specs.Cpus.{CpusView, CallOn, on, DoesAt, Works}
 use Rattle.cyc_system.proofs.CpusSpots.{get_set_same, get_set_other}
 use Rattle.cyc_system.specs.System.{SystemView}
 use Rattle.cyc_system.specs.Agreement.{Agrees}
-use Rattle.cyc_system.specs.Adding.{OnlyWorks}
 use Rattle.cyc_system.proofs.Spots.{same_some, none_some}
 use Rattle.cyc_replay.specs.Shown.{shown_cpus, AllFull, AreTied, IsSystem}
 use Rattle.cyc_replay.proofs.Lists.{same_all, length_set}
 use Rattle.cyc_model.specs.Cpu.{Cpu}
-use Rattle.cyc_cpu_model.specs.Here.{here_of}
-use Rattle.cyc_replay.proofs.Cpus.{cpu_at, long_shown, done_at, DoneAt, RanAt}
+use Rattle.cyc_replay.proofs.Cpus.{long_shown, done_at, DoneAt}
 
 pub record Half (v : SystemView Tables) : Type 0 where
   pub long : length v.cpus.online ≡ length v.cpus.cpus
@@ -85,22 +83,11 @@ pub half_done : (n : ℕ) (call : CpuCall) (v : SystemView Tables) (u : CpusView
     → Half (record v { cpus = u })
 half_done n call v u h d = half_cpus v u h d.tied d.long (as_many n _ v.cpus u h.long d.long d.cpus)
 
-pub half_ran : {C : Type 0} (count : C → ℕ → ℕ) (n : ℕ) (call : CpuCall) (v : SystemView Tables) (s t : RunningCpus C Tables)
-    → Half v → s.cpus ≡ v.cpus
-    → RanAt count n call s t → Half (record v { cpus = t.cpus })
-half_ran count n call v s t h same d =
-    half_cpus v t.cpus h d.tied d.long (as_many n _ v.cpus t.cpus h.long d.long
-    (d.cpus ∙ ap (λ (u : CpusView Tables). slice_set (shown_cpus u) n (here_of n d.index call (cpu_at u n)).cpu) same))
-
 pub half_works : (way : List CallOn) (v : SystemView Tables) (u : CpusView Tables) → Half v → Works raise_tables way v.cpus u
     → Half (record v { cpus = u })
 half_works [] v u h same = half_parts v (record v { cpus = u }) h (sym same) refl refl
 half_works (c ∷ way) v u h (x, did, rest) =
     half_works way (record v { cpus = x }) u (half_done c.cpu c.call v x h (done_at c.cpu c.call v.cpus x h.long h.tied did)) rest
-
-pub half_only : (way : List CallOn) (v w : SystemView Tables) → Half v → OnlyWorks raise_tables way v w → Half w
-half_only way v w h (works, records, last) =
-    half_parts (record v { cpus = w.cpus }) w (half_works way v w.cpus h works) refl records last
 
 -- ---- its records
 

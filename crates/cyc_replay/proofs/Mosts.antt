@@ -4,9 +4,7 @@ use mathlib.Core.Logic.{dite}
 use native.Mathlib.Decide.{ℕ_discrete}
 use Rattle.cyc_core.specs.Tables.{Tables}
 use Rattle.cyc_cpu.specs.Cpu.{CpuView}
-use Rattle.cyc_cpu.specs.Soft.{raise_tables}
-use Rattle.cyc_cpu.proofs.Calling.{changes_most}
-use Rattle.cyc_system.specs.Cpus.{CpusView, IsCpu, ChangesAt, CallOn, Works, new_cpus}
+use Rattle.cyc_system.specs.Cpus.{CpusView, IsCpu, ChangesAt, new_cpus}
 use Rattle.cyc_system.proofs.CpusSpots.{one_cpu, cpu_there, cpu_beside}
 use Rattle.cyc_system.proofs.Spots.{same_some, none_some}
 use Rattle.cyc_system.specs.Agreement.{most_on}
@@ -22,11 +20,6 @@ most_changed n D v w same c all m cpu is = dite (ℕ_discrete m n)
     let one = one_cpu n cpu c.after w (subst (λ k. IsCpu k cpu w) e is) there in
     ap (λ (x : CpuView Tables). x.most) one ∙ same c.before c.after c.change ∙ all n c.before c.here)
     (λ ne. all m cpu (cpu_beside n m cpu c.after v ne (subst (λ (u : CpusView Tables). IsCpu m cpu u) c.rest is)))
-
-most_works : (way : List CallOn) (v w : CpusView Tables) → Works raise_tables way v w → AllMost v → AllMost w
-most_works [] v w same all = subst AllMost same all
-most_works (c ∷ way) v w (u, did, rest) all =
-    most_works way u w rest (most_changed c.cpu _ v u (λ x y d. changes_most raise_tables x y c.call d) did all)
 
 -- ---- a call
 

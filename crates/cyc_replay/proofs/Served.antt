@@ -1,7 +1,7 @@
 -- A soft interrupt of the machine: the tally refuses none of its calls, and the machine after it is as the definition's.
 use Rattle.std.proofs.Common.{◌≡◌, ℕ, zero, suc, ◌+◌, ◌*◌, ◌^◌, ◌<◌, ◌≤◌, ◌==◌, eqb-true, inl, inr, Bool, true, false, cond, List}
 use Rattle.std.proofs.Common.{[], ◌∷◌, length, map, find, Option, Some, None, refl, ap, sym, ◌∙◌, subst, arith}
-use Rattle.std.specs.Prelude.{⊤, nat_le, IsSome, Result, Ok, Err, slice_index_or}
+use Rattle.std.specs.Prelude.{nat_le, IsSome, Result, Ok, Err, slice_index_or}
 use Rattle.std.specs.Option.{option_map_or}
 use Rattle.std.specs.List.{slice_get, FoldsTo}
 use Rattle.std.proofs.lemmas.List.{length-map}
@@ -15,7 +15,6 @@ use Rattle.cyc_types.specs.declared.level.Soft.{Soft}
 use Rattle.cyc_types.specs.declared.level.Soft.TheVariants.{Low, Lock}
 use Rattle.cyc_types.specs.declared.refusal.Refusal.{Refusal}
 use Rattle.cyc_types.specs.declared.refusal.Refusal.TheVariants.{NoCpu}
-use Rattle.cyc_level.specs.declared.Event.{Event}
 use Rattle.cyc_level.specs.declared.Event.TheVariants.{Take, Finish, Follow}
 use Rattle.cyc_level.specs.Level.{AdmittedCyclic, SoftLevel, count_in}
 use Rattle.cyc_core.specs.Reached.{Happens}
@@ -72,13 +71,6 @@ along_same l m is fit = record {
 
 along_then : (l m k : SoftLevel) → Along l m → (Fit m → Along m k) → Along l k
 along_then l m k one next = let two = next one.fit in record { fit = two.fit; back = λ j h. one.back j (two.back j h) }
-
-AreOfSoftSide : List Event → Type 0
-AreOfSoftSide [] = ⊤
-AreOfSoftSide (Take ∷ es) = AreOfSoftSide es
-AreOfSoftSide (Finish ∷ es) = AreOfSoftSide es
-AreOfSoftSide (Follow ∷ es) = AreOfSoftSide es
-AreOfSoftSide (_ ∷ es) = ⊥
 
 took : (l m : SoftLevel) → Happens l Take m → Fit l → Along l m
 took l m did fit = record {

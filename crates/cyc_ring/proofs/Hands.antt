@@ -1,7 +1,6 @@
 -- The hand of a drain seat.
-use Rattle.std.proofs.Common.{◌≡◌, ℕ, zero, suc, ◌≤◌, List, [], ◌∷◌, ◌++◌, refl, sym, ap, ◌∙◌, arith}
+use Rattle.std.proofs.Common.{◌≡◌, ℕ, zero, suc, List, [], ◌∷◌, ◌++◌, refl, sym, ap, ◌∙◌}
 use Rattle.std.specs.Prelude.{Option, Some, None, IsSome}
-use Rattle.cyc_level.specs.Events.{hand_after_finish}
 use Rattle.ring_rule.specs.declared.DrainStep.{DrainStep}
 use Rattle.ring_rule.specs.declared.DrainStep.TheVariants.{LoadedHardBank, LoadedProducer, Took, Followed, Subtracted}
 use Rattle.ring_rule.specs.Trail.{held_entry, made_calls, id_in_entry, drainer_hand_of}
@@ -12,16 +11,6 @@ use Rattle.cyc_ring.specs.Steps.{AreFollows, DrainSteps}
 pub entry_some : (n : ℕ) → ¬ (n ≡ 0) → entry_in_hand n ≡ Some n
 entry_some zero ne = absurd (ne refl)
 entry_some (suc n) ne = refl
-
-pub laid_low : (n : ℕ) (h : Option ℕ) → n ≤ 1 → hand_after_finish n h ≡ None
-laid_low zero h low = refl
-laid_low (suc zero) h low = refl
-laid_low (suc (suc n)) h low = absurd (omega (arith, low))
-
-pub laid_high : (n : ℕ) (h : Option ℕ) → ¬ (n ≤ 1) → hand_after_finish n h ≡ h
-laid_high zero h more = absurd (more (omega arith))
-laid_high (suc zero) h more = absurd (more (omega arith))
-laid_high (suc (suc n)) h more = refl
 
 -- looks and follows change neither the hand nor what is made
 module _ (start : ℕ) (t : List DrainStep) where

@@ -7,17 +7,17 @@ use native.Mathlib.Decide.{ℕ_discrete}
 use Rattle.cyc_level.specs.Events.{hand_after_expire}
 use Rattle.cyc_level.proofs.Maps.{some_same}
 use Rattle.cyc_types.specs.Limits.{greatest_bank, cyclics}
-use Rattle.cyc_types.specs.Firing.{Stay as Known, FiringView, Admits, Loads, Raises, Marks, Polls, Expands, Looks, Learns, Sound}
-use Rattle.cyc_types.specs.Firing.{IsAdmitted, edited, seen_of, seen_in, sent_in}
+use Rattle.cyc_types.specs.Firing.{Stay as Known, FiringView, Loads, Raises, Polls, Learns, Sound}
+use Rattle.cyc_types.specs.Firing.{IsAdmitted, edited, seen_of, seen_in}
 use Rattle.cyc_types.specs.declared.firing.Raised.{Raised as Answer}
 use Rattle.cyc_types.specs.declared.firing.Raised.TheVariants as answers
 use Rattle.ring_rule.specs.declared.RaiseStep.{RaiseStep}
 use Rattle.ring_rule.specs.declared.RaiseStep.TheVariants.{Admitted, Loaded, Lost, Added, Stored, Published, Marked, Cleared}
-use Rattle.ring_rule.specs.declared.RaiseStep.TheVariants.{Switched, LoadedSoftBank}
+use Rattle.ring_rule.specs.declared.RaiseStep.TheVariants.{Switched}
 use Rattle.ring_rule.specs.declared.Setting.{Setting}
 use Rattle.ring_rule.specs.Words.{index_range, entry}
 use Rattle.cyc_level.specs.Runs.{StayCounts, one_more}
-use Rattle.ring_rule.specs.Trail.{producer_index, open_stay, seen_pend, firer_hand_of, hard_bank_of, has_followed}
+use Rattle.ring_rule.specs.Trail.{producer_index, open_stay, seen_pend, firer_hand_of, hard_bank_of}
 use Rattle.cyc_ring.specs.Rows.{HoldsStays}
 use Rattle.cyc_ring.specs.Views.{stay_with, trail_view, IsSeenSound}
 use Rattle.cyc_ring.specs.Steps.{RaiseSteps}
@@ -48,12 +48,6 @@ loaded_stay true n m None = refl
 loaded_stay true n m (Some s) = refl
 loaded_stay false n m o = refl
 
-admitted_stay : (b : Bool) (i m : ℕ) (o : Option StayCounts)
-    → stay_with (cond b 0 m) (cond b (Some record { index = i; sent = 0; lost = 0 }) o)
-    ≡ cond b (Some record { index = i; sent = 0; lost = 0; seen = 0 }) (stay_with m o)
-admitted_stay true i m o = refl
-admitted_stay false i m o = refl
-
 lost_stay : (b : Bool) (c m : ℕ) (o : Option StayCounts)
     → stay_with (cond b c m) (cond b (one_more 1 o) o)
     ≡ cond b (edited (λ s. record s { sent = s.sent + 1; lost = s.lost + 1; seen = c }) (stay_with m o)) (stay_with m o)
@@ -71,19 +65,9 @@ expired_stay true n x m None = refl
 expired_stay true n x m (Some s) = λ z. Some record { index = s.index; sent = s.sent + 1; lost = no_more s.lost z; seen = n + 1 }
 expired_stay false n x m o = refl
 
-cleared_stay : (b : Bool) (x m : ℕ) (o : Option StayCounts) → stay_with (cond b x m) (cond b None o) ≡ cond b None (stay_with m o)
-cleared_stay true x m o = refl
-cleared_stay false x m o = refl
-
 module _ (c : ℕ) (t : List RaiseStep) where
   seen_is : (id : ℕ) (st : StayCounts) → open_stay id t ≡ Some st → seen_of id (trail_view c t) ≡ seen_pend id t
   seen_is id st is = subst (λ (o : Option StayCounts). seen_in (stay_with (seen_pend id t) o) ≡ seen_pend id t) (sym is) refl
-
-  pub learns_admits : (id index : ℕ) → Learns (trail_view c t) (Admits id index) (trail_view c (Admitted id index ∷ t))
-  learns_admits id index = λ z. record (trail_view c t) {
-    stays =
-        λ j. admitted_stay (eqb j id) index (seen_pend j t) (open_stay j t) z;
-  }
 
   pub learns_loads : (id found : ℕ) (st : StayCounts) → open_stay id t ≡ Some st → found % 2 ^ 32 ≤ seen_pend id t
       → Learns (trail_view c t) (Loads id (found % 2 ^ 32)) (trail_view c (Loaded id found ∷ t))
@@ -127,38 +111,9 @@ module _ (c : ℕ) (t : List RaiseStep) where
         hand_free = is_none (sym bare z);
       }
 
-  pub learns_marks : (id pend : ℕ) (st : StayCounts) → open_stay id t ≡ Some st → pend ≤ seen_pend id t
-      → Learns (trail_view c t) (Marks id pend) (trail_view c (Marked id pend ∷ t))
-  learns_marks id pend st is low = (
-    (let e = seen_is id st is in omega (arith, e, low)),
-    λ z. record (trail_view c t) {
-      stays = λ j. loaded_stay (eqb j id) pend (seen_pend j t) (open_stay j t) z;
-      marked =
-          Some id;
-    },
-  )
-
   pub learns_kept : (id found : ℕ) (st : StayCounts) → open_stay id t ≡ Some st → 0 < found % 2 ^ 32
       → found % 2 ^ 32 ≤ seen_pend id t → Learns (trail_view c t) (Polls id None) (trail_view c (Loaded id found ∷ t))
   learns_kept id found st is some low = let l = learns_loads id found st is low in (found % 2 ^ 32, some, l.0, l.1)
-
-  pub learns_cleared : (id found : ℕ) (st : StayCounts) → open_stay id t ≡ Some st
-      → Learns (trail_view c t) (Polls id (Some record { sent = st.sent; lost = st.lost }))
-      (trail_view c (Cleared id ∷ Loaded id found ∷ t))
-  learns_cleared id found st is = (
-    ap (λ (o : Option StayCounts). sent_in (stay_with (seen_pend id t) o)) is,
-    λ z. record (trail_view c t) {
-      stays = λ j. cleared_stay (eqb j id) (found % 2 ^ 32) (seen_pend j t) (open_stay j t) z;
-      marked = None;
-    },
-  )
-
-  pub learns_expands : (bank : ℕ) → Learns (trail_view c t) (Expands bank) (trail_view c (Switched bank ∷ t))
-  learns_expands bank = refl
-
-  pub learns_looks : (found : ℕ) → (has_followed t ≡ true → found ≡ hard_bank_of t)
-      → Learns (trail_view c t) (Looks (eqb found (hard_bank_of t))) (trail_view c (LoadedSoftBank found ∷ t))
-  learns_looks found even = ((λ e. eq-eqb found (hard_bank_of t) (even e)), refl)
 
   -- the trail stays sound
   module _ (S : IsSeenSound c t) where
@@ -288,9 +243,6 @@ module _ (c : ℕ) (ids sent lost : List ℕ) (t : List RaiseStep) (F : HoldsSta
   pub the_stay : (st : StayCounts) × (open_stay id t ≡ Some st) × (st.index ≡ (a.0).index) × (st.sent ≡ (a.0).sent)
       × (st.lost ≡ (a.0).lost) × (seen_pend id t ≡ (a.0).seen)
   the_stay = admitted_stay_of c t id a.0 a.1
-
-  pub has_index : (i : ℕ) × (i < cyclics) × (get_or ids i 0 ≡ id)
-  has_index = let w = the_stay in let o = F.only id w.0 w.1 in ((w.0).index, o.0, o.1)
 
 pub free_index : (c : ℕ) (ids sent lost : List ℕ) (t : List RaiseStep) → HoldsStays ids sent lost t → (i : ℕ) → i < cyclics
     → ((j : ℕ) (s : Known) → (trail_view c t).stays j ≡ Some s → ¬ (s.index ≡ i)) → get_or ids i 0 ≡ 0

@@ -38,7 +38,3 @@ listed_more t t' listed L a n grows id = L id ∙ (more_index (eqb id a) n (open
 pub no_stay : (o : Option StayCounts) → stay_index o ≡ None → o ≡ None
 no_stay None e = refl
 no_stay (Some s) e = absurd (cc)
-
-pub some_stay : (o : Option StayCounts) (i : ℕ) → stay_index o ≡ Some i → (s : StayCounts) × (o ≡ Some s) × (s.index ≡ i)
-some_stay None i e = absurd (cc)
-some_stay (Some s) i e = (s, refl, cc)

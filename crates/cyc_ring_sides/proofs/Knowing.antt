@@ -6,7 +6,7 @@ use mathlib.Core.Logic.{dite}
 use native.Mathlib.Decide.{ℕ_discrete}
 use Rattle.cyc_level.proofs.Maps.{some_same}
 use Rattle.cyc_types.specs.Limits.{greatest_bank, cyclics}
-use Rattle.cyc_types.specs.Firing.{FiringView, Stay, Stays, at_stay, edited, Admits, Loads, Raises, Marks, Polls, Expands, Looks}
+use Rattle.cyc_types.specs.Firing.{FiringView, Stay, Stays, at_stay, edited, Admits, Loads, Raises, Marks, Polls}
 use Rattle.cyc_types.specs.Firing.{Learns, MayAdmit, MayAsk, MayRaise, MayMark, MayPoll, MayExpand}
 use Rattle.cyc_types.specs.declared.firing.Raised.{Raised}
 use Rattle.cyc_types.specs.declared.firing.Raised.TheVariants.{First, More, Lost}
@@ -249,11 +249,3 @@ module _ (ids : List ℕ) (n : ℕ) (marked : Option ℕ) (bank : ℕ) (followed
         followed_is = K.followed_is;
         free_hand = K.free_hand;
       }
-
-  pub knows_expand : (b : ℕ) → b ≤ greatest_bank → Learns v (Expands b) w → Knows ids n marked b false w
-  knows_expand b most l = subst (λ (x : FiringView). Knows ids n marked b false x) (sym l)
-      record { lists = K.lists; marked_is = K.marked_is; bank_is = (refl, most); followed_is = refl; free_hand = K.free_hand }
-
-  pub knows_look : (answer : Bool) → Learns v (Looks answer) w → Knows ids n marked bank answer w
-  knows_look answer l = subst (λ (x : FiringView). Knows ids n marked bank answer x) (sym l.1)
-      record { lists = K.lists; marked_is = K.marked_is; bank_is = K.bank_is; followed_is = refl; free_hand = K.free_hand }

@@ -1,16 +1,15 @@
 -- What the tokens of a text say: the grammar's loops, a turn at a time, under the conversion to data.
 use Rattle.std.proofs.Common.{◌≡◌, ℕ, zero, suc, ◌-◌, ◌<◌, ◌≤◌, List, [], ◌∷◌, length, Option, Some, None, refl, ap, ◌∙◌}
 use Rattle.std.proofs.Common.{arith}
-use Rattle.std.specs.Prelude.{option_map, option_and_then}
+use Rattle.std.specs.Prelude.{option_map}
 use Rattle.json.specs.Token.{Token}
 use Rattle.json.specs.Json as json
-use Rattle.json.specs.Json.{Parse, parse_map, after_end_array, read_key, items, members, value, if_last}
+use Rattle.json.specs.Json.{Parse, parse_map, after_end_array, read_key, items, members, value}
 use Rattle.json.proofs.Grammar.{items_end, items_fail, items_more, members_end, members_fail, members_more, members_no_key}
 use Rattle.json.proofs.Grammar.{value_is, value-begin_array, value-begin_object}
 use Rattle.json.proofs.Grammar.{skip_value-shorter, left}
 use Rattle.serde_json.specs.Data.{Data, array, object, Items, no_items, item, Members, no_members, put}
-use Rattle.json.specs.Lex.{tokens}
-use Rattle.serde_json.specs.Read.{of_json, of_items, of_members, converted, read}
+use Rattle.serde_json.specs.Read.{of_json, of_items, of_members, converted}
 use Rattle.cyc_script.specs.Tokens.{ended}
 
 -- ---- what was converted
@@ -167,34 +166,11 @@ pub object_flat : (ts : List Token) → value 0 (Token.begin_object ∷ ts) ≡ 
 unfolding value
 object_flat ts = refl
 
-pub string_read : (depth : ℕ) (s : List ℕ) (r : List Token) → value depth (Token.string s ∷ r) ≡ Some (json.string s, r)
-string_read depth s r = value_is depth _
-
 pub number_read : (depth : ℕ) (s : List ℕ) (r : List Token) → value depth (Token.number s ∷ r) ≡ Some (json.number s, r)
 number_read depth s r = value_is depth _
 
 -- ---- the whole text
 
-pub ended_map : {A B : Type 0} (f : A → B) (o : Option (A × List Token)) → ended o ≡ None → ended (parse_map f o) ≡ None
-ended_map f None e = refl
-ended_map f (Some (a, [])) e = absurd (cc)
-ended_map f (Some (a, t ∷ ts)) e = refl
-
 last : (x : Option Data) → ended (option_map {U = Data × List Token} (λ d. (d, [])) x) ≡ x
 last None = refl
 last (Some d) = refl
-
-not_last : (x : Option Data) (t : Token) (ts : List Token)
-    → ended (option_map {U = Data × List Token} (λ d. (d, t ∷ ts)) x) ≡ None
-not_last None t ts = refl
-not_last (Some d) t ts = refl
-
-all_read : (o : Option (json.Json × List Token))
-    → ended (converted of_json o) ≡ option_and_then of_json (option_and_then (λ p. json.if_last p.0 p.1) o)
-all_read None = refl
-all_read (Some (j, [])) = last (of_json j)
-all_read (Some (j, t ∷ ts)) = not_last (of_json j) t ts
-
--- what a text is read as is what its tokens are
-pub text_read : (text : List ℕ) → ended (converted of_json (value 127 (tokens text))) ≡ read text
-text_read text = all_read (value 127 (tokens text))

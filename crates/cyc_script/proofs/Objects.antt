@@ -2,7 +2,7 @@
 use Rattle.std.proofs.Common.{◌≡◌, ℕ, ℤ, ◌≤◌, List, [], ◌∷◌, Bool, true, false, Option, Some, None, Result, Ok, Err}
 use Rattle.std.proofs.Common.{codes, inl, inr, Ordering, Less, Equal, Greater, nat_cmp, is_eq, length, refl, ap, sym, subst}
 use Rattle.std.proofs.Common.{◌∙◌, arith}
-use Rattle.std.specs.Prelude.{◌&&◌, option_and_then, bytes_eq, nat_le, pos, negsuc, IfErr, MatchResult, OnOk, if◌then◌else◌}
+use Rattle.std.specs.Prelude.{◌&&◌, option_and_then, bytes_eq, nat_le, pos, negsuc, IfErr, MatchResult, if◌then◌else◌}
 use Rattle.std.specs.List.{list_all}
 use Rattle.std.specs.Ordering.{match_ordering}
 use Rattle.std.specs.Cmp.Lexicographic.{slice_cmp}
@@ -10,7 +10,6 @@ use Rattle.std.proofs.lemmas.Bool.{false_from_ne_true}
 use Rattle.std.proofs.lemmas.Bool.Decides.{nat_tests}
 use Rattle.std.proofs.lemmas.Map.Text.{is_eq-slice_cmp}
 use Rattle.std.proofs.lemmas.Slice.Eq.{bytes_eq-Decides}
-use Rattle.json.specs.Json.{parse_map}
 use Rattle.json.specs.Token.{Token}
 use Rattle.serde_json.specs.Data.{Data, object, Members, no_members, member, put}
 use Rattle.serde_json.specs.Find.{as_array, get_member}
@@ -22,14 +21,14 @@ use Rattle.cyc_script.specs.declared.step.Step.{Step}
 use Rattle.cyc_script.specs.declared.stop.Stop.{Stop}
 use Rattle.cyc_script.specs.declared.stop.Stop.TheVariants.{NoJson}
 use Rattle.cyc_script.specs.declared.stop.Stop.TheVariants as stop
-use Rattle.cyc_script.specs.Answers.{Answers, Fails, refusal_of_text}
+use Rattle.cyc_script.specs.Answers.{Answers, Fails}
 use Rattle.cyc_types.specs.Limits.{most_cpus}
 use Rattle.cyc_script.specs.Parameters.{at_most, whole_in}
 use Rattle.cyc_script.specs.Script.{Content, number_between, is_key, keys_of, has_keys, cpus_in, cpus_of, ceiling_in, ceiling_of}
-use Rattle.cyc_script.specs.Script.{values_of, within_limit, content_of, formed, parsed}
+use Rattle.cyc_script.specs.Script.{values_of, within_limit, content_of, formed}
 use Rattle.cyc_script.specs.Steps.{first_context, steps_of}
-use Rattle.cyc_script.specs.Tokens.{AreWhole, BeginsWith, Denies, HasObject, HasValue, IsObject, content_in, ended, if_over}
-use Rattle.cyc_script.specs.Tokens.{object_in, steps_in, steps_with}
+use Rattle.cyc_script.specs.Tokens.{AreWhole, Denies, IsObject, ended, if_over}
+use Rattle.cyc_script.specs.Tokens.{steps_in, steps_with}
 use Rattle.cyc_script.specs.WellFormed.{IsWellFormed}
 use Rattle.cyc_script.specs.Words.{list_of, ◌>>=◌}
 
@@ -255,11 +254,6 @@ module _ (o : Object) (ms : Members) (is : IsObject o ms) where
 
 -- ---- the whole text
 
-pub denied_content : (json : Option Data) (stop : Stop) → Denies (json ≡ None) stop
-    → Fails Memory (refusal_of_text stop) (content_in (parsed json))
-denied_content json NoJson none = inr (ap (λ d. content_in (parsed d)) none)
-denied_content json stop.Memory told = inl refl
-
 pub over : {A : Type 0} (a : A) (read : Option (A × List Token)) (rest : List Token) → read ≡ Some (a, rest) → rest ≡ []
     → ended read ≡ Some a
 over a read rest e last = ap ended e ∙ ap (if_over a) last
@@ -285,14 +279,3 @@ module _ {A : Type 0} (read : Option (A × List Token)) (a : A) (rest : List Tok
       → IfErr r (Denies (ended read ≡ None))
   more_left (Ok u) last = tt
   more_left (Err e) more = rw more.0 (not_over a read rest is more.1)
-
-pub value_last : (depth : ℕ) (tokens rest : List Token) (d : Data) → BeginsWith depth tokens d rest → (r : Result Unit Stop)
-    → MatchResult r (λ _. rest ≡ []) (λ stop. (stop ≡ NoJson) × ¬ (rest ≡ [])) → OnOk r (HasValue depth tokens [])
-value_last depth tokens rest d begins (Ok u) last = (d, subst (BeginsWith depth tokens d) last begins)
-value_last depth tokens rest d begins (Err e) more = tt
-
-pub all_object : (tokens rest : List Token) (o : Object) → HasObject tokens rest o → (r : Result Unit Stop)
-    → MatchResult r (λ _. rest ≡ []) (λ stop. (stop ≡ NoJson) × ¬ (rest ≡ []))
-    → OnOk r ((ms : Members) × (object_in tokens ≡ Some (object ms)) × IsObject o ms)
-all_object tokens rest o has (Ok u) last = (has.0, over (object has.0) _ rest (ap (parse_map object) has.1) last, has.2)
-all_object tokens rest o has (Err e) more = tt

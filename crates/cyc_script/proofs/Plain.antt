@@ -4,7 +4,7 @@ use Rattle.std.proofs.Common.{Result, Ok, Err, refl, ap, sym, ◌∙◌, arith}
 use Rattle.std.specs.Prelude.{option_and_then, if◌then◌else◌, nat_le}
 use Rattle.std.proofs.lemmas.List.{map-append, length-map}
 use Rattle.serde_json.specs.Data.{Num, Data, null, boolean, number, string, array, object}
-use Rattle.serde_json.specs.Find.{as_array, as_i64, as_str, of_integer}
+use Rattle.serde_json.specs.Find.{as_array, as_i64, as_str}
 use Rattle.serde_json.specs.View.{items_of}
 use Rattle.cyc_types.specs.Series.{never}
 use Rattle.cyc_script.specs.declared.cause.Cause.{Cause}
@@ -60,13 +60,6 @@ plain_whole (object ms) = refl
 pub plain_between : (least most : ℕ) (d : Data) → number_between least most (plain_data d) ≡ number_between least most d
 plain_between least most d =
     ap (λ z. option_and_then (λ n. if nat_le least n then Some n else None) (option_and_then (at_most most) z)) (plain_whole d)
-
--- a whole number is plain
-pub whole_plain : (z : ℤ) → as_i64 (of_integer z) ≡ Some z → plain_data (number (of_integer z)) ≡ number (of_integer z)
-whole_plain z e = ap (plain_number (of_integer z)) e
-
-pub other_plain : (n : Num) → as_i64 n ≡ None → plain_data (number n) ≡ null
-other_plain n e = ap (plain_number n) e
 
 name : (d : Data) → name_of (plain_data d) ≡ name_of d
 unfolding name_of

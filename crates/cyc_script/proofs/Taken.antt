@@ -24,7 +24,7 @@ use Rattle.cyc_script.specs.Limits.{most_steps}
 use Rattle.cyc_script.specs.Steps.{Fits, first_context, step_of, steps_of}
 use Rattle.cyc_script.specs.Script.{formed}
 use Rattle.cyc_script.specs.Tokens.{BeginsWith, BeginsItems, Denies, HasItems, HasNoItems, HasSteps, IsRefusedStep, RefusesOn}
-use Rattle.cyc_script.specs.Tokens.{AreWhole, ReadsStep, steps_with, values_on, values_read}
+use Rattle.cyc_script.specs.Tokens.{ReadsStep, steps_with, values_on, values_read}
 use Rattle.cyc_script.specs.WellFormed.{IsWellFormed, names_fit, names_after_all, moments_fit, moment_after_all, name_fits}
 use Rattle.cyc_script.specs.WellFormed.{moment_fits}
 use Rattle.cyc_script.specs.Words.{list_of, ◌>>=◌}
@@ -73,11 +73,6 @@ pub all_taken : (read : Option (Items × List Token)) (k : ℕ) (result : Result
 all_taken None k result r e = absurd (cc)
 all_taken (Some p) k result r e =
     (p.0, ap (λ rest. Some (p.0, rest)) (ap left_over e), omega (arith, ap counted e), ap (kept result) e)
-
-pub none_taken : (steps : List Step) (before : Context) (read left : Option (Items × List Token))
-    → taken [] first_context read ≡ taken steps before left → left ≡ None → read ≡ None
-none_taken steps before None left same none = refl
-none_taken steps before (Some p) left same none = let e = same ∙ ap (taken steps before) none in absurd (cc)
 
 -- ---- what was denied
 
@@ -283,8 +278,3 @@ pub takes_one : (refusal : Option Refusal) (Takes : Type 0) (Refuses : Refusal �
     → MatchOption refusal Takes Refuses → Takes
 takes_one None Takes Refuses none takes = takes
 takes_one (Some refusal) Takes Refuses none refuses = absurd (cc)
-
-pub refused_whole : (refusal : Option Refusal) (steps : List Step) (names : List (List ℕ)) → is_some refusal ≡ true
-    → AreWhole (steps_with refusal steps names)
-refused_whole None steps names some = absurd (cc)
-refused_whole (Some refusal) steps names some = tt

@@ -1,16 +1,14 @@
 -- What a loop over the steps of a script can rest on.
 use Rattle.std.proofs.Common.{◌≡◌, ℕ, ◌+◌, ◌<◌, ◌≤◌, List, [], ◌∷◌, ◌++◌, Bool, true, false, length, drop, get_or, refl, ap}
 use Rattle.std.proofs.Common.{sym, ◌∙◌, arith}
-use Rattle.std.specs.Prelude.{◌&&◌, All}
-use Rattle.std.proofs.lemmas.Bool.Decides.{nat_tests}
+use Rattle.std.specs.Prelude.{◌&&◌}
 use Rattle.std.proofs.lemmas.List.{at_drop_more}
-use Rattle.std.proofs.lemmas.List.Elements.{All-nil, All-cons}
 use Rattle.cyc_types.proofs.Facts.{and_first}
 use Rattle.cyc_script.specs.declared.step.Step.{Step}
 use Rattle.cyc_script.specs.declared.step.Step.TheVariants.{Add, Omni, Bind, Unbind, Reprogram, Remove, Advance, Softint, Juggle}
 use Rattle.cyc_script.specs.declared.step.Step.TheVariants.{Offline, Online, Suspend, Resume}
 use Rattle.cyc_script.specs.WellFormed.{names_after, names_after_all, name_fits, names_fit, moment_after, moment_after_all}
-use Rattle.cyc_script.specs.WellFormed.{moment_fits, moments_fit, IsWellFormed}
+use Rattle.cyc_script.specs.WellFormed.{moment_fits, moments_fit}
 
 and_second : (a b : Bool) → (a && b) ≡ true → b ≡ true
 and_second true b e = e
@@ -45,23 +43,6 @@ moments_fit_push now (s ∷ steps) step all one =
 
 -- ---- the step at an index, and those after it
 
-pub names_after_all_next : (names : ℕ) (steps : List Step) (i : ℕ) (step : Step) → i < length steps → step ≡ get_or steps i step
-    → names_after_all names (drop i steps) ≡ names_after_all (names_after names step) (drop (i + 1) steps)
-names_after_all_next names steps i step h is = at_drop_more (names_after_all names) steps i step h
-    ∙ ap (λ s. names_after_all (names_after names s) (drop (i + 1) steps)) (sym is)
-
-names_fit_at : (names : ℕ) (steps : List Step) (i : ℕ) (step : Step) → i < length steps → step ≡ get_or steps i step
-    → names_fit names (drop i steps) ≡ (name_fits names step && names_fit (names_after names step) (drop (i + 1) steps))
-names_fit_at names steps i step h is = at_drop_more (names_fit names) steps i step h
-    ∙ ap (λ s. name_fits names s && names_fit (names_after names s) (drop (i + 1) steps)) (sym is)
-
-pub names_fit_next : (names : ℕ) (steps : List Step) (i : ℕ) (step : Step) → i < length steps → step ≡ get_or steps i step
-    → names_fit names (drop i steps) ≡ true → (name_fits names step ≡ true)
-    × (names_fit (names_after names step) (drop (i + 1) steps) ≡ true)
-names_fit_next names steps i step h is all =
-    let here = sym (names_fit_at names steps i step h is) ∙ all in
-    (and_first _ _ here, and_second (name_fits names step) _ here)
-
 moments_fit_at : (now : ℕ) (steps : List Step) (i : ℕ) (step : Step) → i < length steps → step ≡ get_or steps i step
     → moments_fit now (drop i steps) ≡ (moment_fits now step && moments_fit (moment_after now step) (drop (i + 1) steps))
 moments_fit_at now steps i step h is = at_drop_more (moments_fit now) steps i step h
@@ -92,26 +73,6 @@ names_after_at_most names (Online cpu) = omega arith
 names_after_at_most names Suspend = omega arith
 names_after_at_most names Resume = omega arith
 
-pub names_after_at_least : (names : ℕ) (step : Step) → names ≤ names_after names step
-names_after_at_least names (Add a) = omega arith
-names_after_at_least names (Omni a) = omega arith
-names_after_at_least names (Bind b) = omega arith
-names_after_at_least names (Unbind n) = omega arith
-names_after_at_least names (Reprogram r) = omega arith
-names_after_at_least names (Remove n) = omega arith
-names_after_at_least names (Advance m) = omega arith
-names_after_at_least names (Softint s) = omega arith
-names_after_at_least names (Juggle cpu) = omega arith
-names_after_at_least names (Offline cpu) = omega arith
-names_after_at_least names (Online cpu) = omega arith
-names_after_at_least names Suspend = omega arith
-names_after_at_least names Resume = omega arith
-
-pub names_after_all_at_least : (names : ℕ) (steps : List Step) → names ≤ names_after_all names steps
-names_after_all_at_least names [] = omega arith
-names_after_all_at_least names (step ∷ steps) =
-    omega (arith, names_after_at_least names step, names_after_all_at_least (names_after names step) steps)
-
 -- the name of a step, if it has one, is below this number
 abbrev pub NameBelow : ℕ → Step → Type 0
 NameBelow names (Add a) = a.name < names
@@ -121,30 +82,3 @@ NameBelow names (Unbind name) = name < names
 NameBelow names (Reprogram r) = r.name < names
 NameBelow names (Remove name) = name < names
 NameBelow names _ = Unit {0}
-
-name_below : (names all : ℕ) (step : Step) → name_fits names step ≡ true → names_after names step ≤ all → NameBelow all step
-name_below names all (Add a) e h = grind (arith, nat_tests)
-name_below names all (Omni a) e h = grind (arith, nat_tests)
-name_below names all (Bind b) e h = grind (arith, nat_tests)
-name_below names all (Unbind name) e h = grind (arith, nat_tests)
-name_below names all (Reprogram r) e h = grind (arith, nat_tests)
-name_below names all (Remove name) e h = grind (arith, nat_tests)
-name_below names all (Advance moment) e h = tt
-name_below names all (Softint s) e h = tt
-name_below names all (Juggle cpu) e h = tt
-name_below names all (Offline cpu) e h = tt
-name_below names all (Online cpu) e h = tt
-name_below names all Suspend e h = tt
-name_below names all Resume e h = tt
-
-names_below : (names all : ℕ) (steps : List Step) → names_fit names steps ≡ true → names_after_all names steps ≤ all
-    → All (NameBelow all) steps
-names_below names all [] e h = All-nil (NameBelow all)
-names_below names all (step ∷ steps) e h =
-    let later : names_after names step ≤ all = omega (arith, h, names_after_all_at_least (names_after names step) steps) in
-    All-cons (NameBelow all) step steps (name_below names all step (and_first _ _ e) later)
-    (names_below (names_after names step) all steps (and_second (name_fits names step) _ e) h)
-
--- each name that a step of a script has is one of the script's names
-pub all_names_below : (steps : List Step) (names : ℕ) → IsWellFormed steps names → All (NameBelow names) steps
-all_names_below steps names w = names_below 0 names steps w.names_in_order (omega (arith, w.names_introduced))

@@ -62,10 +62,6 @@ way_finishes hand (s ∷ ran) rest =
     ∙ ap (λ ys. s.id ∷ ys) (way_finishes (hand_after s.answer (Some s.id)) ran rest)
 
 module _ {D C : Type 0} (draining : Drain D) (handler : Handler C) where
-  -- before the first call
-  pub serves_none : (a : SoftSide D C) → Serves draining handler a [] [] a
-  serves_none a = record { way = refl; called_all = refl; counted = λ q. omega arith; finished = λ q. omega arith }
-
   -- a look after the calls
   pub serves_look : (a : SoftSide D C) (ran : List Served) (b : SoftSide D C) (look : List DrainCall) (d : D)
       → Serves draining handler a ran [] b → ((q : ℕ) → draining.made d q ≡ draining.made b.drain q)

@@ -17,7 +17,7 @@ use Rattle.cyc_cpu.specs.Acts.{Sides, AreRaises}
 use Rattle.cyc_cpu.specs.Made.{Makes, HasCounts}
 use Rattle.cyc_cpu.specs.Quiet.{LoadsThenLooks}
 use Rattle.cyc_types.specs.Expirations as expire
-use Rattle.cyc_types.specs.Expirations.{Expiration, expirations, times_of, all_after}
+use Rattle.cyc_types.specs.Expirations.{Expiration, all_after}
 use Rattle.cyc_types.specs.Timers.{Timer}
 use Rattle.cyc_types.specs.Pairs.{EachTwo}
 use Rattle.cyc_agreement.specs.Rows.{Cyclic, timers}
@@ -290,10 +290,6 @@ module _ {C R : Type 0} (handler : Calls C) (firing : Raise R) where
 
   pub all_same : (xs : List (CpuView R)) → AllComeBack firing.view xs xs
   all_same xs = each_same _ (back_same firing.view) xs
-
-  pub all_then : (xs ys zs : List (CpuView R)) → AllComeBack firing.view xs ys → AllComeBack firing.view ys zs
-      → AllComeBack firing.view xs zs
-  all_then xs ys zs a b = each_then _ _ _ (back_then firing.view) xs ys zs a b
 
   pub all_of : (xs ys : List (CpuView R)) → length ys ≡ length xs
       → ((n : ℕ) (x y : CpuView R) → slice_get xs n ≡ Some x → slice_get ys n ≡ Some y → ComesBack firing.view x y)

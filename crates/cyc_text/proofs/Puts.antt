@@ -1,7 +1,7 @@
 -- One write after another.
 use Rattle.std.proofs.Common.{◌≡◌, ℕ, List, [], ◌++◌, Option, Some, None, Result, Ok, Err, refl, ap, sym, ◌∙◌, append_assoc}
 use Rattle.std.proofs.Common.{append-nil}
-use Rattle.std.specs.Io.KnownBytes.{Appends, Keeps}
+use Rattle.std.specs.Io.KnownBytes.{Appends}
 use Rattle.std.proofs.KnownBytes.{Appends-trans}
 use Rattle.cyc_text.specs.Puts.{AppendsPrefix, Puts}
 
@@ -40,8 +40,3 @@ pub broke : (old mid new : Option (List ℕ)) (all done rest piece others : List
     → Appends old mid done → AppendsPrefix mid new piece → AppendsPrefix old new all
 broke old mid new all done rest piece others split next p q =
     rw (split, next) (prefix_more old mid new done (piece ++ others) p (stops mid new piece others q))
-
-pub kept_is_prefix : (mid new : Option (List ℕ)) (text : List ℕ) → Keeps mid new → AppendsPrefix mid new text
-kept_is_prefix None new text k = ([], text, refl, tt)
-kept_is_prefix (Some xs) None text k = absurd k
-kept_is_prefix (Some xs) (Some ys) text k = ([], text, refl, k ∙ sym (append-nil xs))

@@ -28,10 +28,6 @@ cond_same false x = refl
 
 -- ---- lists of events, one after another
 
-pub told_more : (xs ys : List Event) (t : Told) → told_by (xs ++ ys) t ≡ told_by ys (told_by xs t)
-told_more [] ys t = refl
-told_more (x ∷ xs) ys t = told_more xs ys (told_after x t)
-
 pub events_more : (id : ℕ) (xs ys : List LeadCall) (t : Told)
     → told_by (events_in id (xs ++ ys)) t ≡ told_by (events_in id ys) (told_by (events_in id xs) t)
 events_more id [] ys t = refl

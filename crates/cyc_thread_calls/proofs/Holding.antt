@@ -33,11 +33,6 @@ pub receipt_none : (id : ℕ) (xs ys : List LeadCall) → receipt_in id xs ≡ N
     → receipt_in id (xs ++ ys) ≡ None
 receipt_none id xs ys a b = receipt_on id xs ys ∙ ap (λ o. first_ring o (receipt_in id ys)) a ∙ b
 
-receipt_came : (id : ℕ) (xs : List LeadCall) (c : LeadCall) (r : Receipt) → receipt_in id xs ≡ None → receipt_of id c ≡ Some r
-    → receipt_in id (xs ++ c ∷ []) ≡ Some r
-receipt_came id xs c r a b = receipt_on id xs (c ∷ []) ∙ ap (λ o. first_ring o (receipt_in id (c ∷ []))) a
-    ∙ ap (λ o. first_ring o None) b
-
 -- what a name has is what the calls so far told of the id that it was given
 abbrev pub Fits : Option ℕ → List LeadCall → Named → Type 0
 Fits given way Nothing = given ≡ None

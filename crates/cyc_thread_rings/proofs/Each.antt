@@ -40,13 +40,6 @@ each_of_map P f [] (y ∷ ys) e = absurd e
 each_of_map P f (x ∷ xs) [] e = absurd e
 each_of_map P f (x ∷ xs) (y ∷ ys) e = (e.0, each_of_map P f xs ys e.1)
 
-pub each_to_map : {A B C : Type 0} (P : A → C → Type 0) (f : B → C) (xs : List A) (ys : List B) → EachTwo (λ x y. P x (f y)) xs ys
-    → EachTwo P xs (map f ys)
-each_to_map P f [] [] e = tt
-each_to_map P f [] (y ∷ ys) e = absurd e
-each_to_map P f (x ∷ xs) [] e = absurd e
-each_to_map P f (x ∷ xs) (y ∷ ys) e = (e.0, each_to_map P f xs ys e.1)
-
 -- one after another
 pub each_then : {A B C : Type 0} (P : A → B → Type 0) (Q : B → C → Type 0) (S : A → C → Type 0)
     → ((x : A) (y : B) (z : C) → P x y → Q y z → S x z) →

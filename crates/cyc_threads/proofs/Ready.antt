@@ -14,7 +14,6 @@ use Rattle.cyc_system_laws.proofs.Pieces.{made_of}
 use Rattle.cyc_system_workers.specs.declared.side.SystemSide.{SystemSide}
 use Rattle.cyc_threads.specs.declared.progress.Progress.{Progress}
 use Rattle.cyc_threads.specs.StepCalls.{CallsFor, Poll, Polls, Waits, Fires, Advances, HasLeads}
-use Rattle.cyc_threads.specs.Steps.{TakesSteps}
 use Rattle.cyc_threads.proofs.Worded.{does_by}
 use Rattle.cyc_threads.specs.Words.{DoesStep, Begins, TakesStep, waits_first}
 
@@ -67,7 +66,3 @@ module _ {C R : Type 0} (handler : Calls C) (firing : Raise R) where
 
   pub step_ready : (s : Progress R C) (x : Step) (t : Progress R C) → TakesStep handler firing s x t → HasLeads s → HasLeads t
   step_ready s x t (u, b, d) ready = does_ready x u t d (begins_ready (waits_first x) s u b ready)
-
-  pub steps_ready : (all : List Step) (s t : Progress R C) → TakesSteps handler firing s all t → HasLeads s → HasLeads t
-  steps_ready [] s t e ready = same_ready s t (sym e) ready
-  steps_ready (x ∷ all) s t (u, d, rest) ready = steps_ready all u t rest (step_ready s x u d ready)

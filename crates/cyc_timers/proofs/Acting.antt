@@ -20,11 +20,6 @@ pub losses_on : (way more : List FiringCall) → way_losses (way ++ more) ≡ wa
 losses_on [] more = omega arith
 losses_on (call ∷ way) more = omega (arith, losses_on way more)
 
--- no raise
-pub no_raises : (way : List FiringCall) → AreRaises [] way → way ≡ []
-no_raises [] a = refl
-no_raises (call ∷ way) a = absurd a
-
 module _ {C R : Type 0} (called : C → ℕ → C → Type 0) (count : C → ℕ → ℕ) (firing : Raise R) where
   pub acts_more : (hs ks ws hs' ks' ws' hs'' ks'' ws'' : List ℕ) (s m t : Sides C R)
       (a : Acts (acting called count firing) hs ks ws s m) (b : Acts (acting called count firing) hs' ks' ws' m t) →

@@ -1,10 +1,9 @@
 -- What becomes of a stay over a run in which no stay of its id begins or ends: it goes on, with the raises and losses of the run.
-use Rattle.std.proofs.Common.{◌≡◌, ℕ, ◌+◌, eqb, cond, Bool, true, false, List, [], ◌∷◌, refl, sym, ap, subst, ◌∙◌, arith}
+use Rattle.std.proofs.Common.{◌≡◌, ℕ, ◌+◌, eqb, cond, Bool, true, false, refl, sym, ap, subst, arith}
 use Rattle.std.specs.Prelude.{Option, Some, None}
-use Rattle.cyc_types.specs.declared.firing.Raise.{Ghosts as Raise}
 use Rattle.cyc_types.specs.Firing.{FiringView, FiringCall, Admits, Loads, Raises, Marks, Polls, Expands, Looks, Learns, Stay}
 use Rattle.cyc_types.specs.Firing.{edited, edit_stay}
-use Rattle.cyc_types.specs.Runs.{Goes, raises_in_call, losses_in_call, stay_changes_of, raised_by, lost_by, turned_by}
+use Rattle.cyc_types.specs.Runs.{raises_in_call, losses_in_call, stay_changes_of}
 use Rattle.cyc_types.specs.declared.firing.Raised.TheVariants.{First, More, Lost}
 
 -- a stay goes on with so many raises and losses more
@@ -68,14 +67,3 @@ learns_stay id v w (Expands bank) s l e here =
     subst (λ (x : FiringView). GoesOn s 0 0 (x.stays id)) (sym l) (s, here, refl, omega arith, omega arith)
 learns_stay id v w (Looks answer) s l e here =
     subst (λ (x : FiringView). GoesOn s 0 0 (x.stays id)) (sym l.1) (s, here, refl, omega arith, omega arith)
-
--- a whole run
-pub goes_stay : {R : Type 0} (firing : Raise R) (id : ℕ) (e f : R)
-    (way : List FiringCall) (s : Stay) →
-    Goes firing e way f → turned_by id way ≡ 0 → (firing.view e).stays id ≡ Some s
-    → GoesOn s (raised_by id way) (lost_by id way) ((firing.view f).stays id)
-goes_stay firing id e f [] s g none here = (s, ap (λ x. (firing.view x).stays id) (sym g) ∙ here, refl, omega arith, omega arith)
-goes_stay firing id e f (call ∷ way) s (mid, taught, rest) none here =
-    let one = learns_stay id (firing.view e) (firing.view mid) call s taught.1 (omega (arith, none)) here in
-    let more = goes_stay firing id mid f way one.0 rest (omega (arith, none)) one.1 in
-    (more.0, more.1, more.2 ∙ one.2, omega (arith, more.3, one.3), omega (arith, more.4, one.4))

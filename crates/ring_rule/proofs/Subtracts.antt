@@ -48,10 +48,6 @@ laid_held zero e h x = absurd (cc)
 laid_held (suc zero) e h x = absurd (cc)
 laid_held (suc (suc n)) e h x = x
 
-once_some : (n : ℕ) → one_if_any n ≡ 0 → n ≡ 0
-once_some zero h = refl
-once_some (suc n) h = absurd (omega arith)
-
 module _ (k : Setting) (small : k.ceiling < 2 ^ 32) (ws : List ℕ) (rs : List RaiseStep) (ds : List DrainStep) (l : SoftLevel)
     (N : RingNow k ws rs ds l) (e : ℕ) (has : held_entry ds ≡ Some e) where
   abbrev id : ℕ

@@ -31,19 +31,6 @@ keeps_none n s = record {
   records = λ id. record { known = refl; level = refl; everywhere = refl };
 }
 
-pub keeps_both : {R : Type 0} (n : ℕ) (s t u : SystemView R) → KeepsCyclics n s t → KeepsCyclics n t u → KeepsCyclics n s u
-keeps_both n s t u a b = record {
-  counts = λ id. ((b.counts id).0 ∙ (a.counts id).0, (b.counts id).1 ∙ (a.counts id).1);
-  stays = λ id single f. b.stays id ((a.records id).everywhere ∙ single) f ∙ a.stays id single f;
-  components = λ id m everywhere apart. b.components id m ((a.records id).everywhere ∙ everywhere) apart
-      ∙ a.components id m everywhere apart;
-  records = λ id. record {
-    known = (b.records id).known ∙ (a.records id).known;
-    level = (b.records id).level ∙ (a.records id).level;
-    everywhere = (b.records id).everywhere ∙ (a.records id).everywhere;
-  };
-}
-
 -- ---- a soft interrupt
 
 module _ {C : Type 0} (handler : Calls C) (n budget : ℕ) (level : Soft) (answer : Result Ran SoftFault)
