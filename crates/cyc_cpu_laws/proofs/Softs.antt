@@ -23,7 +23,7 @@ use Rattle.cyc_soft.specs.declared.SoftRefused.{SoftRefused}
 use Rattle.cyc_cpu.specs.Cpu.{CpuView, Running}
 use Rattle.cyc_cpu.specs.Moving.{IsSettled}
 use Rattle.cyc_cpu.specs.Soft.{drain_tables, raise_tables, firing_at, end_at, Interrupts, SoftKept}
-use Rattle.cyc_cpu_laws.proofs.Staying.{IsQuiet, lock_quiet, low_quiet, settled_of}
+use Rattle.cyc_cpu_laws.proofs.Staying.{KeepSettled, IsQuiet, lock_quiet, low_quiet, settled_of}
 
 finished_count : (b : Bool) (o : Option AdmittedCyclic) → seen_in (option_map stay_of o) ≡ 0 →
     seen_in (option_map stay_of (cond b (option_map cyclic_after_finish o) o)) ≡ 0
@@ -83,6 +83,9 @@ module _ {C : Type 0} (handler : Calls C) where
   interrupts_settle soft budget (Err e) s t (did, kept) h =
       let (ran, at, many, few, serves, may, same, held) = did.refused in served soft s.cpu t.cpu _ serves.way kept h
 
-  pub interrupts_size : (soft : Soft) (budget : ℕ) (answer : Result Ran SoftRefused) (s t : Running C Tables) →
+  interrupts_size : (soft : Soft) (budget : ℕ) (answer : Result Ran SoftRefused) (s t : Running C Tables) →
       Interrupts handler soft budget answer s t → t.cpu.size ≡ s.cpu.size
   interrupts_size soft budget answer s t (serves, kept) = kept.kept.size
+
+  pub interrupts_settled : KeepSettled raise_tables (Interrupts handler)
+  interrupts_settled = record { sizes = interrupts_size; settles = interrupts_settle }

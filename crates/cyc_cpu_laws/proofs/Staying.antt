@@ -20,12 +20,26 @@ use Rattle.cyc_cpu.specs.declared.removing.Removal.TheVariants.{Done, Kept}
 use Rattle.cyc_cpu.specs.Cpu.{CpuView, Running, WhyNoRoom, WhyNotReserved}
 use Rattle.cyc_cpu.specs.Removal.{calls_at, Opens, WhyNotBegun}
 use Rattle.cyc_cpu.specs.Moving.{IsSettled, WhyNotTaken}
-use Rattle.cyc_cpu.specs.Calls.{Suspend, Resume}
+use Rattle.cyc_cpu.specs.Calls.{Suspend, Resume, no_interrupts}
 use Rattle.cyc_cpu.specs.Calls.{CpuCall, CpuChanges, CpuDoes, Fire, SoftInterrupt, Add, Place, Reprogram, AskPending, AskTotals}
 use Rattle.cyc_cpu.specs.Calls.{AskRoom, Reserve, Widen, BeginRemove, PollRemove, TakeNow, AskSettled}
 use Rattle.cyc_cpu_laws.specs.Runs.{CpuSteps}
 use Rattle.cyc_cpu_laws.specs.Settled.{IsNoFire, IsUntil, IsPutOff}
 use Rattle.cyc_cpu_laws.proofs.Stills.{IsStill, AreStill, changes_still}
+
+-- what soft interrupts among the calls leave: the size, and a CPU settled
+pub record KeepSettled {C R : Type 0} (firing : Raise R)
+    (interrupts : Soft → ℕ → Result Ran SoftRefused → Running C R → Running C R → Type 0) : Type 0 where
+  pub sizes : (soft : Soft) (budget : ℕ) (answer : Result Ran SoftRefused) (s t : Running C R)
+      → interrupts soft budget answer s t → t.cpu.size ≡ s.cpu.size
+  pub settles : (soft : Soft) (budget : ℕ) (answer : Result Ran SoftRefused) (s t : Running C R)
+      → interrupts soft budget answer s t → IsSettled firing.view s.cpu → IsSettled firing.view t.cpu
+
+pub none_settled : {C R : Type 0} (firing : Raise R) → KeepSettled {C = C} firing no_interrupts
+none_settled firing = record {
+  sizes = λ soft budget answer s t h. absurd h;
+  settles = λ soft budget answer s t h k. absurd h;
+}
 
 -- nothing is outstanding at an end, and its soft side has followed
 abbrev pub IsQuiet : FiringView → Type 0
@@ -217,11 +231,26 @@ module _ {R : Type 0} (firing : Raise R) where
   put_off v w (BeginRemove id (Ok (Kept kept))) s d u = opens_not id kept v w d.1 s
   put_off v w call s d u = absurd u
 
+  -- a run each of whose steps makes no size smaller, and leaves a CPU of the same size settled where it is no fire
+  module _ {S : Type 0} (cpu : S → CpuView R) (Step : S → CpuCall → S → Type 0)
+      (grow : (s t : S) (call : CpuCall) → Step s call t → (cpu s).size ≤ (cpu t).size)
+      (settle : (s t : S) (call : CpuCall) → IsSettled firing.view (cpu s) → IsNoFire call → (cpu t).size ≡ (cpu s).size
+      → Step s call t → IsSettled firing.view (cpu t)) where
+    pub steps_grow : (s t : S) (way : List CpuCall) → FoldsTo Step s way t → (cpu s).size ≤ (cpu t).size
+    steps_grow s t [] run = (let e = ap (λ (x : S). (cpu x).size) run in omega (arith, e))
+    steps_grow s t (call ∷ way) (m, d, rest) = (let a = grow s m call d in let b = steps_grow m t way rest in
+        omega (arith, a, b))
+
+    pub steps_settle : (s t : S) (way : List CpuCall) → IsSettled firing.view (cpu s) → All IsNoFire way
+        → (cpu t).size ≡ (cpu s).size → FoldsTo Step s way t → IsSettled firing.view (cpu t)
+    steps_settle s t [] h calm same run = subst (λ (x : S). IsSettled firing.view (cpu x)) run h
+    steps_settle s t (call ∷ way) h calm same (m, d, rest) =
+        let a = grow s m call d in let b = steps_grow m t way rest in
+        steps_settle m t way (settle s m call h (calm 0 call (omega arith)) (omega (arith, a, b, same)) d)
+        (λ k e low. calm (suc k) e (omega (arith, low))) (omega (arith, a, b, same)) rest
+
   module _ {C : Type 0} (handler : Calls C) (interrupts : Soft → ℕ → Result Ran SoftRefused → Running C R → Running C R → Type 0)
-      (sizes : (soft : Soft) (budget : ℕ) (answer : Result Ran SoftRefused) (s t : Running C R) →
-      interrupts soft budget answer s t → t.cpu.size ≡ s.cpu.size)
-      (settles : (soft : Soft) (budget : ℕ) (answer : Result Ran SoftRefused) (s t : Running C R) →
-      interrupts soft budget answer s t → IsSettled firing.view s.cpu → IsSettled firing.view t.cpu) where
+      (keep : KeepSettled firing interrupts) where
     abbrev One : Running C R → CpuCall → Running C R → Type 0
     One = CpuDoes handler firing interrupts
 
@@ -237,7 +266,7 @@ module _ {R : Type 0} (firing : Raise R) where
     grows s t (Fire now (Ok r)) d = (let e = d.1.size in omega (arith, e))
     grows s t (Fire now (Err e)) (inl (late, is, same)) = (let e = ap (λ (x : Running C R). x.cpu.size) same in omega (arith, e))
     grows s t (Fire now (Err e)) (inr (early, kept, f)) = (let e = kept.size in omega (arith, e))
-    grows s t (SoftInterrupt soft budget answer) d = (let e = sizes soft budget answer s t d in omega (arith, e))
+    grows s t (SoftInterrupt soft budget answer) d = (let e = keep.sizes soft budget answer s t d in omega (arith, e))
     grows s t (Add own level when now answer) d = quiet_grows s t (Add own level when now answer) d
     grows s t (Place own level interval moment carried) d = quiet_grows s t (Place own level interval moment carried) d
     grows s t (Reprogram j moment answer) d = quiet_grows s t (Reprogram j moment answer) d
@@ -261,7 +290,7 @@ module _ {R : Type 0} (firing : Raise R) where
         →
         One s call t → IsSettled firing.view t.cpu
     settled_one s t (Fire now answer) h calm same d = absurd calm
-    settled_one s t (SoftInterrupt soft budget answer) h calm same d = settles soft budget answer s t d h
+    settled_one s t (SoftInterrupt soft budget answer) h calm same d = keep.settles soft budget answer s t d h
     settled_one s t (Add own level when now answer) h calm same d = quiet_settled s t (Add own level when now answer) h same d
     settled_one s t (Place own level interval moment carried) h calm same d =
         quiet_settled s t (Place own level interval moment carried) h same d
@@ -279,17 +308,13 @@ module _ {R : Type 0} (firing : Raise R) where
     settled_one s t Resume h calm same d = quiet_settled s t Resume h same d
 
     pub run_grows : (s t : Running C R) (way : List CpuCall) → FoldsTo Ones s way t → s.cpu.size ≤ t.cpu.size
-    run_grows s t [] run = (let e = ap (λ (x : Running C R). x.cpu.size) run in omega (arith, e))
-    run_grows s t (call ∷ way) (m, (d, law), rest) = (let a = grows s m call d in let b = run_grows m t way rest in
-        omega (arith, a, b))
+    run_grows = steps_grow (λ s. s.cpu) Ones (λ s t call d. grows s t call d.0)
+        (λ s t call h calm same d. settled_one s t call h calm same d.0)
 
     pub settled_run : (s t : Running C R) (way : List CpuCall) → IsSettled firing.view s.cpu → All IsNoFire way →
         t.cpu.size ≡ s.cpu.size → FoldsTo Ones s way t → IsSettled firing.view t.cpu
-    settled_run s t [] h calm same run = subst (λ (x : Running C R). IsSettled firing.view x.cpu) run h
-    settled_run s t (call ∷ way) h calm same (m, (d, law), rest) =
-        let a = grows s m call d in let b = run_grows m t way rest in
-        settled_run m t way (settled_one s m call h (calm 0 call (omega arith)) (omega (arith, a, b, same)) d)
-        (λ k e low. calm (suc k) e (omega (arith, low))) (omega (arith, a, b, same)) rest
+    settled_run = steps_settle (λ s. s.cpu) Ones (λ s t call d. grows s t call d.0)
+        (λ s t call h calm same d. settled_one s t call h calm same d.0)
 
     pub never_put_off : (s t : Running C R) (call : CpuCall) → IsSettled firing.view s.cpu → One s call t → IsPutOff call → ⊥
     never_put_off s t (Add own level when now (Err e)) h d u = put_off s.cpu t.cpu (Add own level when now (Err e)) h d.0 u

@@ -14,7 +14,7 @@ use Rattle.cyc_cpu.specs.Cpu.{CpuView, running}
 use Rattle.cyc_cpu.specs.Laws.{IsLawful}
 use Rattle.cyc_cpu.specs.Moving.{IsSettled}
 use Rattle.cyc_cpu.specs.Calls.{CpuChanges as CpuChanges, no_interrupts, BeginRemove as CpuBegin}
-use Rattle.cyc_cpu_laws.proofs.Staying.{settled_one, never_put_off}
+use Rattle.cyc_cpu_laws.proofs.Staying.{none_settled, settled_one, never_put_off}
 use Rattle.cyc_agreement.specs.Cpus.{CpusView, IsCpu, on, DoesAt, numbers_from}
 use Rattle.cyc_agreement.proofs.CpuSpots.{get_set_same, get_set_other}
 use Rattle.cyc_system.specs.System.{SystemView, ids_of, has}
@@ -72,15 +72,13 @@ module _ {R : Type 0} (firing : Raise R) (id : ℕ) where
       → IsSettled firing.view x
       → IsSettled firing.view y
   done_settled x y receipt d settled =
-      settled_one firing no_calls no_interrupts
-      (λ soft budget answer s t h. absurd h) (λ soft budget answer s t h k. absurd h)
+      settled_one firing no_calls no_interrupts (none_settled firing)
       (running tt x) (running tt y) (CpuBegin id (Ok (Done receipt))) settled tt d.1.4.size (d, refl)
 
   kept_unsettled : (x y : CpuView R) (kept : ℕ) → CpuChanges firing x (CpuBegin id (Ok (Kept kept))) y → IsSettled firing.view x
       → ⊥
   kept_unsettled x y kept d settled =
-      never_put_off firing no_calls no_interrupts
-      (λ soft budget answer s t h. absurd h) (λ soft budget answer s t h k. absurd h)
+      never_put_off firing no_calls no_interrupts (none_settled firing)
       (running tt x) (running tt y) (CpuBegin id (Ok (Kept kept))) settled (d, refl) tt
 
   -- one of these was found with calls outstanding, or none has the cyclic any more

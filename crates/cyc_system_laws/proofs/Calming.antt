@@ -16,7 +16,7 @@ use Rattle.cyc_cpu.specs.Calls.{SoftInterrupt as CpuSoftInterrupt, Add as CpuAdd
 use Rattle.cyc_cpu.specs.Calls.{AskTotals as CpuAskTotals, AskRoom, Reserve, Widen, BeginRemove as CpuBegin}
 use Rattle.cyc_cpu.specs.Calls.{PollRemove as CpuPoll, TakeNow, AskSettled}
 use Rattle.cyc_cpu_laws.specs.Settled.{IsNoFire}
-use Rattle.cyc_cpu_laws.proofs.Staying.{settled_one}
+use Rattle.cyc_cpu_laws.proofs.Staying.{none_settled, settled_one}
 use Rattle.cyc_cpu_laws.proofs.Stills.{changes_still}
 use Rattle.cyc_agreement.specs.Cpus.{CpusView, IsCpu, ChangesAt}
 use Rattle.cyc_agreement.proofs.CpuSpots.{one_cpu, cpu_there, cpu_after}
@@ -34,8 +34,7 @@ module _ {R : Type 0} (firing : Raise R) where
       → CpuDoes no_calls firing no_interrupts (running tt x) call (running tt y) → y.size ≡ x.size
       → IsSettled firing.view x → IsSettled firing.view y
   one_settled x y call calm d same h =
-      settled_one firing no_calls no_interrupts (λ soft budget answer s t h. absurd h)
-      (λ soft budget answer s t h k. absurd h) (running tt x) (running tt y) call h calm same d
+      settled_one firing no_calls no_interrupts (none_settled firing) (running tt x) (running tt y) call h calm same d
 
   quiet_settled : (x y : CpuView R) (call : CpuCall) → CpuChanges firing x call y → y.size ≡ x.size → IsSettled firing.view x
       → IsSettled firing.view y

@@ -18,7 +18,7 @@ use Rattle.cyc_cpu.specs.Cpu.{CpuView, running}
 use Rattle.cyc_cpu.specs.Moving.{IsSettled}
 use Rattle.cyc_cpu.specs.Calls.{CpuChanges as CpuChanges, no_interrupts, AskPending, AskRoom, Reserve, TakeNow}
 use Rattle.cyc_cpu_laws.specs.Settled.{IsUntil}
-use Rattle.cyc_cpu_laws.proofs.Staying.{settled_one, never_put_off}
+use Rattle.cyc_cpu_laws.proofs.Staying.{none_settled, settled_one, never_put_off}
 use Rattle.cyc_agreement.specs.Cpus.{CpusView, IsCpu, CallOn, on, ChangesAt, Works, online_cpus}
 use Rattle.cyc_agreement.specs.Reserving.{rooms}
 use Rattle.cyc_agreement.specs.Shifting.{moving}
@@ -107,22 +107,19 @@ module _ {R : Type 0} (firing : Raise R) where
   pub refused_here : (n more : ℕ) (e : Refusal) (x y : CpuView R) → CpuChanges firing x (Reserve more (Err e)) y → IsUntil e
       → IsSettled firing.view x → ⊥
   refused_here n more e x y d until settled =
-      never_put_off firing no_calls no_interrupts (λ soft budget answer s t h. absurd h)
-      (λ soft budget answer s t h k. absurd h)
+      never_put_off firing no_calls no_interrupts (none_settled firing)
       (running tt x) (running tt y) (Reserve more (Err e)) settled (d, refl) until
 
   no_room_here : (n more : ℕ) (e : Refusal) (x y : CpuView R) → CpuChanges firing x (AskRoom more (Err e)) y → IsUntil e
       → IsSettled firing.view x → ⊥
   no_room_here n more e x y d until settled =
-      never_put_off firing no_calls no_interrupts (λ soft budget answer s t h. absurd h)
-      (λ soft budget answer s t h k. absurd h)
+      never_put_off firing no_calls no_interrupts (none_settled firing)
       (running tt x) (running tt y) (AskRoom more (Err e)) settled (d, refl) until
 
   pub asks_settled : (own : ℕ) (answer : Option ℕ) (x y : CpuView R) → CpuChanges firing x (AskPending own answer) y
       → IsSettled firing.view x → IsSettled firing.view y
   asks_settled own (Some k) x y d settled =
-      settled_one firing no_calls no_interrupts (λ soft budget answer s t h. absurd h)
-      (λ soft budget answer s t h k. absurd h)
+      settled_one firing no_calls no_interrupts (none_settled firing)
       (running tt x) (running tt y) (AskPending own (Some k)) settled tt d.0.kept.size (d, refl)
   asks_settled own None x y d settled = subst (IsSettled firing.view) (sym d.1) settled
 
@@ -134,15 +131,13 @@ module _ {R : Type 0} (firing : Raise R) where
   rooms_settled : (more : ℕ) (x y : CpuView R) → CpuChanges firing x (AskRoom more (Ok tt)) y → IsSettled firing.view x
       → IsSettled firing.view y
   rooms_settled more x y d settled =
-      settled_one firing no_calls no_interrupts (λ soft budget answer s t h. absurd h)
-      (λ soft budget answer s t h k. absurd h)
+      settled_one firing no_calls no_interrupts (none_settled firing)
       (running tt x) (running tt y) (AskRoom more (Ok tt)) settled tt d.0.kept.size (d, refl)
 
   takes_settled : (own : ℕ) (taken : _) (x y : CpuView R) → CpuChanges firing x (TakeNow own (Ok taken)) y
       → IsSettled firing.view x → IsSettled firing.view y
   takes_settled own taken x y d settled =
-      settled_one firing no_calls no_interrupts (λ soft budget answer s t h. absurd h)
-      (λ soft budget answer s t h k. absurd h)
+      settled_one firing no_calls no_interrupts (none_settled firing)
       (running tt x) (running tt y) (TakeNow own (Ok taken)) settled tt d.1.4.size (d, refl)
 
   -- a CPU that is there is there afterwards, and settled if it was

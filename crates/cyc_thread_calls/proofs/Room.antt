@@ -19,7 +19,7 @@ use Rattle.cyc_cpu.specs.Cpu.{CpuView, HasRisingCyclics, running}
 use Rattle.cyc_cpu.specs.Moving.{IsSettled}
 use Rattle.cyc_cpu.specs.Calls.{CpuChanges as CpuChanges, AskRoom, Reserve, no_interrupts}
 use Rattle.cyc_threads.specs.CpuLawsSettled.{IsUntil}
-use Rattle.cyc_threads.proofs.Staying.{settled_one, never_put_off}
+use Rattle.cyc_threads.proofs.Staying.{none_settled, settled_one, never_put_off}
 use Rattle.cyc_places.specs.declared.record.Record.{Record}
 use Rattle.cyc_places.specs.Places.{HasNoRecord}
 use Rattle.cyc_agreement.specs.Cpus.{CpusView, IsCpu, on, ChangesAt, Works}
@@ -92,8 +92,7 @@ module _ {R : Type 0} (firing : Raise R) where
   no_room_here : (more : ℕ) (e : Refusal) (x y : CpuView R) → CpuChanges firing x (AskRoom more (Err e)) y → IsUntil e
       → IsSettled firing.view x → ⊥
   no_room_here more e x y d until settled =
-      never_put_off firing no_calls no_interrupts (λ soft budget answer s t h. absurd h)
-      (λ soft budget answer s t h k. absurd h)
+      never_put_off firing no_calls no_interrupts (none_settled firing)
       (running tt x) (running tt y) (AskRoom more (Err e)) settled (d, refl) until
 
   room_done : (e : Refusal) (x y : CpuView R) → CpuChanges firing x (AskRoom 1 (Err e)) y → HasRoomHere x → ⊥
@@ -105,8 +104,7 @@ module _ {R : Type 0} (firing : Raise R) where
 
   asked_room : (x y : CpuView R) → CpuChanges firing x (AskRoom 1 (Ok tt)) y → HasRoomHere x → HasRoomHere y
   asked_room x y d h = record {
-    settled = settled_one firing no_calls no_interrupts (λ soft budget answer s t h. absurd h)
-        (λ soft budget answer s t h k. absurd h)
+    settled = settled_one firing no_calls no_interrupts (none_settled firing)
         (running tt x) (running tt y) (AskRoom 1 (Ok tt)) h.settled tt d.0.kept.size (d, refl);
     few = (let same : length y.cyclics ≡ length x.cyclics = ap length d.0.cyclics in let few = h.few in
         omega (arith, same, few));
