@@ -2,8 +2,5 @@ pub mod Asleep
 pub mod Values
 pub mod Seals
 pub mod Passing
-pub mod SealsFiring
-pub mod SealsSoftSide
-pub mod SealsBooks
 pub mod OutValues
 pub mod OutCalls

@@ -27,8 +27,8 @@ use denote.Triple.Walked.{Stays, walk_of, says, stay_dropped, Goes-dropped, ends
 use Rattle.std.proofs.option.Made.{Some-of, none_of}
 use Rattle.std.proofs.raw_atomic.Walks.{proved}
 use Rattle.cyclic_c.specs.OutParameters.{number_behind, pointer_of}
-use Rattle.cyclic_c.proofs.Seals.{one, ptr_typed}
-use Rattle.cyclic_c.proofs.OutValues.{Out, Found, none_val, some_val, none_typed, some_typed, out_in}
+use Rattle.cyclic_c.proofs.Seals.{one, ptr_typed, owning_in}
+use Rattle.cyclic_c.proofs.OutValues.{Out, Found, none_val, some_val, none_typed, some_typed}
 use Rattle.cyclic_c.specs.contracts.out_parameter.OutParameter.behind as f
 use Rattle.cyclic_c.proofs.out_parameter.OutParameter.behind.Statement.{statement}
 use Rattle.cyclic_c.proofs.out_parameter.OutParameter.behind.Code as code
@@ -78,7 +78,7 @@ module _ {M : Type 1} {𝓤 : Ura M} (𝓛 : Logic 𝓤) (at_mem : Memory → SP
         (Runs (block_ptr b o) (Some n))
     there b o n t =
         let p : Ptr = block_ptr b o in let found : Out.Denot = record { at = p; number = n } in
-        qed 𝓛 (‵ (lies_at u64 full_share p n) ∷ []) ∵ out_in ! p n $
+        qed 𝓛 (‵ (lies_at u64 full_share p n) ∷ []) ∵ owning_in ! p (lies_at u64 full_share p n) $
         use1 𝓛 (‵ (Found.own_val (Some found) (some_val b o ∷ []))) (Some-of 𝓛 Out found (one (vptr b o))) $
         enter ! C Λ code.function (vptr b o ∷ []) (Post p (Some n)) $ alloc_all ! (λ l. pass_all ! refl (ptr_typed p, tt) $
         sets ! (bin ! (get ! refl) (lit ! tt) (tests_null p t)) refl (tt, tt) $ first ! $ branches ! (get ! refl)

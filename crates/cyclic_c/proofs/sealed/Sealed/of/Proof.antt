@@ -20,7 +20,9 @@ use denote.Triple.Walked.{Stays, stay_dropped, walk_of}
 use Rattle.std.proofs.alloc.Calls.{Goes-blank}
 use Rattle.std.proofs.raw_atomic.Walks.{proved_at, leaves}
 use Rattle.cyclic_c.proofs.Values.{both, Loose, loose_good, loose_out}
-use Rattle.cyclic_c.proofs.Seals.{R, Z, al, one, one_typed, sealed_in}
+use Rattle.cyclic_c.proofs.Seals.{Z, al, one, one_typed, owning_in}
+use Rattle.cyclic_c.specs.Owns.{owned}
+use Rattle.cyc_border.specs.contracts.cpu.Cpu.{the_row as R}
 use Rattle.cyclic_c.specs.contracts.sealed.Sealed.of.{ended, clauses}
 use Rattle.cyclic_c.specs.contracts.sealed.Sealed.of.Key.{name as #self}
 use Rattle.cyclic_c.proofs.sealed.Sealed.of.Statement.{statement}
@@ -47,7 +49,7 @@ of_spec 𝓤 𝓛 𝓜 𝓡 wired =
     sets ! (of_opd ! (get_in ! (fld ! refl (stop !)) (sub ! 0 refl (whole !)))) refl (tt, tt) $
     sets ! (of_opd ! (get ! refl)) refl (tt, tt) $ sets ! (agg ! (and_then ! (get ! refl) (no_more !))) refl
     (one_typed (block_ptr b o)) $
-    returns ! (look_at ! 0 refl) $ free_all ! refl $ sealed_in ! (block_ptr b o) (Some v.value) $
+    returns ! (look_at ! 0 refl) $ free_all ! refl $ owning_in ! (block_ptr b o) (owned R (block_ptr b o) (Some v.value)) $
     use0 𝓛 (raw (fact 𝓤 (Some v.value ≡ Some v.value))) (fact_i 𝓤 (Some v.value ≡ Some v.value) (emp 𝓤) refl) $ nothing ! $
     nothing ! $ fjoin ! $
     keep ! (4 ∷ 0 ∷ 2 ∷ 1 ∷ []) $ by ! (leaves 𝓛 En hs c z (one (vptr b o)) (record { at = block_ptr b o; held = Some v.value })

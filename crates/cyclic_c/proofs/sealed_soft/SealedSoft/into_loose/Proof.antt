@@ -1,6 +1,6 @@
 -- `into_loose` gives the pointer its type again.
 use Rattle.std.proofs.Common.{◌≡◌, List, [], ◌∷◌, ◌++◌, refl, sym, subst}
-use Rattle.std.specs.Prelude.{Option, Some, None, IsSome}
+use Rattle.std.specs.Prelude.{Some, IsSome}
 use mir.Val.{Val, vptr}
 use base.Logic.{SProp, ent, emp, id⊢}
 use base.Fml.{ftrue}
@@ -20,15 +20,13 @@ use denote.Triple.Walked.{Stays, stay_dropped, walk_of}
 use Rattle.std.proofs.alloc.Calls.{Goes-blank, handle_tells}
 use Rattle.std.proofs.raw_atomic.Walks.{proved_at, leaves}
 use Rattle.cyclic_c.proofs.Values.{both, loose_good, loose_in}
-use Rattle.cyclic_c.proofs.SealsSoftSide.{R, Z, al, one, one_typed, Sealed, sealed_out}
+use Rattle.cyclic_c.proofs.Seals.{Z, al, one, one_typed, some_of, sealed_out}
+use Rattle.cyc_border.specs.contracts.soft_side.SoftSide.{the_row as R}
+use Rattle.cyclic_c.specs.contracts.sealed_soft.SealedSoft.{the_row as Sealed}
 use Rattle.cyclic_c.specs.contracts.sealed_soft.SealedSoft.into_loose.{ended, clauses}
 use Rattle.cyclic_c.specs.contracts.sealed_soft.SealedSoft.into_loose.Key.{name as #self}
 use Rattle.cyclic_c.proofs.sealed_soft.SealedSoft.into_loose.Statement.{statement}
 use Rattle.cyclic_c.proofs.sealed_soft.SealedSoft.into_loose.Code as code
-
-some_of : {A : Type 0} (m : Option A) → IsSome m → (x : A) × (m ≡ Some x)
-some_of None t = absurd (mathlib.Core.Bool.false≢true t)
-some_of (Some x) t = (x, refl)
 
 pub into_loose_spec : {M : Type 1} → statement M
 into_loose_spec 𝓤 𝓛 𝓜 𝓡 wired =
@@ -45,7 +43,7 @@ into_loose_spec 𝓤 𝓛 𝓜 𝓡 wired =
     qed 𝓛 ((‵ ftrue ⊛ ‵ (owns (types_at En.signature.params z.0.0) z.0.3 z.0.4)) ∷ raw (fact 𝓤 (IsSome v.held)) ∷ []) ∵ move !
     (1 ∷ []) $ heard ! (IsSome v.held) (λ there.
     let x = (some_of v.held there).0 in let is = (some_of v.held there).1 in
-    split ! $ move ! (1 ∷ []) $ fsplit ! $ sealed_out ! v x is z.0.4.0
+    split ! $ move ! (1 ∷ []) $ fsplit ! $ sealed_out ! R v.at v.held x is z.0.4.0
     (λ b o ws. move ! (1 ∷ []) $ fsplit ! $ handle_tells al ! a z.0.4.1.0 (λ h wa fits.
     let typed = loose_good R Z al.laws al.g b o h fits in
     suffices ! (Run (one (vptr b o) ∷ h ∷ []))

@@ -14,7 +14,8 @@ use denote.RawPtr.{null_ptr}
 use denote.Steps.{nothing}
 use denote.Triple.Walked.{Stays, walk_of}
 use Rattle.std.proofs.raw_atomic.Walks.{proved_at, leaves}
-use Rattle.cyclic_c.proofs.SealsSoftSide.{R, one, one_typed, sealed_in}
+use Rattle.cyclic_c.proofs.Seals.{one, one_typed, owning_in}
+use Rattle.cyc_border.specs.contracts.soft_side.SoftSide.{the_row as R}
 use Rattle.cyclic_c.specs.contracts.sealed_soft.SealedSoft.none.{ended, clauses}
 use Rattle.cyclic_c.specs.contracts.sealed_soft.SealedSoft.none.Key.{name as #self}
 use Rattle.cyclic_c.proofs.sealed_soft.SealedSoft.none.Statement.{statement}
@@ -34,7 +35,7 @@ none_spec 𝓤 𝓛 𝓜 𝓡 wired =
     enter ! 𝓣.C 𝓣.Λ fn [] Post $ alloc_all ! (λ l. pass_all ! refl tt $
     sets ! (agg ! (and_then ! (lit ! tt) (no_more !))) refl (one_typed null_ptr) $
     returns ! (look_at ! 0 refl) $ free_all ! refl $
-    nothing ! $ sealed_in ! null_ptr None $
+    nothing ! $ owning_in ! null_ptr ftrue $
     use0 𝓛 (raw (fact 𝓤 (Empty ≡ None))) (fact_i 𝓤 (Empty ≡ None) (emp 𝓤) refl) $ nothing ! $
     move ! (3 ∷ []) $ split ! $ keep ! (0 ∷ 2 ∷ 4 ∷ 3 ∷ []) $ by !
     (leaves 𝓛 En hs c z (one vnull) (record { at = null_ptr; held = None }) tt tt)))
