@@ -344,18 +344,7 @@ module _ (texts : List (List ℕ)) (f : ℕ → ℕ) (step name : ℕ) (s : Stat
             (calm_expired texts f step s h.good id (Offline n) tt why ∙ c.expired_is),
         ups_left texts f step s h.good n why on_ u.online ups,
       )
-  undone (Add a) why left u ups c = absurd (let wrong : true ≡ false = left in cc)
-  undone (Omni a) why left u ups c = absurd (let wrong : true ≡ false = left in cc)
-  undone (Bind b) why left u ups c = absurd (let wrong : true ≡ false = left in cc)
-  undone (Unbind j) why left u ups c = absurd (let wrong : true ≡ false = left in cc)
-  undone (Reprogram r) why left u ups c = absurd (let wrong : true ≡ false = left in cc)
-  undone (Remove j) why left u ups c = absurd (let wrong : true ≡ false = left in cc)
-  undone (Advance now) why left u ups c = absurd (let wrong : true ≡ false = left in cc)
-  undone (Softint i) why left u ups c = absurd (let wrong : true ≡ false = left in cc)
-  undone (Juggle n) why left u ups c = absurd (let wrong : true ≡ false = left in cc)
-  undone (Online n) why left u ups c = absurd (let wrong : true ≡ false = left in cc)
-  undone Suspend why left u ups c = absurd (let wrong : true ≡ false = left in cc)
-  undone Resume why left u ups c = absurd (let wrong : true ≡ false = left in cc)
+  undone x why left u ups c = absurd (let wrong : true ≡ false = left in cc)
 
   pub clock_does : (x : Step) → (after x).clock ≡ clock_after x s.clock
   clock_does (Add a) = refl

@@ -87,18 +87,7 @@ module _ (texts : List (List ℕ)) (f : ℕ → ℕ) (step : ℕ) (s : State) (g
       → TellsRefusal step (unless o step x (does plain texts f step x) s).line
   not_met x (Some r) why is = inl (number_of r, refl)
   not_met (Offline n) None why is = tells_at _ false (offline plain f step n s).line is (offline_tells n why)
-  not_met (Add a) None why is = absurd (let wrong : true ≡ false = is in cc)
-  not_met (Omni a) None why is = absurd (let wrong : true ≡ false = is in cc)
-  not_met (Bind b) None why is = absurd (let wrong : true ≡ false = is in cc)
-  not_met (Unbind j) None why is = absurd (let wrong : true ≡ false = is in cc)
-  not_met (Reprogram r) None why is = absurd (let wrong : true ≡ false = is in cc)
-  not_met (Remove j) None why is = absurd (let wrong : true ≡ false = is in cc)
-  not_met (Advance now) None why is = absurd (let wrong : true ≡ false = is in cc)
-  not_met (Softint i) None why is = absurd (let wrong : true ≡ false = is in cc)
-  not_met (Juggle n) None why is = absurd (let wrong : true ≡ false = is in cc)
-  not_met (Online n) None why is = absurd (let wrong : true ≡ false = is in cc)
-  not_met Suspend None why is = absurd (let wrong : true ≡ false = is in cc)
-  not_met Resume None why is = absurd (let wrong : true ≡ false = is in cc)
+  not_met x None why is = absurd (let wrong : true ≡ false = is in cc)
 
   offline_met : (n : ℕ) (o : Option Refusal) → refusal_of plain (Offline n) s ≡ o
       → (not (is_some o) && is_done (Offline n) (unless o step (Offline n) (does plain texts f step (Offline n)) s).state) ≡ true

@@ -33,15 +33,7 @@ module _ (name : ℕ) where
   moves_pass (Softint a) false ms clock t o = refl
   moves_pass (Juggle a) true ms clock t o = refl
   moves_pass (Juggle a) false ms clock t o = refl
-  moves_pass (Add a) b ms clock t o = absurd o
-  moves_pass (Omni a) b ms clock t o = absurd o
-  moves_pass (Reprogram a) b ms clock t o = absurd o
-  moves_pass (Remove a) b ms clock t o = absurd o
-  moves_pass (Advance a) b ms clock t o = absurd o
-  moves_pass (Offline a) b ms clock t o = absurd o
-  moves_pass (Online a) b ms clock t o = absurd o
-  moves_pass Suspend b ms clock t o = absurd o
-  moves_pass Resume b ms clock t o = absurd o
+  moves_pass x b ms clock t o = absurd o
 
   -- the same step, before runs that tell the same
   one_same : (x : Step) (b : Bool) (xs ys : List Met)

@@ -54,17 +54,7 @@ all_within names m (x ∷ xs) fit le =
     one : (y : Step) → name_fits m y ≡ true → names_after m y ≤ names → (m ≤ names) × IsWithin names y
     one (Add a) is most = let e = eqb-true a.name m is in (omega (arith, most), omega (arith, most, e))
     one (Omni a) is most = let e = eqb-true a.name m is in (omega (arith, most), omega (arith, most, e))
-    one (Bind b) is most = (most, tt)
-    one (Unbind name) is most = (most, tt)
-    one (Reprogram r) is most = (most, tt)
-    one (Remove name) is most = (most, tt)
-    one (Advance now) is most = (most, tt)
-    one (Softint i) is most = (most, tt)
-    one (Juggle n) is most = (most, tt)
-    one (Offline n) is most = (most, tt)
-    one (Online n) is most = (most, tt)
-    one Suspend is most = (most, tt)
-    one Resume is most = (most, tt)
+    one x is most = (most, tt)
 
 length_set : (ns : List ℕ) (k v : ℕ) → length (slice_set ns k v) ≡ length ns
 length_set [] k v = refl

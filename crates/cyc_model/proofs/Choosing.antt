@@ -154,18 +154,7 @@ shaped_fresh texts step x s is = shaped_does own_number (λ acts a b. Fresh a ac
 fresh_does : (texts : List (List ℕ)) (step : ℕ) (x : Step) (s : State)
     → Fresh s.admissions (does plain texts own_number step x s).acts (does plain texts own_number step x s).state.admissions
 fresh_does texts step (Advance now) s = fresh_fires now (cpus_online s) (record s { clock = now })
-fresh_does texts step (Add a) s = shaped_fresh texts step (Add a) s tt
-fresh_does texts step (Omni a) s = shaped_fresh texts step (Omni a) s tt
-fresh_does texts step (Bind b) s = shaped_fresh texts step (Bind b) s tt
-fresh_does texts step (Unbind name) s = shaped_fresh texts step (Unbind name) s tt
-fresh_does texts step (Reprogram r) s = shaped_fresh texts step (Reprogram r) s tt
-fresh_does texts step (Remove name) s = shaped_fresh texts step (Remove name) s tt
-fresh_does texts step (Softint i) s = shaped_fresh texts step (Softint i) s tt
-fresh_does texts step (Juggle n) s = shaped_fresh texts step (Juggle n) s tt
-fresh_does texts step (Offline n) s = shaped_fresh texts step (Offline n) s tt
-fresh_does texts step (Online n) s = shaped_fresh texts step (Online n) s tt
-fresh_does texts step Suspend s = omega arith
-fresh_does texts step Resume s = omega arith
+fresh_does texts step x s = shaped_fresh texts step x s tt
 
 fresh_unless : (why : Option Refusal) (texts : List (List ℕ)) (step : ℕ) (x : Step) (s : State)
     → Fresh s.admissions (unless why step x (does plain texts own_number step x) s).acts

@@ -254,21 +254,7 @@ sends_does indexes texts step (Advance now) s g why id =
     let a = sends_fires id now (cpus_online s) (record s { clock = now }) (good_clock now s g) (fires_before now s why)
     (λ m has. (numbers_pass (λ (c : Cpu). c.online) m s has).0) in
     let b = numbers_few (λ (c : Cpu). c.online) 0 s.cpus in omega (arith, a, b)
-sends_does indexes texts step (Add a) s g why id = let z = no_sends indexes texts step (Add a) s tt id in omega (arith, z)
-sends_does indexes texts step (Omni a) s g why id = let z = no_sends indexes texts step (Omni a) s tt id in omega (arith, z)
-sends_does indexes texts step (Bind b) s g why id = let z = no_sends indexes texts step (Bind b) s tt id in omega (arith, z)
-sends_does indexes texts step (Unbind name) s g why id = let z = no_sends indexes texts step (Unbind name) s tt id
-    in omega (arith, z)
-sends_does indexes texts step (Reprogram r) s g why id = let z = no_sends indexes texts step (Reprogram r) s tt id
-    in omega (arith, z)
-sends_does indexes texts step (Remove name) s g why id = let z = no_sends indexes texts step (Remove name) s tt id
-    in omega (arith, z)
-sends_does indexes texts step (Softint i) s g why id = let z = no_sends indexes texts step (Softint i) s tt id in omega (arith, z)
-sends_does indexes texts step (Juggle n) s g why id = let z = no_sends indexes texts step (Juggle n) s tt id in omega (arith, z)
-sends_does indexes texts step (Offline n) s g why id = let z = no_sends indexes texts step (Offline n) s tt id in omega (arith, z)
-sends_does indexes texts step (Online n) s g why id = let z = no_sends indexes texts step (Online n) s tt id in omega (arith, z)
-sends_does indexes texts step Suspend s g why id = omega arith
-sends_does indexes texts step Resume s g why id = omega arith
+sends_does indexes texts step x s g why id = let z = no_sends indexes texts step x s tt id in omega (arith, z)
 
 sends_word : (indexes : ℕ → ℕ) (texts : List (List ℕ)) (step : ℕ) (x : Step) (s : State) → Good s → (id : ℕ)
     → sends_in id (word plain texts indexes step x s).acts ≤ length s.cpus * (late + 2)

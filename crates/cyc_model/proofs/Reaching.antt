@@ -163,19 +163,12 @@ run_good indexes cpus ceiling texts steps some =
 pub safe_does : (texts : List (List ℕ)) (indexes : ℕ → ℕ) (step : ℕ) (x : Step) (s : State) → IsMove x → Good s
     → refusal_of plain x s ≡ None
     → Kept s (does plain texts indexes step x s).state
-safe_does texts indexes step (Add a) s is g why = absurd is
-safe_does texts indexes step (Omni a) s is g why = absurd is
 safe_does texts indexes step (Bind b) s is g why = (safe_bind indexes step b s g why).2
 safe_does texts indexes step (Unbind name) s is g why = (safe_unbind step name s g why).2
-safe_does texts indexes step (Reprogram r) s is g why = absurd is
-safe_does texts indexes step (Remove name) s is g why = absurd is
-safe_does texts indexes step (Advance now) s is g why = absurd is
-safe_does texts indexes step (Softint i) s is g why = absurd is
 safe_does texts indexes step (Juggle n) s is g why = (safe_juggle indexes step n s g why).2
 safe_does texts indexes step (Offline n) s is g why = (safe_offline indexes step n s g why).2
 safe_does texts indexes step (Online n) s is g why = (safe_online indexes step n s g why).2
-safe_does texts indexes step Suspend s is g why = absurd is
-safe_does texts indexes step Resume s is g why = absurd is
+safe_does texts indexes step x s is g why = absurd is
 
 pub moves_lose_nothing : MovesLoseNothing
 moves_lose_nothing indexes cpus ceiling texts steps step x some is =

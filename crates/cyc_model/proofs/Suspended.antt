@@ -149,19 +149,10 @@ module _ (q : Questions) (texts : List (List ℕ)) (indexes : ℕ → ℕ) (step
   other_word x fires marks = (none_does q texts indexes step x s fires, stays_suspended q texts indexes step x s marks ∙ on)
 
   quiet_does : (x : Step) → NoneResumes (x ∷ []) → refusal_of q x s ≡ None → IsQuiet (does q texts indexes step x s)
-  quiet_does (Add a) is why = other_word (Add a) tt tt
-  quiet_does (Omni a) is why = other_word (Omni a) tt tt
-  quiet_does (Bind b) is why = other_word (Bind b) tt tt
-  quiet_does (Unbind name) is why = other_word (Unbind name) tt tt
-  quiet_does (Reprogram r) is why = other_word (Reprogram r) tt tt
-  quiet_does (Remove name) is why = other_word (Remove name) tt tt
   quiet_does (Advance now) is why = none_both (not_suspended now s why)
-  quiet_does (Softint i) is why = other_word (Softint i) tt tt
-  quiet_does (Juggle n) is why = other_word (Juggle n) tt tt
-  quiet_does (Offline n) is why = other_word (Offline n) tt tt
-  quiet_does (Online n) is why = other_word (Online n) tt tt
   quiet_does Suspend is why = (tt, refl)
   quiet_does Resume is why = absurd is
+  quiet_does x is why = other_word x tt tt
 
   quiet_word : (x : Step) → NoneResumes (x ∷ []) → IsQuiet (word q texts indexes step x s)
   quiet_word x is = by (refusal_of q x s) refl
@@ -171,19 +162,8 @@ module _ (q : Questions) (texts : List (List ℕ)) (indexes : ℕ → ℕ) (step
       by (Some why) some = (tt, on)
 
 one_and_more : (x : Step) (xs : List Step) → NoneResumes (x ∷ xs) → NoneResumes (x ∷ []) × NoneResumes xs
-one_and_more (Add a) xs h = (tt, h)
-one_and_more (Omni a) xs h = (tt, h)
-one_and_more (Bind b) xs h = (tt, h)
-one_and_more (Unbind name) xs h = (tt, h)
-one_and_more (Reprogram r) xs h = (tt, h)
-one_and_more (Remove name) xs h = (tt, h)
-one_and_more (Advance now) xs h = (tt, h)
-one_and_more (Softint i) xs h = (tt, h)
-one_and_more (Juggle n) xs h = (tt, h)
-one_and_more (Offline n) xs h = (tt, h)
-one_and_more (Online n) xs h = (tt, h)
-one_and_more Suspend xs h = (tt, h)
 one_and_more Resume xs h = absurd h
+one_and_more x xs h = (tt, h)
 
 -- ---- all steps
 

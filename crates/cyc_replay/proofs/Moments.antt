@@ -56,18 +56,7 @@ leaves_mark (Some n) id moment answer = tt
 
 early : (now : ℕ) (x : Step) → moment_fits now x ≡ true → SetsBelowNever x
 early now (Advance moment) fits = grind (arith, nat_tests)
-early now (Add a) fits = tt
-early now (Omni a) fits = tt
-early now (Bind b) fits = tt
-early now (Unbind name) fits = tt
-early now (Reprogram r) fits = tt
-early now (Remove name) fits = tt
-early now (Softint i) fits = tt
-early now (Juggle n) fits = tt
-early now (Offline n) fits = tt
-early now (Online n) fits = tt
-early now Suspend fits = tt
-early now Resume fits = tt
+early now x fits = tt
 
 -- each step of a script sets the clock below never
 pub before_never : (now : ℕ) (steps : List Step) → moments_fit now steps ≡ true → (i : ℕ) (x : Step) → i < length steps

@@ -61,17 +61,7 @@ moments_fit_next now steps i step h is all =
 pub names_after_at_most : (names : ℕ) (step : Step) → names_after names step ≤ names + 1
 names_after_at_most names (Add a) = omega arith
 names_after_at_most names (Omni a) = omega arith
-names_after_at_most names (Bind b) = omega arith
-names_after_at_most names (Unbind n) = omega arith
-names_after_at_most names (Reprogram r) = omega arith
-names_after_at_most names (Remove n) = omega arith
-names_after_at_most names (Advance m) = omega arith
-names_after_at_most names (Softint s) = omega arith
-names_after_at_most names (Juggle cpu) = omega arith
-names_after_at_most names (Offline cpu) = omega arith
-names_after_at_most names (Online cpu) = omega arith
-names_after_at_most names Suspend = omega arith
-names_after_at_most names Resume = omega arith
+names_after_at_most names x = omega arith
 
 -- the name of a step, if it has one, is below this number
 abbrev pub NameBelow : ℕ → Step → Type 0

@@ -61,17 +61,7 @@ memory_split (AskAll ∷ xs) ys h = memory_split xs ys h
 one_more : (k : ℕ) (x : Step) → k ≤ names_after k x
 one_more k (steps.Add a) = omega arith
 one_more k (steps.Omni a) = omega arith
-one_more k (steps.Bind b) = omega arith
-one_more k (steps.Unbind name) = omega arith
-one_more k (steps.Reprogram r) = omega arith
-one_more k (steps.Remove name) = omega arith
-one_more k (steps.Advance now) = omega arith
-one_more k (steps.Softint i) = omega arith
-one_more k (steps.Juggle n) = omega arith
-one_more k (steps.Offline n) = omega arith
-one_more k (steps.Online n) = omega arith
-one_more k steps.Suspend = omega arith
-one_more k steps.Resume = omega arith
+one_more k x = omega arith
 
 -- no name is taken back
 pub more_names : (k : ℕ) (xs : List Step) → k ≤ names_after_all k xs

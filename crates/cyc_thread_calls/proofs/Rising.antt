@@ -123,17 +123,7 @@ module _ {C R : Type 0} (handler : Calls C) (firing : Raise R) where
       (let (low, high) = omni_above firing s.side.system t.side.system a.level when a.skew s.clock answer did.did d e in
       (eq_true a.name n fits, low, high))
   does_gives n (steps.Omni a) s t (inr (bad, same)) fits = λ d e. absurd (none_some e)
-  does_gives n (steps.Bind b) s t d fits = tt
-  does_gives n (steps.Unbind name) s t d fits = tt
-  does_gives n (steps.Reprogram r) s t d fits = tt
-  does_gives n (steps.Remove name) s t d fits = tt
-  does_gives n (steps.Advance now) s t d fits = tt
-  does_gives n (steps.Softint i) s t d fits = tt
-  does_gives n (steps.Juggle i) s t d fits = tt
-  does_gives n (steps.Offline i) s t d fits = tt
-  does_gives n (steps.Online i) s t d fits = tt
-  does_gives n steps.Suspend s t d fits = tt
-  does_gives n steps.Resume s t d fits = tt
+  does_gives n x s t d fits = tt
 
   pub all_more : (P Q : ℕ → ℕ → Type 0) → ((j d : ℕ) → P j d → Q j d) → (s : Progress R C) (xs : List Step) (t : Progress R C)
       (takes : TakesSteps handler firing s xs t) → AllGive handler firing P s xs t takes
