@@ -12,8 +12,7 @@ use Rattle.cyc_level.specs.declared.Event.TheVariants.{Admit, Expire, Lose, Publ
 use Rattle.cyc_level.specs.Level.{SoftLevel, count}
 use Rattle.cyc_types.specs.Expirations.{Expiration}
 use Rattle.cyc_script.specs.declared.step.Step.{Step}
-use Rattle.cyc_script.specs.declared.step.Step.TheVariants.{Add, Omni, Bind, Unbind, Reprogram, Remove, Advance, Softint, Juggle}
-use Rattle.cyc_script.specs.declared.step.Step.TheVariants.{Offline, Online, Suspend, Resume}
+use Rattle.cyc_script.specs.declared.step.Step.TheVariants.{Advance}
 use Rattle.cyc_model.specs.Acts.{Act, At, Call, at_own, events_at}
 use Rattle.cyc_model.specs.Cpu.{Cpu, handler_level_of, begun_cpu}
 use Rattle.cyc_model.specs.Firing.{raised, expiry, expire_here, expire_all, due_here, fire_here}
@@ -123,18 +122,7 @@ below_shaped texts step x s is = shaped_does own_number Below below_calm below_a
 below_does : (texts : List (List ℕ)) (step : ℕ) (x : Step) (s : State)
     → Below (does plain texts own_number step x s).acts s.admissions (does plain texts own_number step x s).state.admissions
 below_does texts step (Advance now) s = below_fires now (cpus_online s) (record s { clock = now })
-below_does texts step (Add a) s = below_shaped texts step (Add a) s tt
-below_does texts step (Omni a) s = below_shaped texts step (Omni a) s tt
-below_does texts step (Bind b) s = below_shaped texts step (Bind b) s tt
-below_does texts step (Unbind name) s = below_shaped texts step (Unbind name) s tt
-below_does texts step (Reprogram r) s = below_shaped texts step (Reprogram r) s tt
-below_does texts step (Remove name) s = below_shaped texts step (Remove name) s tt
-below_does texts step (Softint i) s = below_shaped texts step (Softint i) s tt
-below_does texts step (Juggle n) s = below_shaped texts step (Juggle n) s tt
-below_does texts step (Offline n) s = below_shaped texts step (Offline n) s tt
-below_does texts step (Online n) s = below_shaped texts step (Online n) s tt
-below_does texts step Suspend s = below_shaped texts step Suspend s tt
-below_does texts step Resume s = below_shaped texts step Resume s tt
+below_does texts step x s = below_shaped texts step x s tt
 
 below_unless : (why : Option Refusal) (texts : List (List ℕ)) (step : ℕ) (x : Step) (s : State)
     → Below (unless why step x (does plain texts own_number step x) s).acts s.admissions

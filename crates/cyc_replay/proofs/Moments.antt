@@ -1,11 +1,10 @@
 -- What calls leave of the tally and of the mark, and the moments of a script.
-use Rattle.std.proofs.Common.{◌≡◌, ℕ, zero, suc, ◌<◌, Bool, true, false, List, [], ◌∷◌, length, get_or, Option, Some, None, refl}
+use Rattle.std.proofs.Common.{◌≡◌, ℕ, zero, suc, ◌<◌, true, List, [], ◌∷◌, length, get_or, Option, Some, None, refl}
 use Rattle.std.proofs.Common.{sym, subst, arith}
-use Rattle.std.specs.Prelude.{◌&&◌, Result}
+use Rattle.std.specs.Prelude.{Result}
 use Rattle.std.proofs.lemmas.Bool.Decides.{nat_tests}
 use Rattle.cyc_script.specs.declared.step.Step.{Step}
-use Rattle.cyc_script.specs.declared.step.Step.TheVariants.{Add, Omni, Bind, Unbind, Reprogram, Remove, Advance, Softint, Juggle}
-use Rattle.cyc_script.specs.declared.step.Step.TheVariants.{Offline, Online, Suspend, Resume}
+use Rattle.cyc_script.specs.declared.step.Step.TheVariants.{Advance}
 use Rattle.cyc_script.specs.WellFormed.{moment_after, moment_fits, moments_fit}
 use Rattle.cyc_replay.specs.Words.{SetsBelowNever}
 use Rattle.cyc_types.specs.Tally.{TallyView}
@@ -56,18 +55,7 @@ leaves_mark (Some n) id moment answer = tt
 
 early : (now : ℕ) (x : Step) → moment_fits now x ≡ true → SetsBelowNever x
 early now (Advance moment) fits = grind (arith, nat_tests)
-early now (Add a) fits = tt
-early now (Omni a) fits = tt
-early now (Bind b) fits = tt
-early now (Unbind name) fits = tt
-early now (Reprogram r) fits = tt
-early now (Remove name) fits = tt
-early now (Softint i) fits = tt
-early now (Juggle n) fits = tt
-early now (Offline n) fits = tt
-early now (Online n) fits = tt
-early now Suspend fits = tt
-early now Resume fits = tt
+early now x fits = tt
 
 -- each step of a script sets the clock below never
 pub before_never : (now : ℕ) (steps : List Step) → moments_fit now steps ≡ true → (i : ℕ) (x : Step) → i < length steps

@@ -1,10 +1,6 @@
 -- The steps of a calm script are met as the closed form says, one after another.
-use Rattle.cyc_thread_calls.proofs.Moving.{stays_move}
 use Rattle.std.proofs.Common.{◌<◌}
 use Rattle.cyc_types.specs.Series.{never}
-use Rattle.cyc_threads.specs.Calls.{SystemCall}
-use Rattle.cyc_threads.specs.Keeping.{TouchesRecord}
-use Rattle.cyc_thread_calls.proofs.Keeping.{IsMove}
 use Rattle.std.proofs.Common.{◌≡◌, ◌∙◌, ℕ, ◌≤◌, ◌⊎◌, inl, inr, Bool, true, false, cond}
 use Rattle.std.proofs.Common.{Option, Some, None, Result, List, [], ◌∷◌, ◌++◌, length, replicate, refl, sym, ap, subst, arith}
 use Rattle.std.specs.Prelude.{◌&&◌, is_ok}
@@ -29,14 +25,14 @@ use Rattle.cyc_threads.specs.StepCalls.{CallsFor}
 use Rattle.cyc_words.specs.Names.{named_at, cyclic_id, has_open_removal, NoneLeaves}
 use Rattle.cyc_words.specs.Words.{WithId}
 use Rattle.cyc_threads.specs.Words.{DoesStep}
-use Rattle.cyc_thread_calls.specs.Leading.{call_with}
+use Rattle.cyc_thread_calls.proofs.Called.{call_with}
 use Rattle.cyc_thread_calls.specs.Meeting.{was_accepted, is_taken as is_done}
 use Rattle.cyc_thread_calls.specs.Way.{Standing, Absent, OnOne, OnAll, may_reprogram, is_taken, after_step}
 use Rattle.cyc_thread_calls.specs.Memory.{NoMemoryRefused}
 use Rattle.cyc_thread_calls.proofs.Keeping.{AllStill}
 use Rattle.cyc_thread_calls.proofs.Fitting.{Is, IsThere, Fits, fits_same}
 use Rattle.cyc_thread_calls.proofs.Waiting.{HasWaited, waited_calm}
-use Rattle.cyc_thread_calls.proofs.Moving.{Stays, stays_same, reprogrammed_stays, online_same}
+use Rattle.cyc_thread_calls.proofs.Moving.{Stays, stays_same, word_stays, online_same}
 use Rattle.cyc_thread_calls.proofs.Moving.{single_none, single_on, every_none, every_on}
 use Rattle.cyc_thread_calls.proofs.Stepping.{NextCalm, moment_of, no_moment_of}
 
@@ -61,17 +57,7 @@ memory_split (AskAll ∷ xs) ys h = memory_split xs ys h
 one_more : (k : ℕ) (x : Step) → k ≤ names_after k x
 one_more k (steps.Add a) = omega arith
 one_more k (steps.Omni a) = omega arith
-one_more k (steps.Bind b) = omega arith
-one_more k (steps.Unbind name) = omega arith
-one_more k (steps.Reprogram r) = omega arith
-one_more k (steps.Remove name) = omega arith
-one_more k (steps.Advance now) = omega arith
-one_more k (steps.Softint i) = omega arith
-one_more k (steps.Juggle n) = omega arith
-one_more k (steps.Offline n) = omega arith
-one_more k (steps.Online n) = omega arith
-one_more k steps.Suspend = omega arith
-one_more k steps.Resume = omega arith
+one_more k x = omega arith
 
 -- no name is taken back
 pub more_names : (k : ℕ) (xs : List Step) → k ≤ names_after_all k xs
@@ -143,12 +129,6 @@ module _ {C R : Type 0} (firing : Raise R) (cpus names given : ℕ)
       )
 
 module _ {C R : Type 0} (firing : Raise R) (cpus names given : ℕ) (has : ℕ → Standing) where
-  -- a word that is about no name, and moves nothing
-  pub marks_stay : (call : SystemCall) (s t : Progress R C) (c : CallsFor firing 0 call s t) → IsMove firing call
-      → ((id : ℕ) → TouchesRecord id call → ⊥) → t.names ≡ s.names → Fits firing cpus names given has s
-      → Stays firing cpus names given has s t
-  marks_stay call s t c move other same h = stays_move firing cpus names given has 0 call s t c move same other h
-
   -- the clock alone is set
   pub set_fits : (now : ℕ) (s : Progress R C) → now < never → Fits firing cpus names given has s
       → Fits firing cpus names given has (record s { clock = now })
@@ -194,7 +174,7 @@ module _ {C R : Type 0} (handler : Calls C)
       (inr (reprogram_met firing cpus names given has r.name moment r.cpu (has r.name) (named_at s.names r.name) s t d
       (h.each r.name) (w.none r.name) h w q.still
       ∙ (λ i. sym (moment_of r.moment moment is) i && may_reprogram cpus (has r.name) r.cpu)))
-      (reprogrammed_stays firing cpus names given has r.name moment r.cpu s t (cyclic_id (named_at s.names r.name)) d h)
+      (word_stays handler firing cpus names given has (steps.Reprogram r) s t tt tt (inl (moment, is, d)) h)
   reprogram_next given has r s t (inr (number, same)) h w =
       stays_next given has (steps.Reprogram r) s t (inr (number, same)) refl refl
       (inr (λ i. sym (no_moment_of r.moment number) i && may_reprogram cpus (has r.name) r.cpu))

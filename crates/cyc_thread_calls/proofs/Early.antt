@@ -1,5 +1,5 @@
 -- Each advance of a run stays below never, since each of its script does.
-use Rattle.std.proofs.Common.{◌≡◌, ℕ, List, [], ◌∷◌, ◌++◌, Option, Some, None, Bool, true, false, Result, All, arith, inl, inr}
+use Rattle.std.proofs.Common.{◌≡◌, ℕ, List, [], ◌∷◌, ◌++◌, Bool, true, false, All, arith, inl, inr}
 use Rattle.std.specs.Prelude.{nat_le, nat_lt}
 use Rattle.std.specs.List.{FoldsTo}
 use Rattle.std.proofs.lemmas.Bool.Decides.{nat_tests}
@@ -7,26 +7,23 @@ use Rattle.std.proofs.lemmas.List.Elements.{All-nil, All-cons, All-head, All-tai
 use Rattle.cyc_types.specs.declared.Calls.{Ghosts as Calls}
 use Rattle.cyc_types.specs.declared.Raise.{Ghosts as Raise}
 use Rattle.cyc_types.specs.Series.{never}
-use Rattle.cyc_types.specs.declared.refusal.Refusal.{Refusal}
 use Rattle.cyc_script.specs.WellFormed.{moment_fits, moment_after, moments_fit}
 use Rattle.cyc_script.specs.declared.step.Step.{Step}
 use Rattle.cyc_script.specs.declared.step.Step.TheVariants as steps
-use Rattle.cyc_threads.specs.SystemRemoval.{SystemRemoval}
-use Rattle.cyc_threads.specs.Calls.{SystemCall, Bind, BeginRemove, PollRemove, reprograms}
+use Rattle.cyc_threads.specs.Calls.{PollRemove}
 use Rattle.cyc_system_rings.specs.Leading.{LeadCall, Make, FireAll, AskAll}
 use Rattle.cyc_system_rings.specs.Events.{IsBeforeNever}
 use Rattle.cyc_words.specs.declared.named.Named.{Named}
 use Rattle.cyc_words.specs.declared.named.Named.TheVariants.{Nothing, Cyclic, Leaving, Removed}
 use Rattle.cyc_threads.specs.declared.progress.Progress.{Progress}
 use Rattle.cyc_threads.specs.declared.counting.Line.{Line}
-use Rattle.cyc_words.specs.Names.{named_at, cyclic_id}
-use Rattle.cyc_threads.specs.StepCalls.{CallsFor, Poll, Waits}
-use Rattle.cyc_words.specs.Words.{WithId}
+use Rattle.cyc_threads.specs.StepCalls.{Poll, Waits}
 use Rattle.cyc_threads.specs.Words.{DoesStep, Begins, waits_first}
 use Rattle.cyc_threads.specs.Steps.{TakesSteps, Runs}
 use Rattle.cyc_threads.specs.Counting.{NameLine, Tells, TellsOf, Reports}
-use Rattle.cyc_thread_calls.specs.Leading.{calls_in, poll_calls, wait_calls, begin_calls, call_with, call_of, steps_calls}
+use Rattle.cyc_thread_calls.specs.Leading.{calls_in, poll_calls, wait_calls, begin_calls, call_of, steps_calls}
 use Rattle.cyc_thread_calls.specs.Leading.{told_calls_of, told_calls, all_calls}
+use Rattle.cyc_thread_calls.proofs.Called.{by_word}
 use Rattle.cyc_thread_calls.proofs.Rising.{and_left, and_right}
 
 abbrev pub AreEarly : List LeadCall → Type 0
@@ -48,11 +45,6 @@ polls_early [] = one_early AskAll tt
 polls_early (p ∷ polls) = All-cons IsBeforeNever (Make (PollRemove p.id p.answer)) (poll_calls polls ++ AskAll ∷ []) tt
     (polls_early polls)
 
-set_early : (cpu : Option ℕ) (id moment : ℕ) (answer : Result (Unit {0}) Refusal)
-    → IsBeforeNever (Make (reprograms cpu id moment answer))
-set_early None id moment answer = tt
-set_early (Some n) id moment answer = tt
-
 module _ {C R : Type 0} (handler : Calls C) (firing : Raise R) where
   wait_early : (s t : Progress R C) (w : Waits firing s t) → AreEarly (wait_calls firing s t w)
   wait_early s t (polls, u, polled, settles) = polls_early polls
@@ -61,40 +53,15 @@ module _ {C R : Type 0} (handler : Calls C) (firing : Raise R) where
   begin_early false s t w = none_late
   begin_early true s t w = wait_early s t w
 
-  with_early : (Answer : Type 0) (call : ℕ → Result Answer Refusal → SystemCall) (name : ℕ) (s t : Progress R C)
-      (id : Option ℕ)
-      (w : WithId id (λ own. (answer : Result Answer Refusal) × CallsFor firing name (call own answer) s t) (t ≡ s))
-      → ((own : ℕ) (answer : Result Answer Refusal) → IsBeforeNever (Make (call own answer)))
-      → AreEarly (calls_in (call_with firing Answer call name s t id w))
-  with_early Answer call name s t (Some own) (answer, did) early = one_early (Make (call own answer)) (early own answer)
-  with_early Answer call name s t None e early = none_late
-
   does_early : (now : ℕ) (x : Step) (s t : Progress R C) (d : DoesStep handler firing x s t)
       → moment_fits now x ≡ true → AreEarly (calls_in (call_of handler firing x s t d))
-  does_early now (steps.Add a) s t (inl (when, starts, lasts, long, (answer, did))) fits = one_early _ tt
-  does_early now (steps.Add a) s t (inr (bad, e)) fits = none_late
-  does_early now (steps.Omni a) s t (inl (when, starts, lasts, long, (answer, did))) fits = one_early _ tt
-  does_early now (steps.Omni a) s t (inr (bad, e)) fits = none_late
-  does_early now (steps.Bind b) s t d fits = with_early (Unit {0}) (λ id answer. Bind id (Some b.cpu) answer) b.name s t
-      (cyclic_id (named_at s.names b.name)) d (λ own answer. tt)
-  does_early now (steps.Unbind name) s t d fits = with_early (Unit {0}) (λ id answer. Bind id None answer) name s t
-      (cyclic_id (named_at s.names name)) d (λ own answer. tt)
-  does_early now (steps.Reprogram r) s t (inl (moment, is, d)) fits =
-      with_early (Unit {0}) (λ id answer. reprograms r.cpu id moment answer) r.name s t (cyclic_id (named_at s.names r.name)) d
-      (λ own answer. set_early r.cpu own moment answer)
-  does_early now (steps.Reprogram r) s t (inr (bad, e)) fits = none_late
-  does_early now (steps.Remove name) s t d fits = with_early SystemRemoval (λ id answer. BeginRemove id answer) name s t
-      (cyclic_id (named_at s.names name)) d (λ own answer. tt)
   does_early now (steps.Advance moment) s t (inl suspended) fits = none_late
   does_early now (steps.Advance moment) s t (inr d) fits =
       let below = and_right (nat_le now moment) (nat_lt moment never) fits in
       one_early (FireAll moment) (grind (arith, nat_tests, below))
   does_early now (steps.Softint i) s t d fits = none_late
-  does_early now (steps.Juggle n) s t (answer, did) fits = one_early _ tt
-  does_early now (steps.Offline n) s t (answer, did) fits = one_early _ tt
-  does_early now (steps.Online n) s t (answer, did) fits = one_early _ tt
-  does_early now steps.Suspend s t (answer, did) fits = one_early _ tt
-  does_early now steps.Resume s t (answer, did) fits = one_early _ tt
+  does_early now x s t d fits = by_word handler firing s t (λ o. AreEarly (calls_in o)) (λ e. none_late) x tt
+      (λ name call is c. one_early (Make call) tt) d
 
   steps_early : (now : ℕ) (s : Progress R C) (xs : List Step) (t : Progress R C)
       (takes : TakesSteps handler firing s xs t) → moments_fit now xs ≡ true

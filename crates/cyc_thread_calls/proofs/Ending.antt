@@ -32,7 +32,7 @@ use Rattle.cyc_threads.specs.declared.progress.Progress.{Progress}
 use Rattle.cyc_threads.specs.StepCalls.{CallsFor, Fires}
 use Rattle.cyc_words.specs.Names.{named_at, cyclic_id, has_open_removal, NoneLeaves}
 use Rattle.cyc_words.specs.Words.{WithId}
-use Rattle.cyc_thread_calls.specs.Leading.{call_with}
+use Rattle.cyc_thread_calls.proofs.Called.{call_with}
 use Rattle.cyc_thread_calls.specs.Meeting.{is_taken as is_done}
 use Rattle.cyc_thread_calls.specs.Way.{Standing, Absent, OnOne, OnAll, is_here, with_standing}
 use Rattle.cyc_thread_calls.proofs.Keeping.{AllStill, begun_given}

@@ -5,15 +5,13 @@ use Rattle.std.specs.Prelude.{Bool, true, false}
 use Rattle.std.specs.List.{slice_get, FoldsTo}
 use Rattle.cyc_types.specs.declared.Calls.{Ghosts as Calls}
 use Rattle.cyc_types.specs.declared.Raise.{Ghosts as Raise}
-use Rattle.cyc_types.specs.declared.refusal.Refusal.{Refusal}
 use Rattle.cyc_types.proofs.Runs.{folds_on, folds_more}
 use Rattle.cyc_timers.specs.declared.fire.Fired.{Fired}
 use Rattle.cyc_timers.specs.declared.fire.FireRefused.{FireRefused}
 use Rattle.cyc_threads.proofs.Spots.{same_some, none_some}
 use Rattle.cyc_script.specs.declared.step.Step.{Step}
 use Rattle.cyc_script.specs.declared.step.Step.TheVariants as steps
-use Rattle.cyc_threads.specs.SystemRemoval.{SystemRemoval}
-use Rattle.cyc_threads.specs.Calls.{SystemCall, Bind, BeginRemove, PollRemove, AskTotals, reprograms}
+use Rattle.cyc_threads.specs.Calls.{SystemCall, PollRemove, AskTotals}
 use Rattle.cyc_threads.specs.SystemSide.{SystemSide}
 use Rattle.cyc_system_rings.specs.Leading.{LeadCall, Make, FireAll, AskAll}
 use Rattle.cyc_system_rings.specs.Events.{AcceptedSteps, AllAccepted}
@@ -22,13 +20,12 @@ use Rattle.cyc_words.specs.declared.named.Named.TheVariants.{Nothing, Cyclic, Le
 use Rattle.cyc_threads.specs.declared.progress.Progress.{Progress}
 use Rattle.cyc_threads.specs.declared.counting.Line.{Line}
 use Rattle.cyc_threads.specs.StepCalls.{CallsFor, Poll, Polls, Waits, Fires, refusal_of_fire, refusal_at}
-use Rattle.cyc_words.specs.Names.{named_at, cyclic_id}
-use Rattle.cyc_words.specs.Words.{WithId}
 use Rattle.cyc_threads.specs.Words.{DoesStep, Begins, TakesStep, waits_first}
 use Rattle.cyc_threads.specs.Steps.{TakesSteps, Runs}
 use Rattle.cyc_threads.specs.Counting.{NameLine, Tells, TellsOf, Reports}
-use Rattle.cyc_thread_calls.specs.Leading.{calls_in, poll_calls, wait_calls, begin_calls, call_with, told_calls_of, told_calls}
+use Rattle.cyc_thread_calls.specs.Leading.{calls_in, poll_calls, wait_calls, begin_calls, told_calls_of, told_calls}
 use Rattle.cyc_thread_calls.specs.Leading.{call_of, step_calls, steps_calls, run_calls, all_calls}
+use Rattle.cyc_thread_calls.proofs.Called.{by_word}
 
 -- an answer that is there is that of its number
 at_number : (answers : List (Option (Result Fired FireRefused))) (n : ℕ) (a : Option (Result Fired FireRefused))
@@ -70,12 +67,6 @@ module _ {C R : Type 0} (handler : Calls C) (firing : Raise R) where
   begin_goes false s t e = goes_none s t e
   begin_goes true s t w = wait_goes s t w
 
-  with_goes : (Answer : Type 0) (call : ℕ → Result Answer Refusal → SystemCall) (name : ℕ) (s t : Progress R C) (id : Option ℕ)
-      (d : WithId id (λ own. (answer : Result Answer Refusal) × CallsFor firing name (call own answer) s t) (t ≡ s))
-      → Goes s (calls_in (call_with firing Answer call name s t id d)) t
-  with_goes Answer call name s t (Some id) (answer, did) = goes_one name (call id answer) s t did
-  with_goes Answer call name s t None e = goes_none s t e
-
   not_refused : (a : Option (Result Fired FireRefused)) (e : FireRefused) → refusal_of_fire a ≡ None → a ≡ Some (Err e) → ⊥
   not_refused a e none is = none_some (sym none ∙ ap refusal_of_fire is)
 
@@ -88,27 +79,11 @@ module _ {C R : Type 0} (handler : Calls C) (firing : Raise R) where
 
   pub does_go : (x : Step) (s t : Progress R C) (d : DoesStep handler firing x s t)
       → Goes s (calls_in (call_of handler firing x s t d)) t
-  does_go (steps.Add a) s t (inl (when, starts, lasts, long, (answer, did))) = goes_one a.name _ s t did
-  does_go (steps.Add a) s t (inr (odd, e)) = goes_none s t e
-  does_go (steps.Omni a) s t (inl (when, starts, lasts, long, (answer, did))) = goes_one a.name _ s t did
-  does_go (steps.Omni a) s t (inr (odd, e)) = goes_none s t e
-  does_go (steps.Bind b) s t d = with_goes (Unit {0}) (λ id answer. Bind id (Some b.cpu) answer) b.name s t
-      (cyclic_id (named_at s.names b.name)) d
-  does_go (steps.Unbind name) s t d = with_goes (Unit {0}) (λ id answer. Bind id None answer) name s t
-      (cyclic_id (named_at s.names name)) d
-  does_go (steps.Reprogram r) s t (inl (moment, is, d)) =
-      with_goes (Unit {0}) (λ id answer. reprograms r.cpu id moment answer) r.name s t (cyclic_id (named_at s.names r.name)) d
-  does_go (steps.Reprogram r) s t (inr (odd, e)) = goes_none s t e
-  does_go (steps.Remove name) s t d = with_goes SystemRemoval (λ id answer. BeginRemove id answer) name s t
-      (cyclic_id (named_at s.names name)) d
   does_go (steps.Advance now) s t (inl (suspended, e)) = ap (λ (p : Progress R C). p.side) (sym e)
   does_go (steps.Advance now) s t (inr f) = fires_go now s t f
   does_go (steps.Softint i) s t e = goes_none s t e
-  does_go (steps.Juggle n) s t (answer, did) = goes_one 0 _ s t did
-  does_go (steps.Offline n) s t (answer, did) = goes_one 0 _ s t did
-  does_go (steps.Online n) s t (answer, did) = goes_one 0 _ s t did
-  does_go steps.Suspend s t (answer, did) = goes_one 0 _ s t did
-  does_go steps.Resume s t (answer, did) = goes_one 0 _ s t did
+  does_go x s t d = by_word handler firing s t (λ o. Goes s (calls_in o) t) (λ e. goes_none s t e) x tt
+      (λ name call is c. goes_one name call s t c) d
 
   pub step_goes : (s : Progress R C) (x : Step) (t : Progress R C) (d : TakesStep handler firing s x t)
       → Goes s (step_calls handler firing s x t d) t

@@ -89,8 +89,6 @@ module _ {C R : Type 0} (handler : Calls C) (firing : Raise R) (k : ℕ) where
   does_not_add i clock (steps.Omni a) s t (inl (when, starts, lasts, long, (answer, did))) is =
       not_added_on_all a.level when a.skew s.clock clock answer (a.name == k) (BeginsOnAll (everywhere a) clock) is
   does_not_add i clock (steps.Omni a) s t (inr (bad, e)) is = tt
-  does_not_add i clock (steps.Bind b) s t d is = adds_if _ Passes tt
-  does_not_add i clock (steps.Unbind name) s t d is = adds_if _ Passes tt
   does_not_add i clock (steps.Reprogram r) s t d is =
       adds_if _ (cond (r.name == k) (reprogrammed r.cpu (magnitude r.moment)) Passes)
       (adds_if (r.name == k) (reprogrammed r.cpu (magnitude r.moment)) (sets_only r.cpu (magnitude r.moment)))
@@ -99,11 +97,9 @@ module _ {C R : Type 0} (handler : Calls C) (firing : Raise R) (k : ℕ) where
   does_not_add i clock (steps.Advance now) s t (inl d) is = tt
   does_not_add i clock (steps.Advance now) s t (inr d) is = tt
   does_not_add i clock (steps.Softint soft) s t d is = tt
-  does_not_add i clock (steps.Juggle n) s t d is = adds_if _ Passes tt
   does_not_add i clock (steps.Offline n) s t d is = adds_if _ (Leaves n) tt
   does_not_add i clock (steps.Online n) s t d is = adds_if _ (Returns n clock) tt
-  does_not_add i clock steps.Suspend s t d is = adds_if _ Passes tt
-  does_not_add i clock steps.Resume s t d is = adds_if _ Passes tt
+  does_not_add i clock x s t d is = adds_if _ Passes tt
 
   pub all_idle : (s : Progress R C) (xs : List Step) (t : Progress R C) (takes : TakesSteps handler firing s xs
       t) → id_in_steps handler firing k s xs t takes ≡ None → (clock : ℕ) (told : Told) → IsIdle told

@@ -1,7 +1,7 @@
 -- The level with which the calls of a run gave the id of a name is the level of the name in the script.
 use Rattle.std.proofs.Common.{◌≡◌, ◌∙◌, ℕ, ◌<◌, ◌≤◌, ◌+◌, ◌==◌, inl, inr, List, [], ◌∷◌, ◌++◌, Option, Some, None, Ok, Err}
 use Rattle.std.proofs.Common.{refl, sym, ap, arith}
-use Rattle.std.specs.Prelude.{Bool, true, false, cond, ◌&&◌}
+use Rattle.std.specs.Prelude.{Bool, true, false, cond}
 use Rattle.std.specs.List.{FoldsTo}
 use Rattle.cyc_types.specs.declared.Calls.{Ghosts as Calls}
 use Rattle.cyc_types.specs.declared.Raise.{Ghosts as Raise}
@@ -193,17 +193,7 @@ module _ {C R : Type 0} (handler : Calls C) (firing : Raise R) where
   does_level name id (steps.Omni a) s t (inl (when, starts, lasts, long, (Err why, did))) e =
       absurd (none_added (a.name == name) id e)
   does_level name id (steps.Omni a) s t (inr nothing) e = absurd (none_added (a.name == name) id e)
-  does_level name id (steps.Bind b) s t d e = absurd (none_some e)
-  does_level name id (steps.Unbind own) s t d e = absurd (none_some e)
-  does_level name id (steps.Reprogram r) s t d e = absurd (none_some e)
-  does_level name id (steps.Remove own) s t d e = absurd (none_some e)
-  does_level name id (steps.Advance now) s t d e = absurd (none_some e)
-  does_level name id (steps.Softint i) s t d e = absurd (none_some e)
-  does_level name id (steps.Juggle n) s t d e = absurd (none_some e)
-  does_level name id (steps.Offline n) s t d e = absurd (none_some e)
-  does_level name id (steps.Online n) s t d e = absurd (none_some e)
-  does_level name id steps.Suspend s t d e = absurd (none_some e)
-  does_level name id steps.Resume s t d e = absurd (none_some e)
+  does_level name id x s t d e = absurd (none_some e)
 
   abbrev SameLevel : ℕ → ℕ → List Step → List LeadCall → Type 0
   SameLevel name id xs way = (level : Level) × (level_in id way ≡ Some level) × (level_named name xs ≡ Some level)

@@ -1,3 +1,4 @@
+pub mod Called
 pub mod Going
 pub mod Accepting
 pub mod Holding

@@ -1,12 +1,11 @@
 -- Whether the system is suspended, from step to step.
-use Rattle.std.proofs.Common.{◌≡◌, ◌∙◌, ℕ, ◌<◌, Bool, true, false, Option, Some, None, Result, List, [], ◌∷◌}
+use Rattle.std.proofs.Common.{◌≡◌, ◌∙◌, ℕ, Bool, true, false, Option, Some, None, Result, List, [], ◌∷◌}
 use Rattle.std.proofs.Common.{length, sym, ap, arith}
 use Rattle.std.specs.List.{FoldsTo}
 use Rattle.std.specs.Option.{option_map_or}
 use Rattle.std.proofs.lemmas.Option.{slice_get_within}
 use Rattle.cyc_types.specs.declared.Calls.{Ghosts as Calls}
 use Rattle.cyc_types.specs.declared.Raise.{Ghosts as Raise}
-use Rattle.cyc_types.specs.declared.refusal.Refusal.{Refusal}
 use Rattle.cyc_script.specs.declared.step.Step.{Step}
 use Rattle.cyc_script.specs.declared.step.Step.TheVariants as steps
 use Rattle.cyc_timers.specs.declared.fire.Fired.{Fired}
@@ -15,15 +14,15 @@ use Rattle.cyc_cpu.specs.Cpu.{CpuView, Running, running}
 use Rattle.cyc_cpu.specs.Calls.{AskSettled, no_interrupts}
 use Rattle.cyc_cpu.proofs.Calling.{changes_suspended, fire_keeps}
 use Rattle.cyc_agreement.specs.Suspending.{is_suspended}
-use Rattle.cyc_threads.specs.Calls.{SystemCall, PollRemove, reprograms}
+use Rattle.cyc_threads.specs.Calls.{SystemCall, PollRemove, Suspend, Resume}
 use Rattle.cyc_threads.specs.Settling.{AsksSettled}
 use Rattle.cyc_threads.specs.SystemSide.{SystemSide}
 use Rattle.cyc_threads.specs.Advancing.{moment_asked, FiresIf}
 use Rattle.cyc_threads.specs.declared.progress.Progress.{Progress}
 use Rattle.cyc_threads.specs.StepCalls.{CallsFor, Poll, Polls, SettlesAll, Fires, HasLeads}
-use Rattle.cyc_words.specs.Names.{named_at, cyclic_id}
+use Rattle.cyc_words.proofs.Within.{IsCallOf}
 use Rattle.cyc_threads.specs.Words.{DoesStep, Begins, waits_first}
-use Rattle.cyc_words.proofs.Within.{with_series, with_moment, with_id}
+use Rattle.cyc_thread_calls.proofs.Called.{by_word}
 use Rattle.cyc_threads.proofs.Spots.{get_some}
 use Rattle.cyc_system_rings.proofs.Suspending.{marks_each}
 use Rattle.cyc_threads.proofs.Pieces.{LeavesMarks, marks_same}
@@ -36,6 +35,13 @@ LeavesSuspended (steps.Advance now) = ⊥
 LeavesSuspended x = Unit {0}
 
 module _ {R : Type 0} (firing : Raise R) where
+  call_leaves : (x : Step) (call : SystemCall) → LeavesSuspended x → IsCallOf x call → LeavesMarks firing call
+  call_leaves steps.Suspend call plain is = absurd plain
+  call_leaves steps.Resume call plain is = absurd plain
+  call_leaves x (Suspend answer) plain is = absurd is
+  call_leaves x (Resume answer) plain is = absurd is
+  call_leaves x call plain is = tt
+
   asks_mark : (answers : List Bool) (x y : CpuView R) → FoldsTo (AsksSettled firing) x answers y → y.suspended ≡ x.suspended
   asks_mark [] x y e = ap (λ (z : CpuView R). z.suspended) (sym e)
   asks_mark (answer ∷ answers) x y (z, (first, lawful), rest) =
@@ -55,11 +61,6 @@ module _ {C R : Type 0} (handler : Calls C) (firing : Raise R) where
   call_same name call s t plain c = ap (λ o. option_map_or (λ suspended. suspended) o false)
       (marks_same firing s.side.system t.side.system call plain c.did 0)
 
-  reprogram_leaves : (cpu : Option ℕ) (id moment : ℕ) (answer : Result (Unit {0}) Refusal)
-      → LeavesMarks firing (reprograms cpu id moment answer)
-  reprogram_leaves None id moment answer = tt
-  reprogram_leaves (Some n) id moment answer = tt
-
   polls_same : (polls : List Poll) (s t : Progress R C) → FoldsTo (Polls firing) s polls t → Same s t
   polls_same [] s t e = same_is s t (sym e)
   polls_same (p ∷ polls) s t (u, (here, did), rest) =
@@ -74,26 +75,12 @@ module _ {C R : Type 0} (handler : Calls C) (firing : Raise R) where
   begins_same true s t (polls, u, polled, settled) = settles_same u t settled ∙ polls_same polls s u polled
 
   pub does_same : (x : Step) (s t : Progress R C) → LeavesSuspended x → DoesStep handler firing x s t → Same s t
-  does_same (steps.Add a) s t plain d = with_series a.start a.interval _ (Same s t) (t ≡ s) d
-      (λ when p. call_same a.name _ s t tt p.1) (λ e. same_is s t e)
-  does_same (steps.Omni a) s t plain d = with_series a.start a.interval _ (Same s t) (t ≡ s) d
-      (λ when p. call_same a.name _ s t tt p.1) (λ e. same_is s t e)
-  does_same (steps.Bind b) s t plain d = with_id (cyclic_id (named_at s.names b.name)) _ (Same s t) (t ≡ s) d
-      (λ id p. call_same b.name _ s t tt p.1) (λ e. same_is s t e)
-  does_same (steps.Unbind name) s t plain d = with_id (cyclic_id (named_at s.names name)) _ (Same s t) (t ≡ s) d
-      (λ id p. call_same name _ s t tt p.1) (λ e. same_is s t e)
-  does_same (steps.Reprogram r) s t plain d = with_moment r.moment _ (Same s t) (t ≡ s) d
-      (λ moment q. with_id (cyclic_id (named_at s.names r.name)) _ (Same s t) (t ≡ s) q
-      (λ id p. call_same r.name _ s t (reprogram_leaves r.cpu id moment p.0) p.1) (λ e. same_is s t e)) (λ e. same_is s t e)
-  does_same (steps.Remove name) s t plain d = with_id (cyclic_id (named_at s.names name)) _ (Same s t) (t ≡ s) d
-      (λ id p. call_same name _ s t tt p.1) (λ e. same_is s t e)
-  does_same (steps.Advance now) s t plain d = absurd plain
-  does_same (steps.Softint i) s t plain d = same_is s t d
-  does_same (steps.Juggle n) s t plain d = call_same 0 _ s t tt d.1
-  does_same (steps.Offline n) s t plain d = call_same 0 _ s t tt d.1
-  does_same (steps.Online n) s t plain d = call_same 0 _ s t tt d.1
   does_same steps.Suspend s t plain d = absurd plain
   does_same steps.Resume s t plain d = absurd plain
+  does_same (steps.Advance now) s t plain d = absurd plain
+  does_same (steps.Softint i) s t plain d = same_is s t d
+  does_same x s t plain d = by_word handler firing s t (λ o. Same s t) (λ e. same_is s t e) x tt
+      (λ name call is c. call_same name call s t (call_leaves firing x call plain is) c) d
 
   pub step_same : (x : Step) (s u t : Progress R C) → LeavesSuspended x → Begins firing (waits_first x) s u
       → DoesStep handler firing x u t → Same s t

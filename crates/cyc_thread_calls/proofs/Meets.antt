@@ -1,11 +1,9 @@
 -- Each step of a run is to a name what its call is to the id of the name.
-use Rattle.cyc_threads.specs.Calls.{Suspend, Resume}
 use Rattle.std.proofs.Common.{◌≡◌, ◌==◌, ◌∙◌, ℕ, inl, inr, Bool, true, false, List, [], ◌∷◌, ◌++◌, Option, Some, None}
 use Rattle.std.proofs.Common.{Result, Ok, Err, refl, sym, ap, subst}
 use Rattle.std.specs.Prelude.{⊤}
 use Rattle.std.specs.List.{FoldsTo}
 use Rattle.std.specs.Option.{option_map_or}
-use Rattle.std.specs.Result.{is_ok}
 use Rattle.cyc_types.specs.declared.Calls.{Ghosts as Calls}
 use Rattle.cyc_types.specs.declared.Raise.{Ghosts as Raise}
 use Rattle.cyc_types.specs.declared.level.Level.{Level}
@@ -16,7 +14,7 @@ use Rattle.cyc_script.specs.declared.step.Step.TheVariants as steps
 use Rattle.cyc_expected.specs.Course.{Event, Passes, Told, told_after, told_by}
 use Rattle.cyc_expected.specs.Expected.{clock_after, course_events}
 use Rattle.cyc_threads.specs.SystemRemoval.{SystemRemoval}
-use Rattle.cyc_threads.specs.Calls.{SystemCall, Add, AddOmni, Bind, BeginRemove, PollRemove, Juggle, Offline, Online}
+use Rattle.cyc_threads.specs.Calls.{SystemCall, Add, AddOmni, BeginRemove, PollRemove, Offline, Online}
 use Rattle.cyc_threads.specs.Calls.{reprograms}
 use Rattle.cyc_system_rings.specs.Leading.{LeadCall, Make, AskAll}
 use Rattle.cyc_system_rings.specs.Events.{event_in, events_in}
@@ -26,10 +24,11 @@ use Rattle.cyc_threads.specs.StepCalls.{CallsFor, Poll, Polls, Waits}
 use Rattle.cyc_words.specs.Words.{WithId}
 use Rattle.cyc_threads.specs.Words.{DoesStep, Begins, waits_first}
 use Rattle.cyc_threads.specs.Steps.{TakesSteps}
-use Rattle.cyc_thread_calls.specs.Leading.{calls_in, poll_calls, wait_calls, begin_calls, call_with, call_of, steps_calls}
-use Rattle.cyc_thread_calls.specs.Meeting.{is_taken, was_accepted, steps_met}
+use Rattle.cyc_thread_calls.specs.Leading.{calls_in, poll_calls, wait_calls, begin_calls, call_of, steps_calls}
+use Rattle.cyc_thread_calls.specs.Meeting.{is_accepted, is_taken, was_accepted, steps_met}
 use Rattle.cyc_thread_calls.specs.Giving.{given_by}
-use Rattle.cyc_thread_calls.proofs.Owners.{IsFor, Owns, owns_noted}
+use Rattle.cyc_thread_calls.proofs.Called.{call_with, by_word, no_event}
+use Rattle.cyc_thread_calls.proofs.Owners.{IsFor, Owns, owns_noted, for_none}
 use Rattle.cyc_thread_calls.proofs.Events.{cond_same, events_more, event_here, one_call, event_met, clock_met, one_met, taken}
 use Rattle.cyc_thread_calls.proofs.Events.{add_event, omni_event, set_event, remove_event, offline_event, online_event}
 
@@ -104,13 +103,6 @@ module _ {C R : Type 0} (handler : Calls C) (firing : Raise R) where
         (λ d f. subst (λ (q : ℕ). (q == i) ≡ (name == k)) (fits own d answer f) mine) still (same own answer mine)
     with_one Answer call name s t x None is e owns fits still same = idle s t x e still owns
 
-    -- one that is about no id
-    apart : (call : SystemCall) (s t : Progress R C) (x : Step) → CallsFor firing 0 call s t → Owns i k s.names
-        → ((d : ℕ) → IsFor d call → ⊥) → clock_after x s.clock ≡ s.clock
-        → event_in i (Make call) ≡ event_met i k s.clock x (is_taken (Make call)) → Meets s t x (Some (Make call))
-        (is_taken (Make call))
-    apart call s t x did owns none still same = called_one 0 call s t x did owns (λ d f. absurd (none d f)) still same
-
     abbrev Fit : ℕ → ℕ → Type 0
     Fit j d = (d == i) ≡ (j == k)
 
@@ -129,12 +121,6 @@ module _ {C R : Type 0} (handler : Calls C) (firing : Raise R) where
         (omni_event i k a when s.clock answer starts lasts
         (λ d e. gives d (ap (λ (q : Result ℕ Refusal). given_by (Make (AddOmni a.level when a.skew s.clock q))) e)))
     does_meets (steps.Omni a) s t (inr (bad, e)) owns gives = idle s t (steps.Omni a) e refl owns
-    does_meets (steps.Bind b) s t d owns gives = with_one (Unit {0}) (λ id answer. Bind id (Some b.cpu) answer) b.name s t
-        (steps.Bind b) (cyclic_id (named_at s.names b.name)) refl d owns (λ own q answer f. absurd f) refl
-        (λ own answer mine. sym (cond_same (is_ok answer) Passes))
-    does_meets (steps.Unbind name) s t d owns gives = with_one (Unit {0}) (λ id answer. Bind id None answer) name s t
-        (steps.Unbind name) (cyclic_id (named_at s.names name)) refl d owns (λ own q answer f. absurd f) refl
-        (λ own answer mine. sym (cond_same (is_ok answer) Passes))
     does_meets (steps.Reprogram r) s t (inl (moment, is, d)) owns gives =
         with_one (Unit {0}) (λ id answer. reprograms r.cpu id moment answer) r.name s t
         (steps.Reprogram r) (cyclic_id (named_at s.names r.name)) refl d owns (λ own q answer f. for_set r.cpu q own moment
@@ -159,16 +145,14 @@ module _ {C R : Type 0} (handler : Calls C) (firing : Raise R) where
       owns = subst (λ (p : Progress R C). Owns i k p.names) (sym e) owns;
       clock = ap (λ (p : Progress R C). p.clock) e;
     }
-    does_meets (steps.Juggle n) s t (answer, did) owns gives = apart (Juggle n answer) s t (steps.Juggle n) did owns
-        (λ d f. f) refl (sym (cond_same (is_ok answer) Passes))
-    does_meets (steps.Offline n) s t (answer, did) owns gives = apart (Offline n answer) s t (steps.Offline n) did owns
-        (λ d f. f) refl (offline_event i k n s.clock answer)
-    does_meets (steps.Online n) s t (answer, did) owns gives = apart (Online n s.clock answer) s t (steps.Online n) did owns
-        (λ d f. f) refl (online_event i k n s.clock answer)
-    does_meets steps.Suspend s t (answer, did) owns gives = apart (Suspend answer) s t steps.Suspend did owns
-        (λ d f. f) refl (sym (cond_same (is_ok answer) Passes))
-    does_meets steps.Resume s t (answer, did) owns gives = apart (Resume answer) s t steps.Resume did owns
-        (λ d f. f) refl (sym (cond_same (is_ok answer) Passes))
+    does_meets (steps.Offline n) s t (answer, did) owns gives = called_one 0 (Offline n answer) s t (steps.Offline n) did owns
+        (λ d f. absurd f) refl (offline_event i k n s.clock answer)
+    does_meets (steps.Online n) s t (answer, did) owns gives = called_one 0 (Online n s.clock answer) s t (steps.Online n) did
+        owns (λ d f. absurd f) refl (online_event i k n s.clock answer)
+    does_meets x s t d owns gives = by_word handler firing s t (λ o. Meets s t x o (option_map_or is_taken o false))
+        (λ e. idle s t x e refl owns) x tt
+        (λ name call is c. called_one name call s t x c owns (λ q f. absurd (for_none x call tt is q f)) refl
+        (no_event x call tt is i ∙ sym (cond_same (is_accepted call) Passes))) d
 
     -- ---- the waits
 

@@ -2,12 +2,13 @@
 use Rattle.std.proofs.Common.{◌≡◌, ◌∙◌, ◌==◌, ℕ, suc, ◌<◌, ◌≤◌, ◌⊎◌, inl, inr, Bool, true, false, cond, not}
 use Rattle.std.proofs.Common.{Option, Some, None, Result, Ok, Err, List, [], ◌∷◌, find, length, get_or, replicate, refl, sym, ap}
 use Rattle.std.proofs.Common.{subst, arith}
-use Rattle.std.specs.Prelude.{nat_lt, nat_le, ◌&&◌, ◌||◌, is_ok, is_some}
+use Rattle.std.specs.Prelude.{⊤, nat_lt, nat_le, ◌&&◌, ◌||◌, is_ok, is_some}
 use Rattle.std.specs.List.{slice_get, list_any}
 use Rattle.std.specs.Option.{option_map_or, option_and_then}
 use Rattle.std.proofs.lemmas.Bool.Decides.{nat_tests}
 use Rattle.std.proofs.lemmas.List.{get_or-replicate, length-replicate}
 use Rattle.std.proofs.lemmas.Option.{slice_get-get_or}
+use Rattle.cyc_types.specs.declared.Calls.{Ghosts as Calls}
 use Rattle.cyc_types.specs.declared.Raise.{Ghosts as Raise}
 use Rattle.cyc_types.specs.declared.refusal.Refusal.{Refusal}
 use Rattle.cyc_types.specs.declared.refusal.Refusal.TheVariants as why
@@ -24,14 +25,20 @@ use Rattle.cyc_threads.specs.System.{is_leaving as is_leaving_id}
 use Rattle.cyc_threads.specs.System.{is_unknown, is_omnipresent, record_of}
 use Rattle.cyc_threads.specs.Refusals.{no_cyclic, omnipresent, no_cpu, offline_cpu, no_component}
 use Rattle.cyc_system_rings.specs.Online.{online_cpu}
-use Rattle.cyc_threads.specs.Calls.{SystemCall, Changes, Bind, Reprogram, ReprogramOn, Juggle, Online, reprograms}
+use Rattle.cyc_script.specs.declared.step.Step.{Step}
+use Rattle.cyc_script.specs.declared.step.Step.TheVariants as steps
+use Rattle.cyc_threads.specs.Calls.{SystemCall, Changes, Add, AddOmni, BeginRemove, PollRemove, AskTotals, Reprogram}
+use Rattle.cyc_threads.specs.Calls.{ReprogramOn, Offline, Online, FireOne, SoftInterrupt}
 use Rattle.cyc_threads.specs.Keeping.{TouchesRecord}
 use Rattle.cyc_threads.specs.Sound.{IsSound}
 use Rattle.cyc_threads.specs.declared.progress.Progress.{Progress}
 use Rattle.cyc_threads.specs.StepCalls.{CallsFor}
-use Rattle.cyc_words.specs.Names.{NoneLeaves}
-use Rattle.cyc_words.specs.Words.{WithId}
+use Rattle.cyc_words.specs.Names.{NoneLeaves, noted}
+use Rattle.cyc_words.specs.Words.{MakesCall}
+use Rattle.cyc_words.proofs.Within.{IsCallOf}
+use Rattle.cyc_threads.specs.Words.{DoesStep}
 use Rattle.cyc_thread_calls.specs.Way.{Standing}
+use Rattle.cyc_thread_calls.proofs.Called.{LeavesNames, by_word, no_news}
 use Rattle.cyc_thread_calls.proofs.Keeping.{AllStill, IsMove, keeps_call, last_move, quiet_move}
 use Rattle.cyc_thread_calls.proofs.Fitting.{IsThere, Fits, fits_same}
 use Rattle.cyc_thread_calls.proofs.Waiting.{IsCalmNow}
@@ -76,6 +83,52 @@ is_known id everywhere s h still = not_when (is_unknown id s || is_leaving_id id
 
 -- ---- a move
 
+-- the word neither adds a cyclic nor removes one, and takes no CPU offline or back
+abbrev pub LeavesCpus : Step → Type 0
+LeavesCpus (steps.Add a) = ⊥
+LeavesCpus (steps.Omni a) = ⊥
+LeavesCpus (steps.Remove name) = ⊥
+LeavesCpus (steps.Offline n) = ⊥
+LeavesCpus (steps.Online n) = ⊥
+LeavesCpus x = ⊤
+
+leaves_names : (x : Step) → LeavesCpus x → LeavesNames x
+leaves_names (steps.Add a) plain = plain
+leaves_names (steps.Omni a) plain = plain
+leaves_names (steps.Remove name) plain = plain
+leaves_names x plain = tt
+
+moves : {R : Type 0} (firing : Raise R) (x : Step) (call : SystemCall) → LeavesCpus x → IsCallOf x call → IsMove firing call
+moves firing (steps.Add a) call plain is = absurd plain
+moves firing (steps.Omni a) call plain is = absurd plain
+moves firing (steps.Remove name) call plain is = absurd plain
+moves firing (steps.Offline n) call plain is = absurd plain
+moves firing (steps.Online n) call plain is = absurd plain
+moves firing x (Add level when now answer) plain is = absurd is
+moves firing x (AddOmni level when skew now answer) plain is = absurd is
+moves firing x (BeginRemove id answer) plain is = absurd is
+moves firing x (PollRemove id answer) plain is = absurd is
+moves firing x (AskTotals id answer) plain is = absurd is
+moves firing x (Offline n answer) plain is = absurd is
+moves firing x (Online n now answer) plain is = absurd is
+moves firing x (FireOne n now answer) plain is = absurd is
+moves firing x (SoftInterrupt n level budget answer) plain is = absurd is
+moves firing x call plain is = tt
+
+untouched : (x : Step) (call : SystemCall) → LeavesCpus x → IsCallOf x call → (id : ℕ) → TouchesRecord id call → ⊥
+untouched (steps.Add a) call plain is id touches = plain
+untouched (steps.Omni a) call plain is id touches = plain
+untouched (steps.Remove name) call plain is id touches = plain
+untouched (steps.Offline n) call plain is id touches = plain
+untouched (steps.Online n) call plain is id touches = plain
+untouched x (Add level when now answer) plain is id touches = is
+untouched x (AddOmni level when skew now answer) plain is id touches = is
+untouched x (BeginRemove own answer) plain is id touches = is
+untouched x (PollRemove own answer) plain is id touches = is
+untouched x (Offline n answer) plain is id touches = is
+untouched x (Online n now answer) plain is id touches = is
+untouched x call plain is id touches = touches
+
 module _ {C R : Type 0} (firing : Raise R) (cpus names given : ℕ) (has : ℕ
     → Standing) where
   -- what is true stays, and so does that nothing is open
@@ -98,32 +151,14 @@ module _ {C R : Type 0} (firing : Raise R) (cpus names given : ℕ) (has : ℕ
         calm = λ q. record { none = subst NoneLeaves (sym same) q.none; still = k.still q.still };
       }
 
-  pub bind_stays : (name : ℕ) (cpu : Option ℕ) (s t : Progress R C) (o : Option ℕ)
-      → WithId o (λ id. (answer : Result (Unit {0}) Refusal) × CallsFor firing name (Bind id cpu answer) s t) (t ≡ s)
-      → Fits firing cpus names given has s → Stays s t
-  bind_stays name cpu s t None same h = stays_same s t same h
-  bind_stays name cpu s t (Some id) (answer, c) h = stays_move name (Bind id cpu answer) s t c tt c.told
-      (λ own touches. touches) h
-
-  pub juggle_stays : (n : ℕ) (answer : _) (s t : Progress R C) → CallsFor firing 0 (Juggle n answer) s t
-      → Fits firing cpus names given has s → Stays s t
-  juggle_stays n answer s t c h = stays_move 0 (Juggle n answer) s t c tt c.told (λ own touches. touches) h
-
-  -- ---- a reprogram
-
-  reprogram_stays : (name id moment : ℕ) (cpu : Option ℕ) (answer : Result (Unit {0}) Refusal) (s t : Progress R C)
-      → CallsFor firing name (reprograms cpu id moment answer) s t → Fits firing cpus names given has s → Stays s t
-  reprogram_stays name id moment None answer s t c h =
-      stays_move name (Reprogram id moment answer) s t c tt c.told (λ own touches. touches) h
-  reprogram_stays name id moment (Some n) answer s t c h =
-      stays_move name (ReprogramOn id n moment answer) s t c tt c.told (λ own touches. touches) h
-
-  pub reprogrammed_stays : (name moment : ℕ) (cpu : Option ℕ) (s t : Progress R C) (o : Option ℕ)
-      → WithId o (λ id. (answer : Result (Unit {0}) Refusal)
-      × CallsFor firing name (reprograms cpu id moment answer) s t) (t ≡ s)
-      → Fits firing cpus names given has s → Stays s t
-  reprogrammed_stays name moment cpu s t None same h = stays_same s t same h
-  reprogrammed_stays name moment cpu s t (Some id) (answer, c) h = reprogram_stays name id moment cpu answer s t c h
+module _ {C R : Type 0} (handler : Calls C) (firing : Raise R) (cpus names given : ℕ) (has : ℕ → Standing) where
+  -- so does a word that neither adds a cyclic nor removes one, and takes no CPU offline or back
+  pub word_stays : (x : Step) (s t : Progress R C) → MakesCall x → LeavesCpus x → DoesStep handler firing x s t
+      → Fits firing cpus names given has s → Stays firing cpus names given has s t
+  word_stays x s t makes plain d h = by_word handler firing s t (λ o. Stays firing cpus names given has s t)
+      (λ e. stays_same firing cpus names given has s t e h) x makes
+      (λ name call is c. stays_move firing cpus names given has name call s t c (moves firing x call plain is)
+      (c.told ∙ ap (λ o. noted name o s.names) (no_news x call (leaves_names x plain) is)) (untouched x call plain is) h) d
 
 -- ---- a CPU that is online can't come back
 

@@ -16,7 +16,7 @@ use Rattle.cyc_script.specs.declared.step.Step.{Step}
 use Rattle.cyc_script.specs.declared.step.Step.TheVariants as steps
 use Rattle.cyc_threads.specs.SystemRemoval.{SystemRemoval}
 use Rattle.cyc_threads.specs.SystemRemoval.TheVariants.{Done, Kept}
-use Rattle.cyc_threads.specs.Calls.{SystemCall, Changes, Add, AddOmni, Bind, BeginRemove, PollRemove, reprograms}
+use Rattle.cyc_threads.specs.Calls.{SystemCall, Changes, Add, AddOmni, BeginRemove, PollRemove}
 use Rattle.cyc_threads.proofs.Pieces.{made_of}
 use Rattle.cyc_system_rings.specs.Leading.{LeadCall, Make, FireAll, AskAll}
 use Rattle.cyc_system_rings.specs.Rings.{receipt_of, first_ring}
@@ -28,9 +28,10 @@ use Rattle.cyc_threads.specs.StepCalls.{CallsFor, Poll, Polls, Waits}
 use Rattle.cyc_words.specs.Words.{WithId}
 use Rattle.cyc_threads.specs.Words.{DoesStep, Begins, waits_first}
 use Rattle.cyc_threads.specs.Steps.{TakesSteps, Runs}
-use Rattle.cyc_thread_calls.specs.Leading.{calls_in, poll_calls, wait_calls, begin_calls, call_with, call_of}
+use Rattle.cyc_thread_calls.specs.Leading.{calls_in, poll_calls, wait_calls, begin_calls, call_of}
 use Rattle.cyc_thread_calls.specs.Leading.{steps_calls, run_calls}
 use Rattle.cyc_thread_calls.specs.Giving.{given_by, given_in, later_id, id_in_steps, id_given}
+use Rattle.cyc_thread_calls.proofs.Called.{call_with, by_word, no_news, no_receipt}
 use Rattle.cyc_thread_calls.proofs.Holding.{Fits, Holds, holds_first, holds_as, holds_quiet, holds_given, holds_changed}
 
 -- the receipt of one id is none of another
@@ -39,16 +40,6 @@ receipt_else own id receipt ne = ap (λ b. cond b (Some receipt) None) (false_ne
 
 receipt_own : (id : ℕ) (receipt : Receipt) → cond (id == id) (Some receipt) None ≡ Some receipt
 receipt_own id receipt = ap (λ b. cond b (Some receipt) None) (true_eq id id refl)
-
-reprogram_tells : (cpu : Option ℕ) (id moment : ℕ) (answer : Result (Unit {0}) Refusal)
-    → news (reprograms cpu id moment answer) ≡ None
-reprogram_tells None id moment answer = refl
-reprogram_tells (Some n) id moment answer = refl
-
-reprogram_receipt : (cpu : Option ℕ) (id moment own : ℕ) (answer : Result (Unit {0}) Refusal)
-    → receipt_of own (Make (reprograms cpu id moment answer)) ≡ None
-reprogram_receipt None id moment own answer = refl
-reprogram_receipt (Some n) id moment own answer = refl
 
 module _ {C R : Type 0} (handler : Calls C) (firing : Raise R) (many : ℕ) where
   abbrev pub Held : (ℕ → Option ℕ) → List LeadCall → Progress R C → Type 0
@@ -152,16 +143,13 @@ module _ {C R : Type 0} (handler : Calls C) (firing : Raise R) (many : ℕ) wher
 
   -- ---- steps
 
-  with_held : (Answer : Type 0) (call : ℕ → Result Answer Refusal → SystemCall) (g : ℕ
-      → Option ℕ) (way : List LeadCall) (name : ℕ)
-      (s t : Progress R C)
-      → ((id : ℕ) (answer : Result Answer Refusal) → cyclic_id (named_at s.names name) ≡ Some id
-      → CallsFor firing name (call id answer) s t → Held g way s → Held g (way ++ Make (call id answer) ∷ []) t)
-      → (id : Option ℕ) → cyclic_id (named_at s.names name) ≡ id
-      → (d : WithId id (λ own. (answer : Result Answer Refusal) × CallsFor firing name (call own answer) s t) (t ≡ s))
-      → Held g way s → Held g (way ++ calls_in (call_with firing Answer call name s t id d)) t
-  with_held Answer call g way name s t each (Some id) has (answer, did) k = each id answer has did k
-  with_held Answer call g way name s t each None has e k = same_held g way s t e k
+  removed : (g : ℕ → Option ℕ) (way : List LeadCall) (name : ℕ) (s t : Progress R C) (id : Option ℕ)
+      → cyclic_id (named_at s.names name) ≡ id
+      → (d : WithId id (λ own. (answer : Result SystemRemoval Refusal) × CallsFor firing name (BeginRemove own answer) s t)
+      (t ≡ s)) → Held g way s
+      → Held g (way ++ calls_in (call_with firing SystemRemoval (λ own answer. BeginRemove own answer) name s t id d)) t
+  removed g way name s t (Some id) has (answer, did) k = begins g way name id answer s t has did k
+  removed g way name s t None has e k = same_held g way s t e k
 
   pub does_held : (g : ℕ → Option ℕ) (way : List LeadCall) (x : Step) (s t : Progress R C)
       (d : DoesStep handler firing x s t) → Held g way s
@@ -175,31 +163,15 @@ module _ {C R : Type 0} (handler : Calls C) (firing : Raise R) (many : ℕ) wher
       added_everywhere g way a.name a.level when a.skew s.clock answer s t did k
   does_held g way (steps.Omni a) s t (inr (odd, e)) k =
       holds_as many g _ _ t.names t.side.system.last (λ n. none_given (g n) (a.name == n)) (same_held g way s t e k)
-  does_held g way (steps.Bind b) s t d k =
-      with_held (Unit {0}) (λ id answer. Bind id (Some b.cpu) answer) g way b.name s t
-      (λ id answer has did held. quiet g way b.name _ s t did refl (λ own. refl) held) (cyclic_id (named_at s.names b.name))
-      refl d k
-  does_held g way (steps.Unbind name) s t d k =
-      with_held (Unit {0}) (λ id answer. Bind id None answer) g way name s t
-      (λ id answer has did held. quiet g way name _ s t did refl (λ own. refl) held) (cyclic_id (named_at s.names name)) refl d k
-  does_held g way (steps.Reprogram r) s t (inl (moment, is, d)) k =
-      with_held (Unit {0}) (λ id answer. reprograms r.cpu id moment answer) g way r.name s t
-      (λ id answer has did held. quiet g way r.name _ s t did (reprogram_tells r.cpu id moment answer)
-      (λ own. reprogram_receipt r.cpu id moment own answer) held) (cyclic_id (named_at s.names r.name)) refl d k
-  does_held g way (steps.Reprogram r) s t (inr (odd, e)) k = same_held g way s t e k
-  does_held g way (steps.Remove name) s t d k =
-      with_held SystemRemoval (λ id answer. BeginRemove id answer) g way name s t
-      (λ id answer has did held. begins g way name id answer s t has did held) (cyclic_id (named_at s.names name)) refl d k
+  does_held g way (steps.Remove name) s t d k = removed g way name s t (cyclic_id (named_at s.names name)) refl d k
   does_held g way (steps.Advance now) s t (inl (suspended, e)) k = same_held g way (record s { clock = now }) t e k
   does_held g way (steps.Advance now) s t (inr f) k =
       holds_quiet many g way s.names s.side.system.last k (FireAll now) t.names t.side.system.last (λ own. refl) f.names
       (let a = ap (λ p. p.system.last) f.side in let b = f.fired.last in omega (arith, a, b))
   does_held g way (steps.Softint i) s t e k = same_held g way s t e k
-  does_held g way (steps.Juggle n) s t (answer, did) k = quiet g way 0 _ s t did refl (λ own. refl) k
-  does_held g way (steps.Offline n) s t (answer, did) k = quiet g way 0 _ s t did refl (λ own. refl) k
-  does_held g way (steps.Online n) s t (answer, did) k = quiet g way 0 _ s t did refl (λ own. refl) k
-  does_held g way steps.Suspend s t (answer, did) k = quiet g way 0 _ s t did refl (λ own. refl) k
-  does_held g way steps.Resume s t (answer, did) k = quiet g way 0 _ s t did refl (λ own. refl) k
+  does_held g way x s t d k = by_word handler firing s t
+      (λ o. Held (λ n. later_id (g n) (given_in n x o)) (way ++ calls_in o) t) (λ e. same_held g way s t e k) x tt
+      (λ name call is c. quiet g way name call s t c (no_news x call tt is) (no_receipt x call tt is) k) d
 
   polls_held : (all : List Poll) (g : ℕ → Option ℕ) (way : List LeadCall) (s t : Progress R C) → FoldsTo (Polls firing) s all t
       → Held g way s → Held g (way ++ poll_calls all) t

@@ -1,13 +1,17 @@
 -- Which name has which id, over the calls of a run.
 use Rattle.std.proofs.Common.{◌≡◌, ◌==◌, ◌∙◌, ℕ, ◌⊎◌, inl, inr, List, Some, Ok}
 use Rattle.std.proofs.Common.{slice_set, sym, ap}
-use Rattle.cyc_thread_calls.proofs.Polled.{set_at}
 use Rattle.cyc_threads.proofs.Spots.{same_some, none_some}
+use Rattle.cyc_script.specs.declared.step.Step.{Step}
+use Rattle.cyc_script.specs.declared.step.Step.TheVariants as steps
 use Rattle.cyc_threads.specs.SystemRemoval.TheVariants.{Done, Kept}
 use Rattle.cyc_threads.specs.Calls.{SystemCall, Add, AddOmni, BeginRemove, PollRemove}
 use Rattle.cyc_words.specs.declared.named.Named.{Named}
 use Rattle.cyc_words.specs.declared.named.Named.TheVariants.{Nothing, Cyclic, Leaving, Removed}
 use Rattle.cyc_words.specs.Names.{named_at, cyclic_id, news, noted}
+use Rattle.cyc_words.proofs.Within.{IsCallOf}
+use Rattle.cyc_thread_calls.proofs.Called.{LeavesNames}
+use Rattle.cyc_thread_calls.proofs.Polled.{set_at}
 
 -- the ids that a call is about
 abbrev pub IsFor : ℕ → SystemCall → Type 0
@@ -16,6 +20,17 @@ IsFor d (AddOmni level when skew now (Ok id)) = id ≡ d
 IsFor d (BeginRemove id answer) = id ≡ d
 IsFor d (PollRemove id answer) = id ≡ d
 IsFor d call = ⊥
+
+-- a word that adds no cyclic and removes none is about none
+pub for_none : (x : Step) (call : SystemCall) → LeavesNames x → IsCallOf x call → (d : ℕ) → IsFor d call → ⊥
+for_none (steps.Add a) call plain is d own = plain
+for_none (steps.Omni a) call plain is d own = plain
+for_none (steps.Remove name) call plain is d own = plain
+for_none x (Add level when now answer) plain is d own = is
+for_none x (AddOmni level when skew now answer) plain is d own = is
+for_none x (BeginRemove id answer) plain is d own = is
+for_none x (PollRemove id answer) plain is d own = is
+for_none x call plain is d own = own
 
 module _ (i k : ℕ) where
   -- the id is that of the name: no other name has it, and the name has no other

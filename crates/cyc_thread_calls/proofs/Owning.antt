@@ -1,30 +1,25 @@
 -- Each id that a run gave is that of a name.
-use Rattle.std.proofs.Common.{◌≡◌, ◌∙◌, ℕ, ◌<◌, ◌≤◌, ◌+◌, ◌==◌, inl, inr, List, [], ◌∷◌, ◌++◌, Option, Some, None, Result, Ok}
+use Rattle.std.proofs.Common.{◌≡◌, ◌∙◌, ℕ, ◌<◌, ◌≤◌, ◌+◌, ◌==◌, inl, inr, List, [], ◌∷◌, ◌++◌, Option, Some, None, Ok}
 use Rattle.std.proofs.Common.{Err, refl, sym, ap, arith}
 use Rattle.std.specs.Prelude.{true, cond}
 use Rattle.std.specs.Option.{option_map_or}
 use Rattle.cyc_types.specs.declared.Calls.{Ghosts as Calls}
 use Rattle.cyc_types.specs.declared.Raise.{Ghosts as Raise}
 use Rattle.cyc_types.specs.declared.level.Level.{Level}
-use Rattle.cyc_types.specs.declared.refusal.Refusal.{Refusal}
 use Rattle.cyc_threads.proofs.Lists.{eq_true, false_ne}
 use Rattle.cyc_threads.proofs.Spots.{none_some}
 use Rattle.cyc_script.specs.declared.step.Step.{Step}
 use Rattle.cyc_script.specs.declared.step.Step.TheVariants as steps
 use Rattle.cyc_script.specs.WellFormed.{name_fits, names_after, names_fit, names_after_all}
-use Rattle.cyc_threads.specs.SystemRemoval.{SystemRemoval}
-use Rattle.cyc_threads.specs.Calls.{SystemCall, Bind, BeginRemove, reprograms}
-use Rattle.cyc_system_rings.specs.Leading.{LeadCall, Make}
+use Rattle.cyc_system_rings.specs.Leading.{LeadCall}
 use Rattle.cyc_system_rings.specs.Rings.{first_ring}
-use Rattle.cyc_system_rings.specs.ByLevel.{level_given, level_in}
+use Rattle.cyc_system_rings.specs.ByLevel.{level_in}
 use Rattle.cyc_threads.specs.declared.progress.Progress.{Progress}
-use Rattle.cyc_threads.specs.StepCalls.{CallsFor}
-use Rattle.cyc_words.specs.Names.{named_at, cyclic_id}
-use Rattle.cyc_words.specs.Words.{WithId}
 use Rattle.cyc_threads.specs.Words.{DoesStep, waits_first}
 use Rattle.cyc_threads.specs.Steps.{TakesSteps}
-use Rattle.cyc_thread_calls.specs.Leading.{calls_in, begin_calls, call_with, call_of, steps_calls}
+use Rattle.cyc_thread_calls.specs.Leading.{calls_in, begin_calls, call_of, steps_calls}
 use Rattle.cyc_thread_calls.specs.Giving.{given_by, given_in, later_id, id_in_steps}
+use Rattle.cyc_thread_calls.proofs.Called.{by_word, no_level}
 use Rattle.cyc_thread_calls.proofs.Leveled.{level_on, level_later, both_true, begin_none, own_level}
 
 -- ---- numbers of names
@@ -48,12 +43,6 @@ names_grow k (steps.Add a) = omega arith
 names_grow k (steps.Omni a) = omega arith
 names_grow k x = omega arith
 
--- a call that gives no id
-reprogram_level : (cpu : Option ℕ) (id moment own : ℕ) (answer : Result (Unit {0}) Refusal)
-    → level_given own (Make (reprograms cpu id moment answer)) ≡ None
-reprogram_level None id moment own answer = refl
-reprogram_level (Some n) id moment own answer = refl
-
 module _ {C R : Type 0} (handler : Calls C) (firing : Raise R) where
   -- no step gives an id to a name that was introduced before
   none_given : (xs : List Step) (name k : ℕ) (s t : Progress R C) (run : TakesSteps handler firing s xs t)
@@ -65,13 +54,6 @@ module _ {C R : Type 0} (handler : Calls C) (firing : Raise R) where
       ap (λ o. later_id (given_in name x (call_of handler firing x v u d)) o)
       (none_given xs name (names_after k x) u t rest after (omega (arith, low, grow)))
       ∙ not_given name k x (call_of handler firing x v u d) here low
-
-  with_none : (Answer : Type 0) (call : ℕ → Result Answer Refusal → SystemCall) (name own : ℕ) (s t : Progress R C)
-      → ((id : ℕ) (answer : Result Answer Refusal) → level_given own (Make (call id answer)) ≡ None) → (id : Option ℕ)
-      → (d : WithId id (λ j. (answer : Result Answer Refusal) × CallsFor firing name (call j answer) s t) (t ≡ s))
-      → level_in own (calls_in (call_with firing Answer call name s t id d)) ≡ None
-  with_none Answer call name own s t each (Some id) (answer, did) = ap (λ o. first_ring o None) (each id answer)
-  with_none Answer call name own s t each None e = refl
 
   -- the call that gave an id is that of the step that introduces the next name
   abbrev IsNext : ℕ → ℕ → Step → Option LeadCall → Type 0
@@ -100,25 +82,12 @@ module _ {C R : Type 0} (handler : Calls C) (firing : Raise R) where
   )
   does_next k id level (steps.Omni a) s t (inl (when, starts, lasts, long, (Err why, did))) fit e = absurd (none_some e)
   does_next k id level (steps.Omni a) s t (inr nothing) fit e = absurd (none_some e)
-  does_next k id level (steps.Bind b) s t d fit e = absurd (none_some (sym (with_none (Unit {0})
-      (λ own answer. Bind own (Some b.cpu) answer) b.name id s t (λ own answer. refl) (cyclic_id (named_at s.names b.name)) d)
-      ∙ e))
-  does_next k id level (steps.Unbind name) s t d fit e = absurd (none_some (sym (with_none (Unit {0})
-      (λ own answer. Bind own None answer) name id s t (λ own answer. refl) (cyclic_id (named_at s.names name)) d) ∙ e))
-  does_next k id level (steps.Reprogram r) s t (inl (moment, is, d)) fit e = absurd (none_some (sym (with_none (Unit {0})
-      (λ own answer. reprograms r.cpu own moment answer) r.name id s t
-      (λ own answer. reprogram_level r.cpu own moment id answer) (cyclic_id (named_at s.names r.name)) d) ∙ e))
-  does_next k id level (steps.Reprogram r) s t (inr nothing) fit e = absurd (none_some e)
-  does_next k id level (steps.Remove name) s t d fit e = absurd (none_some (sym (with_none SystemRemoval
-      (λ own answer. BeginRemove own answer) name id s t (λ own answer. refl) (cyclic_id (named_at s.names name)) d) ∙ e))
   does_next k id level (steps.Advance now) s t (inl suspended) fit e = absurd (none_some e)
   does_next k id level (steps.Advance now) s t (inr f) fit e = absurd (none_some e)
   does_next k id level (steps.Softint i) s t d fit e = absurd (none_some e)
-  does_next k id level (steps.Juggle n) s t d fit e = absurd (none_some e)
-  does_next k id level (steps.Offline n) s t d fit e = absurd (none_some e)
-  does_next k id level (steps.Online n) s t d fit e = absurd (none_some e)
-  does_next k id level steps.Suspend s t d fit e = absurd (none_some e)
-  does_next k id level steps.Resume s t d fit e = absurd (none_some e)
+  does_next k id level x s t d fit e = by_word handler firing s t
+      (λ o. level_in id (calls_in o) ≡ Some level → IsNext k id x o) (λ same q. absurd (none_some q)) x tt
+      (λ name call is c q. absurd (none_some (sym (ap (λ o. first_ring o None) (no_level x call tt is id)) ∙ q))) d e
 
   abbrev pub HasName : ℕ → ℕ → (xs : List Step) (s t : Progress R C) → TakesSteps handler firing s xs t → Type 0
   HasName k id xs s t run = (name : ℕ) × (name < names_after_all k xs)

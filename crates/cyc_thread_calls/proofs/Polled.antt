@@ -28,7 +28,7 @@ use Rattle.cyc_threads.specs.Polling.{PollsRemoval, not_leaving}
 use Rattle.cyc_threads.specs.SystemRemoval.{SystemRemoval}
 use Rattle.cyc_threads.specs.SystemRemoval.TheVariants.{Done, Kept}
 use Rattle.cyc_threads.specs.SystemSide.{SystemSide}
-use Rattle.cyc_threads.specs.Calls.{SystemCall, Bind, BeginRemove, PollRemove, reprograms}
+use Rattle.cyc_threads.specs.Calls.{SystemCall, BeginRemove, PollRemove}
 use Rattle.cyc_words.specs.declared.named.Named.{Named}
 use Rattle.cyc_words.specs.declared.named.Named.TheVariants.{Nothing, Cyclic, Leaving, Removed}
 use Rattle.cyc_threads.specs.declared.progress.Progress.{Progress}
@@ -50,8 +50,9 @@ use Rattle.cyc_system_rings.proofs.Firing.{quiet_fired, fired_removal}
 use Rattle.cyc_thread_calls.specs.Answering.{IsAnsweredPoll}
 use Rattle.cyc_thread_calls.specs.Calling.{lead_calls}
 use Rattle.cyc_thread_calls.specs.Giving.{given_in, later_id}
-use Rattle.cyc_thread_calls.specs.Leading.{calls_in, poll_calls, wait_calls, begin_calls, call_with, call_of, steps_calls}
+use Rattle.cyc_thread_calls.specs.Leading.{calls_in, poll_calls, wait_calls, begin_calls, call_of, steps_calls}
 use Rattle.cyc_thread_calls.specs.Leading.{told_calls_of, told_calls, all_calls}
+use Rattle.cyc_thread_calls.proofs.Called.{by_word, no_news, no_poll}
 use Rattle.cyc_thread_calls.proofs.Closing.{run_sound}
 use Rattle.cyc_thread_calls.proofs.Going.{accepted_fires, wait_goes, does_go}
 use Rattle.cyc_thread_calls.proofs.Holding.{Holds, holds_first, its_id, its_place}
@@ -71,11 +72,6 @@ one_answered call answered = All-cons IsAnsweredPoll call [] answered none_answe
 
 both_answered : (xs ys : List LeadCall) → AreAnswered xs → AreAnswered ys → AreAnswered (xs ++ ys)
 both_answered xs ys a b = All-append IsAnsweredPoll xs ys a b
-
-set_answered : (cpu : Option ℕ) (id moment : ℕ) (answer : Result (Unit {0}) Refusal)
-    → IsAnsweredPoll (Make (reprograms cpu id moment answer))
-set_answered None id moment answer = tt
-set_answered (Some n) id moment answer = tt
 
 -- ---- names
 
@@ -107,11 +103,6 @@ set_none names j x not_so none m = by (set_at names j m x)
         → leaves (named_at (slice_set names j x) m) ≡ false
     by (inl e) = ap leaves e ∙ none m
     by (inr (same, e)) = ap leaves e ∙ not_so
-
-reprogram_news : (cpu : Option ℕ) (id moment : ℕ) (answer : Result (Unit {0}) Refusal)
-    → news (reprograms cpu id moment answer) ≡ None
-reprogram_news None id moment answer = refl
-reprogram_news (Some n) id moment answer = refl
 
 -- ---- one removal
 
@@ -296,13 +287,6 @@ module _ {C R : Type 0} (handler : Calls C) (firing : Raise R) (many : ℕ) wher
   given_none name id call s t c e none = same_names (slice_set s.names name (Cyclic id)) t.names
       (c.told ∙ ap (λ o. noted name o s.names) e) (set_none s.names name (Cyclic id) refl none)
 
-  with_none : (Answer : Type 0) (call : ℕ → Result Answer Refusal → SystemCall) (name : ℕ) (s t : Progress R C) (id : Option ℕ)
-      → WithId id (λ own. (answer : Result Answer Refusal) × CallsFor firing name (call own answer) s t) (t ≡ s)
-      → ((own : ℕ) (answer : Result Answer Refusal) → news (call own answer) ≡ None) → NoneLeaves s.names → NoneLeaves t.names
-  with_none Answer call name s t (Some own) (answer, did) quiet none =
-      one_none name (call own answer) s t did (quiet own answer) none
-  with_none Answer call name s t None e quiet none = same_names s.names t.names (ap (λ (p : Progress R C). p.names) e) none
-
   same_none : (s t : Progress R C) → t ≡ s → NoneLeaves s.names → NoneLeaves t.names
   same_none s t e none = same_names s.names t.names (ap (λ (p : Progress R C). p.names) e) none
 
@@ -360,23 +344,12 @@ module _ {C R : Type 0} (handler : Calls C) (firing : Raise R) (many : ℕ) wher
   does_open (steps.Omni a) s t (inl (when, starts, lasts, long, (Err why, did))) none k =
       none_open t (one_none a.name _ s t did refl (none refl))
   does_open (steps.Omni a) s t (inr (odd, e)) none k = none_open t (same_none s t e (none refl))
-  does_open (steps.Bind b) s t d none k = none_open t (with_none (Unit {0}) (λ id answer. Bind id (Some b.cpu) answer) b.name s t
-      (cyclic_id (named_at s.names b.name)) d (λ own answer. refl) (none refl))
-  does_open (steps.Unbind name) s t d none k = none_open t (with_none (Unit {0}) (λ id answer. Bind id None answer) name s t
-      (cyclic_id (named_at s.names name)) d (λ own answer. refl) (none refl))
-  does_open (steps.Reprogram r) s t (inl (moment, is, d)) none k =
-      none_open t (with_none (Unit {0}) (λ id answer. reprograms r.cpu id moment answer) r.name s t
-      (cyclic_id (named_at s.names r.name)) d (λ own answer. reprogram_news r.cpu own moment answer) (none refl))
-  does_open (steps.Reprogram r) s t (inr (odd, e)) none k = none_open t (same_none s t e (none refl))
   does_open (steps.Remove name) s t d none k = remove_open name s t (cyclic_id (named_at s.names name)) refl d k
   does_open (steps.Advance now) s t (inl (suspended, e)) none k = subst AllOpen (sym e) k.opens
   does_open (steps.Advance now) s t (inr f) none k = fires_open now s t f k
   does_open (steps.Softint i) s t e none k = none_open t (same_none s t e (none refl))
-  does_open (steps.Juggle n) s t (answer, did) none k = none_open t (one_none 0 _ s t did refl (none refl))
-  does_open (steps.Offline n) s t (answer, did) none k = none_open t (one_none 0 _ s t did refl (none refl))
-  does_open (steps.Online n) s t (answer, did) none k = none_open t (one_none 0 _ s t did refl (none refl))
-  does_open steps.Suspend s t (answer, did) none k = none_open t (one_none 0 _ s t did refl (none refl))
-  does_open steps.Resume s t (answer, did) none k = none_open t (one_none 0 _ s t did refl (none refl))
+  does_open x s t d none k = none_open t (by_word handler firing s t (λ o. NoneLeaves t.names)
+      (λ e. same_none s t e (none refl)) x tt (λ name call is c. one_none name call s t c (no_news x call tt is) (none refl)) d)
 
   does_stands : (x : Step) (s t : Progress R C) → DoesStep handler firing x s t
       → (waits_first x ≡ true → NoneLeaves s.names) → Stands s → Stands t
@@ -389,38 +362,13 @@ module _ {C R : Type 0} (handler : Calls C) (firing : Raise R) (many : ℕ) wher
     opens = does_open x s t d none k;
   }
 
-  with_answered : (Answer : Type 0) (call : ℕ → Result Answer Refusal → SystemCall) (name : ℕ) (s t : Progress R C)
-      (id : Option ℕ)
-      (d : WithId id (λ own. (answer : Result Answer Refusal) × CallsFor firing name (call own answer) s t) (t ≡ s))
-      → ((own : ℕ) (answer : Result Answer Refusal) → IsAnsweredPoll (Make (call own answer)))
-      → AreAnswered (calls_in (call_with firing Answer call name s t id d))
-  with_answered Answer call name s t (Some own) (answer, did) each = one_answered (Make (call own answer)) (each own answer)
-  with_answered Answer call name s t None e each = none_answered
-
   does_answered : (x : Step) (s t : Progress R C) (d : DoesStep handler firing x s t)
       → AreAnswered (calls_in (call_of handler firing x s t d))
-  does_answered (steps.Add a) s t (inl (when, starts, lasts, long, (answer, did))) = one_answered _ tt
-  does_answered (steps.Add a) s t (inr odd) = none_answered
-  does_answered (steps.Omni a) s t (inl (when, starts, lasts, long, (answer, did))) = one_answered _ tt
-  does_answered (steps.Omni a) s t (inr odd) = none_answered
-  does_answered (steps.Bind b) s t d = with_answered (Unit {0}) (λ id answer. Bind id (Some b.cpu) answer) b.name s t
-      (cyclic_id (named_at s.names b.name)) d (λ own answer. tt)
-  does_answered (steps.Unbind name) s t d = with_answered (Unit {0}) (λ id answer. Bind id None answer) name s t
-      (cyclic_id (named_at s.names name)) d (λ own answer. tt)
-  does_answered (steps.Reprogram r) s t (inl (moment, is, d)) =
-      with_answered (Unit {0}) (λ id answer. reprograms r.cpu id moment answer) r.name s t (cyclic_id (named_at s.names r.name)) d
-      (λ own answer. set_answered r.cpu own moment answer)
-  does_answered (steps.Reprogram r) s t (inr odd) = none_answered
-  does_answered (steps.Remove name) s t d = with_answered SystemRemoval (λ id answer. BeginRemove id answer) name s t
-      (cyclic_id (named_at s.names name)) d (λ own answer. tt)
   does_answered (steps.Advance now) s t (inl suspended) = none_answered
   does_answered (steps.Advance now) s t (inr f) = one_answered _ tt
   does_answered (steps.Softint i) s t e = none_answered
-  does_answered (steps.Juggle n) s t (answer, did) = one_answered _ tt
-  does_answered (steps.Offline n) s t (answer, did) = one_answered _ tt
-  does_answered (steps.Online n) s t (answer, did) = one_answered _ tt
-  does_answered steps.Suspend s t (answer, did) = one_answered _ tt
-  does_answered steps.Resume s t (answer, did) = one_answered _ tt
+  does_answered x s t d = by_word handler firing s t (λ o. AreAnswered (calls_in o)) (λ e. none_answered) x tt
+      (λ name call is c. one_answered (Make call) (no_poll x call is)) d
 
   -- ---- all steps
 

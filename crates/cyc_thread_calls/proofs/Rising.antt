@@ -1,6 +1,6 @@
 -- The ids that a run gives are distinct, and so are the names that it gives them.
 use Rattle.std.proofs.Common.{◌≡◌, ℕ, ◌<◌, ◌≤◌, inl, inr, Bool, true, false, List, [], ◌∷◌, Option, Some}
-use Rattle.std.proofs.Common.{None, Result, Ok, Err, refl, sym, ap, arith}
+use Rattle.std.proofs.Common.{Result, Ok, Err, refl, sym, ap, arith}
 use Rattle.std.specs.Prelude.{◌&&◌}
 use Rattle.std.specs.List.{FoldsTo}
 use Rattle.cyc_types.specs.declared.Calls.{Ghosts as Calls}
@@ -14,18 +14,17 @@ use Rattle.cyc_script.specs.declared.step.Step.{Step}
 use Rattle.cyc_script.specs.declared.step.Step.TheVariants as steps
 use Rattle.cyc_script.specs.WellFormed.{names_after, name_fits, names_fit}
 use Rattle.cyc_threads.specs.System.{SystemView}
-use Rattle.cyc_threads.specs.Calls.{SystemCall, Changes, Add, AddOmni, Bind, BeginRemove, PollRemove, reprograms}
+use Rattle.cyc_threads.specs.Calls.{SystemCall, Changes, Add, AddOmni, PollRemove}
 use Rattle.cyc_threads.proofs.Pieces.{made_of}
 use Rattle.cyc_system_rings.specs.Leading.{LeadCall, Make}
 use Rattle.cyc_system_rings.proofs.Singles.{ok_err}
 use Rattle.cyc_threads.specs.declared.progress.Progress.{Progress}
-use Rattle.cyc_words.specs.Names.{named_at, cyclic_id}
 use Rattle.cyc_threads.specs.StepCalls.{CallsFor, Poll, Polls}
-use Rattle.cyc_words.specs.Words.{WithId}
 use Rattle.cyc_threads.specs.Words.{DoesStep, Begins, waits_first}
 use Rattle.cyc_threads.specs.Steps.{TakesSteps}
 use Rattle.cyc_thread_calls.specs.Leading.{call_of}
 use Rattle.cyc_thread_calls.specs.Giving.{given_by}
+use Rattle.cyc_thread_calls.proofs.Called.{by_word}
 use Rattle.cyc_thread_calls.proofs.Meets.{Gives, AllGive}
 
 pub and_left : (a b : Bool) → (a && b) ≡ true → a ≡ true
@@ -71,35 +70,14 @@ module _ {C R : Type 0} (handler : Calls C) (firing : Raise R) where
   call_rises : (name : ℕ) (call : SystemCall) (s t : Progress R C) → CallsFor firing name call s t → Rises s t
   call_rises name call s t c = (made_of firing s.side.system t.side.system call c.did).last
 
-  id_rises : (id : Option ℕ) (name : ℕ) (A : Type 0) (call : ℕ → A → SystemCall) (s t : Progress R C)
-      → WithId id (λ own. (answer : A) × CallsFor firing name (call own answer) s t) (t ≡ s) → Rises s t
-  id_rises (Some own) name A call s t (answer, did) = call_rises name (call own answer) s t did
-  id_rises None name A call s t e = unmoved s t e
-
   pub does_rises : (x : Step) (s t : Progress R C) → DoesStep handler firing x s t → Rises s t
-  does_rises (steps.Add a) s t (inl (when, starts, lasts, long, (answer, did))) = call_rises a.name _ s t did
-  does_rises (steps.Add a) s t (inr (bad, e)) = unmoved s t e
-  does_rises (steps.Omni a) s t (inl (when, starts, lasts, long, (answer, did))) = call_rises a.name _ s t did
-  does_rises (steps.Omni a) s t (inr (bad, e)) = unmoved s t e
-  does_rises (steps.Bind b) s t d =
-      id_rises (cyclic_id (named_at s.names b.name)) b.name _ (λ id answer. Bind id (Some b.cpu) answer) s t d
-  does_rises (steps.Unbind name) s t d =
-      id_rises (cyclic_id (named_at s.names name)) name _ (λ id answer. Bind id None answer) s t d
-  does_rises (steps.Reprogram r) s t (inl (moment, is, d)) =
-      id_rises (cyclic_id (named_at s.names r.name)) r.name _ (λ id answer. reprograms r.cpu id moment answer) s t d
-  does_rises (steps.Reprogram r) s t (inr (bad, e)) = unmoved s t e
-  does_rises (steps.Remove name) s t d =
-      id_rises (cyclic_id (named_at s.names name)) name _ (λ id answer. BeginRemove id answer) s t d
   does_rises (steps.Advance now) s t (inl (suspended, e)) =
       let l = ap (λ (p : Progress R C). p.side.system.last) e in omega (arith, l)
   does_rises (steps.Advance now) s t (inr d) =
       let a = d.fired.last in let b = ap (λ (p : _). p.system.last) d.side in omega (arith, a, b)
   does_rises (steps.Softint i) s t e = unmoved s t e
-  does_rises (steps.Juggle n) s t (answer, did) = call_rises 0 _ s t did
-  does_rises (steps.Offline n) s t (answer, did) = call_rises 0 _ s t did
-  does_rises (steps.Online n) s t (answer, did) = call_rises 0 _ s t did
-  does_rises steps.Suspend s t (answer, did) = call_rises 0 _ s t did
-  does_rises steps.Resume s t (answer, did) = call_rises 0 _ s t did
+  does_rises x s t d = by_word handler firing s t (λ o. Rises s t) (λ e. unmoved s t e) x tt
+      (λ name call is c. call_rises name call s t c) d
 
   polls_rise : (polls : List Poll) (s t : Progress R C) → FoldsTo (Polls firing) s polls t → Rises s t
   polls_rise [] s t e = unmoved s t (sym e)
@@ -123,17 +101,7 @@ module _ {C R : Type 0} (handler : Calls C) (firing : Raise R) where
       (let (low, high) = omni_above firing s.side.system t.side.system a.level when a.skew s.clock answer did.did d e in
       (eq_true a.name n fits, low, high))
   does_gives n (steps.Omni a) s t (inr (bad, same)) fits = λ d e. absurd (none_some e)
-  does_gives n (steps.Bind b) s t d fits = tt
-  does_gives n (steps.Unbind name) s t d fits = tt
-  does_gives n (steps.Reprogram r) s t d fits = tt
-  does_gives n (steps.Remove name) s t d fits = tt
-  does_gives n (steps.Advance now) s t d fits = tt
-  does_gives n (steps.Softint i) s t d fits = tt
-  does_gives n (steps.Juggle i) s t d fits = tt
-  does_gives n (steps.Offline i) s t d fits = tt
-  does_gives n (steps.Online i) s t d fits = tt
-  does_gives n steps.Suspend s t d fits = tt
-  does_gives n steps.Resume s t d fits = tt
+  does_gives n x s t d fits = tt
 
   pub all_more : (P Q : ℕ → ℕ → Type 0) → ((j d : ℕ) → P j d → Q j d) → (s : Progress R C) (xs : List Step) (t : Progress R C)
       (takes : TakesSteps handler firing s xs t) → AllGive handler firing P s xs t takes

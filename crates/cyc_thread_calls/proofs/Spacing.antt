@@ -76,17 +76,7 @@ spaced true (steps.Advance now ∷ xs) a s k =
 spaced false (steps.Advance now ∷ xs) a s k =
     spaced false xs (apart_rest (steps.Advance now) xs a) (stay_rest (steps.Advance now) xs s) (before_rest now xs k)
 spaced b (steps.Offline n ∷ xs) a s k = s 0 n refl
-spaced b (steps.Add x ∷ xs) a s k = spaced true xs (apart_rest (steps.Add x) xs a) (stay_rest (steps.Add x) xs s) tt
-spaced b (steps.Omni x ∷ xs) a s k = spaced true xs (apart_rest (steps.Omni x) xs a) (stay_rest (steps.Omni x) xs s) tt
-spaced b (steps.Bind x ∷ xs) a s k = spaced true xs (apart_rest (steps.Bind x) xs a) (stay_rest (steps.Bind x) xs s) tt
-spaced b (steps.Unbind x ∷ xs) a s k = spaced true xs (apart_rest (steps.Unbind x) xs a) (stay_rest (steps.Unbind x) xs s) tt
-spaced b (steps.Reprogram x ∷ xs) a s k =
-    spaced true xs (apart_rest (steps.Reprogram x) xs a) (stay_rest (steps.Reprogram x) xs s) tt
-spaced b (steps.Softint x ∷ xs) a s k = spaced true xs (apart_rest (steps.Softint x) xs a) (stay_rest (steps.Softint x) xs s) tt
-spaced b (steps.Juggle x ∷ xs) a s k = spaced true xs (apart_rest (steps.Juggle x) xs a) (stay_rest (steps.Juggle x) xs s) tt
-spaced b (steps.Online x ∷ xs) a s k = spaced true xs (apart_rest (steps.Online x) xs a) (stay_rest (steps.Online x) xs s) tt
-spaced b (steps.Suspend ∷ xs) a s k = spaced true xs (apart_rest steps.Suspend xs a) (stay_rest steps.Suspend xs s) tt
-spaced b (steps.Resume ∷ xs) a s k = spaced true xs (apart_rest steps.Resume xs a) (stay_rest steps.Resume xs s) tt
+spaced b (x ∷ xs) a s k = spaced true xs (apart_rest x xs a) (stay_rest x xs s) tt
 
 pub calm_spaced : (script : Script) → IsCalm script → Spaced true script.steps.items
 calm_spaced script calm = spaced true script.steps.items calm.apart calm.online tt

@@ -1,25 +1,20 @@
 -- The calls of the system that a run in threads made, in order: what led it, read off its steps as they were taken.
-use Rattle.cyc_threads.specs.Calls.{Suspend, Resume}
-use Rattle.std.specs.Prelude.{◌≡◌, ℕ, Bool, true, false, List, [], ◌∷◌, ◌++◌, map, Option, Some, None, Result}
-use Rattle.std.specs.Option.{option_map_or}
+use Rattle.std.specs.Prelude.{◌≡◌, Bool, true, false, List, [], ◌∷◌, ◌++◌, map, Option, Some, None}
+use Rattle.std.specs.Option.{option_map, option_map_or}
 use Rattle.std.specs.List.{FoldsTo}
 use mathlib.Core.Logic.{inl, inr}
 use Rattle.cyc_types.specs.declared.Calls.{Ghosts as Calls}
 use Rattle.cyc_types.specs.declared.Raise.{Ghosts as Raise}
-use Rattle.cyc_types.specs.declared.refusal.Refusal.{Refusal}
 use Rattle.cyc_script.specs.declared.step.Step.{Step}
 use Rattle.cyc_script.specs.declared.step.Step.TheVariants as steps
-use Rattle.cyc_threads.specs.SystemRemoval.{SystemRemoval}
-use Rattle.cyc_threads.specs.Calls.{SystemCall, Add, AddOmni, Bind, BeginRemove, PollRemove, AskTotals, Juggle, Offline, Online}
-use Rattle.cyc_threads.specs.Calls.{reprograms}
+use Rattle.cyc_threads.specs.Calls.{PollRemove, AskTotals}
 use Rattle.cyc_system_rings.specs.Leading.{LeadCall, Make, FireAll, AskAll}
 use Rattle.cyc_words.specs.declared.named.Named.{Named}
 use Rattle.cyc_words.specs.declared.named.Named.TheVariants.{Nothing, Cyclic, Leaving, Removed}
 use Rattle.cyc_threads.specs.declared.progress.Progress.{Progress}
 use Rattle.cyc_threads.specs.declared.counting.Line.{Line}
 use Rattle.cyc_threads.specs.StepCalls.{CallsFor, Poll, Waits}
-use Rattle.cyc_words.specs.Names.{named_at, cyclic_id}
-use Rattle.cyc_words.specs.Words.{WithId}
+use Rattle.cyc_words.specs.Words.{call_made}
 use Rattle.cyc_threads.specs.Words.{DoesStep, Begins, TakesStep, waits_first}
 use Rattle.cyc_threads.specs.Steps.{TakesSteps, Runs}
 use Rattle.cyc_threads.specs.Counting.{NameLine, Tells, TellsOf, Reports}
@@ -42,14 +37,6 @@ module _ {C R : Type 0} (firing : Raise R) where
   begin_calls false s t begins = []
   begin_calls true s t begins = wait_calls s t begins
 
-  -- the call for the cyclic of a name, where the name has one
-  abbrev pub call_with : (Answer : Type 0) (call : ℕ → Result Answer Refusal → SystemCall) (name : ℕ) (s t : Progress R C)
-      (id : Option ℕ)
-      → WithId id (λ own. (answer : Result Answer Refusal) × CallsFor firing name (call own answer) s t) (t ≡ s)
-      → Option LeadCall
-  call_with Answer call name s t (Some id) (answer, did) = Some (Make (call id answer))
-  call_with Answer call name s t None same = None
-
   -- what was asked for the line of a name
   abbrev pub told_calls_of : (named : Named) (line : Line) (s t : Progress R C) → TellsOf firing named line s t → List LeadCall
   told_calls_of Nothing line s t tells = []
@@ -68,29 +55,11 @@ module _ {C R : Type 0} (firing : Raise R) where
 module _ {C R : Type 0} (handler : Calls C) (firing : Raise R) where
   -- the call that a step made; a step that did nothing made none
   abbrev pub call_of : (x : Step) (s t : Progress R C) → DoesStep handler firing x s t → Option LeadCall
-  call_of (steps.Add a) s t (inl (when, starts, lasts, long, (answer, did))) = Some (Make (Add a.level when s.clock answer))
-  call_of (steps.Add a) s t (inr nothing) = None
-  call_of (steps.Omni a) s t (inl (when, starts, lasts, long, (answer, did))) =
-      Some (Make (AddOmni a.level when a.skew s.clock answer))
-  call_of (steps.Omni a) s t (inr nothing) = None
-  call_of (steps.Bind b) s t does =
-      call_with firing (Unit {0}) (λ id answer. Bind id (Some b.cpu) answer) b.name s t (cyclic_id (named_at s.names b.name)) does
-  call_of (steps.Unbind name) s t does =
-      call_with firing (Unit {0}) (λ id answer. Bind id None answer) name s t (cyclic_id (named_at s.names name)) does
-  call_of (steps.Reprogram r) s t (inl (moment, is, does)) =
-      call_with firing (Unit {0}) (λ id answer. reprograms r.cpu id moment answer) r.name s t
-      (cyclic_id (named_at s.names r.name)) does
-  call_of (steps.Reprogram r) s t (inr nothing) = None
-  call_of (steps.Remove name) s t does =
-      call_with firing SystemRemoval (λ id answer. BeginRemove id answer) name s t (cyclic_id (named_at s.names name)) does
   call_of (steps.Advance now) s t (inl suspended) = None
   call_of (steps.Advance now) s t (inr fires) = Some (FireAll now)
   call_of (steps.Softint i) s t does = None
-  call_of (steps.Juggle n) s t (answer, did) = Some (Make (Juggle n answer))
-  call_of (steps.Offline n) s t (answer, did) = Some (Make (Offline n answer))
-  call_of (steps.Online n) s t (answer, did) = Some (Make (Online n s.clock answer))
-  call_of steps.Suspend s t (answer, did) = Some (Make (Suspend answer))
-  call_of steps.Resume s t (answer, did) = Some (Make (Resume answer))
+  call_of x s t does = option_map Make
+      (call_made s.clock s.names (λ name call answer. CallsFor firing name call s t) (λ why. t ≡ s) x does)
 
   -- those of a step: of the wait before it, and its own
   abbrev pub step_calls : (s : Progress R C) (x : Step) (t : Progress R C) → TakesStep handler firing s x t → List LeadCall

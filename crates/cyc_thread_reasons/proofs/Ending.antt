@@ -1,6 +1,6 @@
 -- A remove and an advance.
-use Rattle.std.proofs.Common.{◌≡◌, ◌∙◌, ℕ, ◌<◌, ◌≤◌, inl, inr, Bool, true, false, not, Option, Some, None, Result, Ok, Err, List}
-use Rattle.std.proofs.Common.{[], ◌∷◌, length, map, refl, sym, ap, subst, arith}
+use Rattle.std.proofs.Common.{◌≡◌, ◌∙◌, ℕ, ◌<◌, ◌≤◌, inl, inr, Bool, true, false, not, Option, Some, None, Result, Ok, Err}
+use Rattle.std.proofs.Common.{length, refl, sym, ap, subst, arith}
 use Rattle.std.proofs.lemmas.Bool.{or_left, or_right}
 use Rattle.std.proofs.lemmas.Option.{slice_get_within}
 use Rattle.cyc_types.specs.declared.Calls.{Ghosts as Calls}
@@ -8,14 +8,13 @@ use Rattle.cyc_types.specs.declared.Raise.{Ghosts as Raise}
 use Rattle.cyc_types.specs.Series.{never}
 use Rattle.cyc_types.specs.declared.refusal.Refusal.{Refusal}
 use Rattle.cyc_types.specs.declared.refusal.Refusal.TheVariants as why
-use Rattle.cyc_types.specs.Reasons.{first_refusal, busy}
 use Rattle.cyc_timers.specs.declared.fire.Fired.{Fired}
 use Rattle.cyc_timers.specs.declared.fire.FireRefused.{FireRefused}
 use Rattle.cyc_cpu.specs.Cpu.{CpuView, running}
 use Rattle.cyc_script.specs.declared.step.Step.TheVariants as steps
 use Rattle.cyc_thread_calls.proofs.FirstReason.{not_when, passes}
 use Rattle.cyc_thread_calls.proofs.Spots.{none_some, same_some, get_some}
-use Rattle.cyc_thread_calls.specs.System.{SystemView, removal_on, is_unknown}
+use Rattle.cyc_thread_calls.specs.System.{SystemView, is_unknown}
 use Rattle.cyc_thread_calls.specs.SystemRemoval.{SystemRemoval}
 use Rattle.cyc_thread_calls.specs.SystemRemoval.TheVariants.{Done, Kept}
 use Rattle.cyc_thread_calls.specs.Removing.{unknown_cyclic, busy_on_each, cpus_with}
@@ -30,10 +29,9 @@ use Rattle.cyc_thread_calls.specs.StepCalls.{CallsFor, Fires}
 use Rattle.cyc_thread_calls.specs.Names.{named_at, cyclic_id, has_open_removal, NoneLeaves}
 use Rattle.cyc_words.specs.Words.{WithId}
 use Rattle.cyc_thread_calls.specs.SystemRingsLeading.{LeadCall, Make}
-use Rattle.cyc_thread_calls.specs.Leading.{call_with}
+use Rattle.cyc_thread_calls.proofs.Called.{call_with}
 use Rattle.cyc_thread_calls.proofs.Keeping.{AllStill, begun_given}
 use Rattle.cyc_thread_calls.proofs.Waiting.{IsCalmNow}
-use Rattle.cyc_thread_calls.proofs.Moving.{none_removed}
 use Rattle.cyc_thread_reasons.specs.Known.{Absent, Known, name_has, after_accepted}
 use Rattle.cyc_thread_reasons.specs.Reasons.{is_there, has_reason}
 use Rattle.cyc_thread_reasons.proofs.Whereabouts.{stands, stands_same, stands_as, stands_kept, unknown_stands, removed_stands}

@@ -22,7 +22,7 @@ use Rattle.cyc_thread_calls.specs.StepCalls.{CallsFor}
 use Rattle.cyc_thread_calls.specs.Names.{named_at, cyclic_id, has_open_removal}
 use Rattle.cyc_words.specs.Words.{WithId}
 use Rattle.cyc_thread_calls.specs.SystemRingsLeading.{LeadCall, Make}
-use Rattle.cyc_thread_calls.specs.Leading.{call_with}
+use Rattle.cyc_thread_calls.proofs.Called.{call_with}
 use Rattle.cyc_thread_calls.proofs.Keeping.{keeps_call, last_move}
 use Rattle.cyc_thread_calls.proofs.Waiting.{IsCalmNow, HasWaited, waited_calm}
 use Rattle.cyc_thread_reasons.specs.Known.{Whereabouts, Absent, OnOne, Known, name_has, is_known_up, after_accepted}

@@ -26,7 +26,7 @@ use Rattle.cyc_thread_calls.specs.StepCalls.{CallsFor}
 use Rattle.cyc_thread_calls.specs.Names.{named_at, cyclic_id, has_open_removal}
 use Rattle.cyc_words.specs.Words.{WithId}
 use Rattle.cyc_thread_calls.specs.SystemRingsLeading.{Make}
-use Rattle.cyc_thread_calls.specs.Leading.{call_with}
+use Rattle.cyc_thread_calls.proofs.Called.{call_with}
 use Rattle.cyc_thread_calls.specs.Way.{is_moment}
 use Rattle.cyc_thread_calls.proofs.Keeping.{AllStill, last_move}
 use Rattle.cyc_thread_calls.proofs.Waiting.{IsCalmNow, HasWaited, waited_calm}

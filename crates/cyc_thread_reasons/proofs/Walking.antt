@@ -3,10 +3,9 @@ use Rattle.std.proofs.Common.{◌∙◌, sym, subst, Bool, cond}
 use Rattle.cyc_agreement.specs.Suspending.{is_suspended}
 use Rattle.cyc_thread_calls.proofs.Marks.{LeavesSuspended, does_same, begins_same, fires_same}
 use Rattle.cyc_thread_reasons.proofs.Marking.{suspend_of, resume_of}
-use Rattle.std.proofs.Common.{◌≡◌, ℕ, ◌+◌, ◌<◌, ◌≤◌, inl, inr, true, false, List, [], ◌∷◌, length, refl, ap, arith}
+use Rattle.std.proofs.Common.{◌≡◌, ℕ, ◌+◌, ◌≤◌, inl, inr, true, false, List, [], ◌∷◌, length, refl, ap, arith}
 use Rattle.std.specs.Prelude.{nat_lt, nat_le, not}
 use Rattle.std.proofs.lemmas.Bool.{or_left}
-use Rattle.std.proofs.lemmas.Bool.Decides.{nat_tests}
 use Rattle.cyc_types.specs.declared.Calls.{Ghosts as Calls}
 use Rattle.cyc_types.specs.declared.Raise.{Ghosts as Raise}
 use Rattle.cyc_types.specs.Series.{never}
@@ -40,17 +39,7 @@ use Rattle.cyc_thread_reasons.proofs.Numbering.{juggle_of, offline_of, online_of
 one_name : (k : ℕ) (x : Step) → names_after k x ≤ k + 1
 one_name k (steps.Add a) = omega arith
 one_name k (steps.Omni a) = omega arith
-one_name k (steps.Bind b) = omega arith
-one_name k (steps.Unbind name) = omega arith
-one_name k (steps.Reprogram r) = omega arith
-one_name k (steps.Remove name) = omega arith
-one_name k (steps.Advance now) = omega arith
-one_name k (steps.Softint i) = omega arith
-one_name k (steps.Juggle n) = omega arith
-one_name k (steps.Offline n) = omega arith
-one_name k (steps.Online n) = omega arith
-one_name k steps.Suspend = omega arith
-one_name k steps.Resume = omega arith
+one_name k x = omega arith
 
 -- there are at most as many names as steps
 pub few_names : (k : ℕ) (xs : List Step) → names_after_all k xs ≤ k + length xs
@@ -131,19 +120,10 @@ module _ {C R : Type 0} (handler : Calls C) (firing : Raise R) (names : ℕ) (fe
   plain_mark : (told : Known) (x : Step) (b : Bool) → LeavesSuspended x
       → (cond b (after_accepted x told) told).suspended ≡ told.suspended
   plain_mark told x false plain = refl
-  plain_mark told (steps.Add a) true plain = refl
-  plain_mark told (steps.Omni a) true plain = refl
-  plain_mark told (steps.Bind a) true plain = refl
-  plain_mark told (steps.Unbind a) true plain = refl
-  plain_mark told (steps.Reprogram a) true plain = refl
-  plain_mark told (steps.Remove a) true plain = refl
-  plain_mark told (steps.Softint a) true plain = refl
-  plain_mark told (steps.Juggle a) true plain = refl
-  plain_mark told (steps.Offline a) true plain = refl
-  plain_mark told (steps.Online a) true plain = refl
   plain_mark told (steps.Advance a) true plain = absurd plain
   plain_mark told steps.Suspend true plain = absurd plain
   plain_mark told steps.Resume true plain = absurd plain
+  plain_mark told x true plain = refl
 
   quiet_mark : (told : Known) (x : Step) (s t : Progress R C) (d : DoesStep handler firing x s t) → LeavesSuspended x
       → is_suspended s.side.system ≡ told.suspended → Mark told x (was_accepted handler firing x s t d) t
@@ -161,16 +141,7 @@ module _ {C R : Type 0} (handler : Calls C) (firing : Raise R) (names : ℕ) (fe
       let o = suspend_of firing names given told s t h (waited refl) marks answer d in o.after ∙ sym o.marks
   mark_after given told steps.Resume s t (answer, d) h marks waited =
       let o = resume_of firing names given told s t h (waited refl) marks answer d in o.after ∙ sym o.marks
-  mark_after given told (steps.Add a) s t d h marks waited = quiet_mark told (steps.Add a) s t d tt marks
-  mark_after given told (steps.Omni a) s t d h marks waited = quiet_mark told (steps.Omni a) s t d tt marks
-  mark_after given told (steps.Bind a) s t d h marks waited = quiet_mark told (steps.Bind a) s t d tt marks
-  mark_after given told (steps.Unbind a) s t d h marks waited = quiet_mark told (steps.Unbind a) s t d tt marks
-  mark_after given told (steps.Reprogram a) s t d h marks waited = quiet_mark told (steps.Reprogram a) s t d tt marks
-  mark_after given told (steps.Remove a) s t d h marks waited = quiet_mark told (steps.Remove a) s t d tt marks
-  mark_after given told (steps.Softint a) s t d h marks waited = quiet_mark told (steps.Softint a) s t d tt marks
-  mark_after given told (steps.Juggle a) s t d h marks waited = quiet_mark told (steps.Juggle a) s t d tt marks
-  mark_after given told (steps.Offline a) s t d h marks waited = quiet_mark told (steps.Offline a) s t d tt marks
-  mark_after given told (steps.Online a) s t d h marks waited = quiet_mark told (steps.Online a) s t d tt marks
+  mark_after given told x s t d h marks waited = quiet_mark told x s t d tt marks
 
   -- what is known of the steps that are left
   record Left (given m : ℕ) (told : Known) (xs : List Step) (s : Progress R C) : Type 0 where

@@ -29,19 +29,8 @@ abbrev pub Fit : List Step → Type 0
 Fit xs = (now : ℕ) × (moments_fit now xs ≡ true)
 
 before : (now : ℕ) (x : Step) → moment_fits now x ≡ true → IsBefore x
-before now (steps.Add a) e = tt
-before now (steps.Omni a) e = tt
-before now (steps.Bind a) e = tt
-before now (steps.Unbind a) e = tt
-before now (steps.Reprogram a) e = tt
-before now (steps.Remove a) e = tt
 before now (steps.Advance moment) e = let e' = second (nat_le now moment) (nat_lt moment never) e in grind (arith, nat_tests, e')
-before now (steps.Softint a) e = tt
-before now (steps.Juggle a) e = tt
-before now (steps.Offline a) e = tt
-before now (steps.Online a) e = tt
-before now steps.Suspend e = tt
-before now steps.Resume e = tt
+before now x e = tt
 
 pub fit_before : (xs : List Step) (i : ℕ) (x : Step) → i < length xs → x ≡ get_or xs i x → Fit (drop i xs) → IsBefore x
 fit_before xs i x low is (now, fit) = before now x (moments_fit_next now xs i x low is fit).0

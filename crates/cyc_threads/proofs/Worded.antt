@@ -10,7 +10,7 @@ use Rattle.cyc_system_workers.specs.Calls.{SystemCall}
 use Rattle.cyc_words.specs.declared.answer.WordAnswer.{WordAnswer}
 use Rattle.cyc_words.specs.Words.{MakesCall, WithCall}
 use Rattle.cyc_words.specs.Doing.{WordState, word_state, DoesCall, DoesWord}
-use Rattle.cyc_words.proofs.Within.{of_call, then_call}
+use Rattle.cyc_words.proofs.Within.{by_call, then_call}
 use Rattle.cyc_threads.specs.declared.progress.Progress.{Progress}
 use Rattle.cyc_threads.specs.StepCalls.{CallsFor, Advances}
 use Rattle.cyc_threads.specs.Words.{DoesStep}
@@ -21,19 +21,9 @@ module _ {C R : Type 0} (handler : Calls C) (firing : Raise R) where
 
   -- a word that makes a call is what its step does
   is_done : (x : Step) (s t : Progress R C) → MakesCall x → Worded x s t → DoesStep handler firing x s t
-  is_done (steps.Add a) s t m w = w
-  is_done (steps.Omni a) s t m w = w
-  is_done (steps.Bind b) s t m w = w
-  is_done (steps.Unbind name) s t m w = w
-  is_done (steps.Reprogram r) s t m w = w
-  is_done (steps.Remove name) s t m w = w
   is_done (steps.Advance now) s t m w = absurd m
   is_done (steps.Softint i) s t m w = absurd m
-  is_done (steps.Juggle n) s t m w = w
-  is_done (steps.Offline n) s t m w = w
-  is_done (steps.Online n) s t m w = w
-  is_done steps.Suspend s t m w = w
-  is_done steps.Resume s t m w = w
+  is_done x s t m w = w
 
   -- what follows of what a step does: of the call of a word, of an `advance`, and of nothing
   pub does_by : (L : Type 0) (x : Step) (s t : Progress R C)
@@ -42,23 +32,13 @@ module _ {C R : Type 0} (handler : Calls C) (firing : Raise R) where
   does_by L x s t call advances same = by x
     where
       worded : (x : Step) → Worded x s t → L
-      worded x w = of_call (λ name made answer. CallsFor firing name made s t) (λ why. t ≡ s) s.clock s.names L
-          (λ name made answer c. call name made c) (λ why e. same e) x w
+      worded x w = by_call (λ name made answer. CallsFor firing name made s t) (λ why. t ≡ s) s.clock s.names (λ o. L)
+          (λ why e. same e) x (λ name made answer c is. call name made c) w
 
       by : (x : Step) → DoesStep handler firing x s t → L
-      by (steps.Add a) d = worded (steps.Add a) d
-      by (steps.Omni a) d = worded (steps.Omni a) d
-      by (steps.Bind b) d = worded (steps.Bind b) d
-      by (steps.Unbind name) d = worded (steps.Unbind name) d
-      by (steps.Reprogram r) d = worded (steps.Reprogram r) d
-      by (steps.Remove name) d = worded (steps.Remove name) d
       by (steps.Advance now) d = advances now d
       by (steps.Softint i) d = same d
-      by (steps.Juggle n) d = worded (steps.Juggle n) d
-      by (steps.Offline n) d = worded (steps.Offline n) d
-      by (steps.Online n) d = worded (steps.Online n) d
-      by steps.Suspend d = worded steps.Suspend d
-      by steps.Resume d = worded steps.Resume d
+      by x d = worded x d
 
   -- what the lead has, with another system and other names
   abbrev with_state : Progress R C → WordState R → Progress R C

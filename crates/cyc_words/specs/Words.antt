@@ -1,5 +1,6 @@
 -- What each word of a script is: at most one call of a system, with the parameters of the step.
 use Rattle.std.specs.Prelude.{◌≡◌, ℕ, ◌<◌, ◌⊎◌, ℤ, pos, int_lt, ◌<ℤ◌, ⊤, cond, List, Option, Some, None, Result, Ok, Err}
+use mathlib.Core.Logic.{inl, inr}
 use Rattle.cyc_types.specs.declared.moment.When.{When}
 use Rattle.cyc_types.specs.declared.refusal.JuggleReport.{JuggleReport}
 use Rattle.cyc_types.specs.declared.refusal.Refusal.{Refusal}
@@ -87,3 +88,41 @@ WithCall clock names steps.Suspend Call Refused =
     (answer : Result (Unit {0}) Refusal) × Call 0 (Suspend answer) (word_answer done answer)
 WithCall clock names steps.Resume Call Refused =
     (answer : Result (Unit {0}) Refusal) × Call 0 (Resume answer) (word_answer done answer)
+
+-- ---- the call that was made
+
+-- that for the cyclic of a name, where the name has one
+abbrev pub id_call : {A : Type 0} → (call : ℕ → Result A Refusal → SystemCall) → (Does : ℕ → Result A Refusal → Type 0)
+    → (Nothing : Type 0) → (id : Option ℕ) → WithId id (λ own. (answer : Result A Refusal) × Does own answer) Nothing
+    → Option SystemCall
+id_call call Does Nothing (Some id) (answer, did) = Some (call id answer)
+id_call call Does Nothing None nothing = None
+
+module _ (clock : ℕ) (names : List Named) (Call : ℕ → SystemCall → Result WordAnswer Refusal → Type 0)
+    (Refused : Refusal → Type 0) where
+  -- that of a word; one that was refused with no call made none
+  abbrev pub call_made : (x : Step) → WithCall clock names x Call Refused → Option SystemCall
+  call_made (steps.Add a) (inl (when, starts, lasts, long, (answer, did))) = Some (Add a.level when clock answer)
+  call_made (steps.Add a) (inr refused) = None
+  call_made (steps.Omni a) (inl (when, starts, lasts, long, (answer, did))) = Some (AddOmni a.level when a.skew clock answer)
+  call_made (steps.Omni a) (inr refused) = None
+  call_made (steps.Bind b) does = id_call (λ id answer. Bind id (Some b.cpu) answer)
+      (λ id answer. Call b.name (Bind id (Some b.cpu) answer) (word_answer done answer)) (Refused NoCyclic)
+      (cyclic_id (named_at names b.name)) does
+  call_made (steps.Unbind name) does = id_call (λ id answer. Bind id None answer)
+      (λ id answer. Call name (Bind id None answer) (word_answer done answer)) (Refused NoCyclic)
+      (cyclic_id (named_at names name)) does
+  call_made (steps.Reprogram r) (inl (moment, is, does)) = id_call (λ id answer. reprograms r.cpu id moment answer)
+      (λ id answer. Call r.name (reprograms r.cpu id moment answer) (word_answer done answer)) (Refused NoCyclic)
+      (cyclic_id (named_at names r.name)) does
+  call_made (steps.Reprogram r) (inr refused) = None
+  call_made (steps.Remove name) does = id_call (λ id answer. BeginRemove id answer)
+      (λ id answer. Call name (BeginRemove id answer) (word_answer Removing answer)) (Refused NoCyclic)
+      (cyclic_id (named_at names name)) does
+  call_made (steps.Advance now) does = None
+  call_made (steps.Softint i) does = None
+  call_made (steps.Juggle n) (answer, did) = Some (Juggle n answer)
+  call_made (steps.Offline n) (answer, did) = Some (Offline n answer)
+  call_made (steps.Online n) (answer, did) = Some (Online n clock answer)
+  call_made steps.Suspend (answer, did) = Some (Suspend answer)
+  call_made steps.Resume (answer, did) = Some (Resume answer)
