@@ -45,6 +45,38 @@ impl<'a> RaiseEnd<'a> {
     }
 }
 
+impl RaiseEnd<'_> {
+    ghost use Rattle.std.specs.Prelude.{◌≡◌, ◌<◌, slice_index};
+    ghost use Rattle.cyc_types.specs.Limits.{cyclics};
+    ghost use Rattle.cyc_types.specs.Firing.{Learns, MayRaise, Raises, Sound};
+    ghost use Rattle.cyc_ring.specs.Ends.{end_view, RaiseEndCall};
+
+    // `raise` of an id that has this index.
+    #[inline(always)]
+    fn raise_at(&mut self, id: CyclicId, index: usize) -> Raised
+        requires may { MayRaise id (end_view self.old) }
+        requires index { (index < cyclics) × (slice_index self.old.seat.stays.value.ids index ≡ id) }
+        ensures step { RaiseEndCall self.old (Raises id result) self.new }
+        ensures learns { Learns (end_view self.old) (Raises id result) (end_view self.new) }
+        ensures sound { Sound (end_view self.new) }
+    {
+        self.ring.raise_as::<Brand>(&mut self.seat, id, index)
+    }
+
+    // `raise` of an id whose hint is wrong. By a call, so that where it is right the look-up costs no registers.
+    #[cold]
+    #[inline(never)]
+    fn raise_apart(&mut self, id: CyclicId) -> Raised
+        requires { MayRaise id (end_view self.old) }
+        ensures step { RaiseEndCall self.old (Raises id result) self.new }
+        ensures learns { Learns (end_view self.old) (Raises id result) (end_view self.new) }
+        ensures sound { Sound (end_view self.new) }
+    {
+        let index = self.seat.index_of(id);
+        self.raise_at(id, index)
+    }
+}
+
 impl<'a> DrainEnd<'a> {
     ghost use Rattle.std.specs.Prelude.{◌≡◌};
     ghost use Rattle.cyc_ring.specs.Ends.{IsDrainSeatOf};
@@ -89,8 +121,10 @@ impl Raise for RaiseEnd<'_> {
     }
 
     fn raise(&mut self, id: CyclicId) -> Raised {
-        let index = self.seat.index_of(id);
-        self.ring.raise_as::<Brand>(&mut self.seat, id, index)
+        match self.seat.hinted(id) {
+            Some(index) => self.raise_at(id, index),
+            None => self.raise_apart(id),
+        }
     }
 
     fn mark(&mut self, id: CyclicId) -> u32 {

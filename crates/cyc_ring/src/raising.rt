@@ -12,7 +12,7 @@ ghost use Rattle.ring_steps.specs.Sides.{MakesRaiseStep};
 ghost use Rattle.cyc_ring.specs.Ends.{IsRaiseSeatOf, IsSameRaiseSeat, raise_trail, raise_seat_view};
 
 use crate::ring::Ring;
-use crate::seats::RaiseSeat;
+use crate::seats::{RaiseSeat, hint_of};
 use cyc_types::{CyclicId, Index, Raised};
 use ring_steps::{ENTRY_BASE, Served};
 
@@ -32,6 +32,7 @@ impl Ring {
         raise_seat.stays.ids[at] = id.number();
         raise_seat.stays.sent[at] = 0;
         raise_seat.stays.lost[at] = 0;
+        raise_seat.stays.hints[hint_of(id)] = index;
     }
 
     // The calls of the id at the index that are outstanding, with the mark.

@@ -1,6 +1,6 @@
 //! The seats of a ring's two sides.
 
-ghost use Rattle.std.specs.Prelude.{◌≡◌, ◌≢◌, ℕ, ◌+◌, ◌-◌, ◌/◌, ◌%◌, ◌^◌, ◌<◌, ◌≤◌, [], None, slice_index, IfOk, IsSome};
+ghost use Rattle.std.specs.Prelude.{◌≡◌, ◌≢◌, ℕ, ◌+◌, ◌-◌, ◌/◌, ◌%◌, ◌^◌, ◌<◌, ◌≤◌, [], None, slice_index, IfOk, IfSome, IsSome};
 ghost use Rattle.cyc_types.specs.Limits.{cyclics, greatest_bank};
 ghost use Rattle.cyc_level.specs.Lawful.{IsId};
 ghost use Rattle.ring_rule.specs.Words.{mark_bit, index_range, entry_id};
@@ -11,19 +11,21 @@ ghost use Rattle.cyc_ring.specs.Rows.{HoldsStays, stay_index, entry_in_hand};
 ghost use Rattle.cyc_ring.specs.Views.{IsSeenSound, IsBalanced};
 
 use cyc_finder::Finder;
-use cyc_types::{CYCLICS, CyclicId};
+use cyc_types::{CYCLICS, CyclicId, Index};
 use ring_rule::Setting;
 use ring_steps::{FiringSide, INDEXES, SoftSide};
 use std::alloc::{AllocError, Global};
 
-/// For each index the id of its cyclic, 0 where it is free, and the counts of its stay; and its pend word, once the ring is
-/// closed. They stand in memory of their own, so that a seat or a closed ring that is moved copies little.
+/// For each index the id of its cyclic, 0 where it is free, and the counts of its stay; its pend word, once the ring is closed;
+/// and for the low bits of an id the index of the last such one, right or not. They stand in memory of their own, so that a seat
+/// or a closed ring that is moved copies little.
 #[derive(Drop)]
 pub struct Stays {
     pub(crate) ids: [u64; INDEXES],
     pub(crate) sent: [u64; INDEXES],
     pub(crate) lost: [u64; INDEXES],
     pub(crate) pends: [u64; INDEXES],
+    pub(crate) hints: [Index; INDEXES],
 }
 
 /// The seat of a ring's firing side: what it knows of each index, and its slot in the buffer.
@@ -66,6 +68,16 @@ pub struct DrainSeat {
     ghost hand_named: { hand ≢ 0 → IsId (entry_id hand) },
 }
 
+// Where the hint of an id stands: at its low bits, with those above them added.
+#[inline(always)]
+pub(crate) fn hint_of(id: CyclicId) -> usize
+    ensures { result < cyclics }
+{
+    let number = id.number();
+    let hints = INDEXES as u64;
+    ((number + number / hints) % hints) as usize
+}
+
 impl RaiseSeat {
     pub(crate) fn new(
         alloc: Global,
@@ -78,6 +90,7 @@ impl RaiseSeat {
     {
         let mut finder = Finder::new(alloc)?;
         finder.reserve(usize::from(CYCLICS))?;
+        let first = Index::new(0).unwrap();
         let stays = Box::new(
             alloc,
             Stays {
@@ -85,6 +98,7 @@ impl RaiseSeat {
                 sent: [0; INDEXES],
                 lost: [0; INDEXES],
                 pends: [0; INDEXES],
+                hints: [first; INDEXES],
             },
         )?;
         Ok(RaiseSeat {
@@ -98,11 +112,26 @@ impl RaiseSeat {
         })
     }
 
-    // The index at which the id is admitted.
+    // The index at which the id is admitted, where its hint is right, as it is until another id of its low bits is admitted.
+    #[inline(always)]
+    pub(crate) fn hinted(&self, id: CyclicId) -> Option<usize>
+        ensures { IfSome result (λ index. (index < cyclics) × (slice_index self.now.stays.value.ids index ≡ id)) }
+    {
+        let index = usize::from(self.stays.hints[hint_of(id)].number());
+        if self.stays.ids[index] == id.number() {
+            return Some(index);
+        }
+        None
+    }
+
+    // The index at which the id is admitted. O(1) where its hint is right, else as `Finder::find`.
     pub(crate) fn index_of(&self, id: CyclicId) -> usize
         requires { open_stay id self.now.side.seat.me.0.raise_trail ≢ None }
         ensures { (result < cyclics) × (slice_index self.now.stays.value.ids result ≡ id) }
     {
+        if let Some(index) = self.hinted(id) {
+            return index;
+        }
         match self.finder.find(id) {
             Some(index) => usize::from(index.number()),
             None => unreachable!(),

@@ -27,9 +27,10 @@ invariant_of-raise_seat g c = let r = c.args.raise_seat.now in let t : List Rais
     let room = c.requires.index.0 in let p : 2 ^ r.bank ≤ 2 ^ greatest_bank =
     pow_mono {i = r.bank} {j = greatest_bank} r.bank_is.1 in let q : 2 ^ greatest_bank ≡ cyclics = refl in
     let low : at < cyclics = omega (arith, room, p, q, is_at) in let some = c.number.ensures.valid.0 in let st = r.stays.value in
-    let now : c.deref_mut-3.result.now ≡ record st { ids = set st.ids at n; sent = set st.sent at 0 } =
-    c.deref_mut-3.ensures.value ∙ ap (λ (p : Stays). record p { sent = set p.sent at 0 })
-    (c.deref_mut-2.ensures.value ∙ ap (λ (p : Stays). record p { ids = set p.ids at n }) c.deref_mut.ensures.value) in
+    let now : c.deref_mut-4.result.now ≡ record st { ids = set st.ids at n; sent = set st.sent at 0; lost = set st.lost at 0 } =
+    c.deref_mut-4.ensures.value ∙ ap (λ (p : Stays). record p { lost = set p.lost at 0 })
+    (c.deref_mut-3.ensures.value ∙ ap (λ (p : Stays). record p { sent = set p.sent at 0 })
+    (c.deref_mut-2.ensures.value ∙ ap (λ (p : Stays). record p { ids = set p.ids at n }) c.deref_mut.ensures.value)) in
     let l1 : at < length st.ids = search rules in let l2 : at < length st.sent = search rules in let l3 : at < length st.lost =
     search rules in
     record {
@@ -37,7 +38,7 @@ invariant_of-raise_seat g c = let r = c.args.raise_seat.now in let t : List Rais
       bank_is = (r.bank_is.0 ∙ ap hard_bank_of (sym e), r.bank_is.1, r.bank_is.2);
       next_is = r.next_is ∙ ap (λ (u : List RaiseStep). producer_index r.setting.start u % index_range) (sym e);
       ranges = r.ranges;
-      rows = subst (λ (q : Stays × List RaiseStep). HoldsStays q.0.ids q.0.sent (set q.0.lost at 0) q.1)
+      rows = subst (λ (q : Stays × List RaiseStep). HoldsStays q.0.ids q.0.sent q.0.lost q.1)
           (λ z. (sym now z, sym e' z))
           (fits_admitted st.ids st.sent st.lost t r.rows n at low (ap (λ (j : ℕ). get_or st.ids j 0) is_at ∙ c.requires.index.1)
           (λ z. omega (arith, z, some)) (ap (λ (y : ℕ). open_stay y t) is_id ∙ c.requires.absent) l1 l2 l3);

@@ -5,13 +5,13 @@ use Rattle.cyc_types.specs.Firing.{Raises, Learns}
 use Rattle.cyc_ring.specs.Steps.{MakesRaiseCall}
 use Rattle.cyc_ring.specs.Views.{trail_view}
 use Rattle.cyc_ring.proofs.Learning.{the_stay, learns_raises, sound_seat}
-use Rattle.cyc_ring.proofs.ends.RaiseEndRaise.raise.Goals as goal
+use Rattle.cyc_ring.proofs.ends.RaiseEnd.raise_at.Goals as goal
 
 pub returns-clause-learns : goal.returns-clause-learns
 returns-clause-learns c = let e = c.args.self.now in let s = e.seat.side.seat in let k = e.seat.setting in
     let t : List RaiseStep = s.me.0.raise_trail in let r = e.seat in let t' : List RaiseStep =
     c.raise_as.new.raise_seat.side.seat.me.0.raise_trail in let w =
-    the_stay k.ceiling r.stays.value.ids r.stays.value.sent r.stays.value.lost t r.rows c.args.id _ c.requires.0 in
+    the_stay k.ceiling r.stays.value.ids r.stays.value.sent r.stays.value.lost t r.rows c.args.id _ c.requires.may.0 in
     let call = subst (λ (x : Setting). MakesRaiseCall x s.me.0
     (Raises c.args.id c.raise_as.result) c.raise_as.new.raise_seat.side.seat.me.0) (sym e.own.1) c.raise_as.ensures.call in
     subst (λ (x : Setting). Learns (trail_view k.ceiling t) (Raises c.args.id c.raise_as.result) (trail_view x.ceiling t'))
