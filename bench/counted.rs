@@ -68,7 +68,7 @@ pub fn table(title: &str, other: &str, fire: Run) {
         // The call reads the intervals and keeps nothing.
         let other = || unsafe { fire(intervals.as_ptr(), count, step, run.fires) };
         let sides: [timing::Side; 5] = [&indexes, &keys, &library, &wheel, &other];
-        let times = timing::medians(heaps::ROUNDS, expirations, sides);
+        let times = timing::least(heaps::ROUNDS, expirations, sides);
         timing::row(&heaps::what(count, step), &times, times[4] / times[0]);
     }
 }

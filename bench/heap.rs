@@ -43,7 +43,7 @@ fn main() {
         };
         // The call reads the intervals and keeps nothing.
         let proved = || unsafe { bench_heap(intervals.as_ptr(), count, step, run.fires) };
-        let times = timing::medians(
+        let times = timing::least(
             heaps::ROUNDS,
             expirations,
             [&indexes, &keys, &library, &proved],

@@ -1,12 +1,14 @@
-//! Times several ways to do the same work, in turn in one process, and prints tables of the medians.
+//! Times several ways to do the same work, in turn in one process, and prints tables of the medians, or of the least times.
+// a driver takes what it needs of it
+#![allow(dead_code)]
 
 use std::time::Instant;
 
 /// One way to do the work. Its answer is the same for all.
 pub type Side<'a> = &'a dyn Fn() -> u64;
 
-/// The median nanoseconds of one operation for each side, of so many rounds in which each side runs once.
-pub fn medians<const N: usize>(rounds: usize, operations: u64, sides: [Side; N]) -> [f64; N] {
+/// The nanoseconds of one operation in each of so many rounds, in which each side runs once.
+fn rounds_of<const N: usize>(rounds: usize, operations: u64, sides: [Side; N]) -> [Vec<f64>; N] {
     let wanted = sides[0]();
     let mut times = sides.map(|_| Vec::with_capacity(rounds));
     for _ in 0..rounds {
@@ -18,7 +20,18 @@ pub fn medians<const N: usize>(rounds: usize, operations: u64, sides: [Side; N])
             times.push(nanoseconds / operations as f64);
         }
     }
-    times.map(|mut times| median(&mut times))
+    times
+}
+
+/// The median nanoseconds of one operation for each side.
+pub fn medians<const N: usize>(rounds: usize, operations: u64, sides: [Side; N]) -> [f64; N] {
+    rounds_of(rounds, operations, sides).map(|mut times| median(&mut times))
+}
+
+/// The least nanoseconds of one operation for each side. On a shared machine this is what it takes while no other guest computes on
+/// the same core, where some of the rounds have such a moment.
+pub fn least<const N: usize>(rounds: usize, operations: u64, sides: [Side; N]) -> [f64; N] {
+    rounds_of(rounds, operations, sides).map(|times| times.into_iter().fold(f64::INFINITY, f64::min))
 }
 
 pub fn median(times: &mut [f64]) -> f64 {
