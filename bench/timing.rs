@@ -31,7 +31,8 @@ pub fn medians<const N: usize>(rounds: usize, operations: u64, sides: [Side; N])
 /// The least nanoseconds of one operation for each side. On a shared machine this is what it takes while no other guest computes on
 /// the same core, where some of the rounds have such a moment.
 pub fn least<const N: usize>(rounds: usize, operations: u64, sides: [Side; N]) -> [f64; N] {
-    rounds_of(rounds, operations, sides).map(|times| times.into_iter().fold(f64::INFINITY, f64::min))
+    rounds_of(rounds, operations, sides)
+        .map(|times| times.into_iter().fold(f64::INFINITY, f64::min))
 }
 
 pub fn median(times: &mut [f64]) -> f64 {
