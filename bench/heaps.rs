@@ -6,8 +6,8 @@
 use std::cmp::Reverse;
 use std::collections::BinaryHeap;
 
-/// The rounds of each row, of which the least time counts. They are short, some 15 milliseconds a side, so that in some of them no other
-/// guest of a shared machine computes on the same core.
+/// The rounds of each row, of which the least time counts. They are short, some 280,000 expirations a side, so that in some of them no
+/// other guest of a shared machine may compute on the same core.
 pub const ROUNDS: usize = 45;
 
 /// The rows: how many cyclics, and the nanoseconds between two fires.

@@ -28,8 +28,8 @@ pub fn medians<const N: usize>(rounds: usize, operations: u64, sides: [Side; N])
     rounds_of(rounds, operations, sides).map(|mut times| median(&mut times))
 }
 
-/// The least nanoseconds of one operation for each side. On a shared machine this is what it takes while no other guest computes on
-/// the same core, where some of the rounds have such a moment.
+/// The least nanoseconds of one operation for each side. On a shared machine it tells less of what other guests do than the median, but
+/// a row may have no round in which none does.
 pub fn least<const N: usize>(rounds: usize, operations: u64, sides: [Side; N]) -> [f64; N] {
     rounds_of(rounds, operations, sides)
         .map(|times| times.into_iter().fold(f64::INFINITY, f64::min))
