@@ -1,10 +1,13 @@
 //! The soft side of a plain level, as events of the level.
 
-ghost use Rattle.cyc_core.specs.Tables.{level_of};
+ghost use Rattle.std.specs.Prelude.{◌≡◌, ℕ, ◌+◌, Some, IfSome};
+ghost use Rattle.std.specs.Option.{option_map};
+ghost use Rattle.cyc_types.specs.Draining.{Finishes, hand_after, one_of};
+ghost use Rattle.cyc_core.specs.Tables.{level_of, lookup};
 ghost use Rattle.cyc_core.specs.DrainingSide.{held_of, done_of, Drains};
 
 use crate::level_core::LevelCore;
-use cyc_types::{CyclicId, Drain, Finished};
+use cyc_types::{CyclicId, Drain, Finished, Index};
 
 /// The soft side of a level that no other thread uses: `made` is the number of calls done in the present stay.
 ///
@@ -38,7 +41,27 @@ impl Drain for LevelCore {
         let Some(id) = self.drainer_hand else {
             unreachable!()
         };
-        self.finish_call();
+        match self.hinted(id) {
+            Some(index) => self.finish_at(id, index),
+            None => self.finish_apart(id),
+        }
+    }
+}
+
+impl LevelCore {
+    /// `finish` of the id in hand, which has this index.
+    #[inline(always)]
+    fn finish_at(&mut self, id: CyclicId, index: Index) -> Finished
+        requires named { option_map (λ entry. entry.index) (lookup id self.old.table) ≡ Some index }
+        requires hand { self.old.drainer_hand ≡ Some id }
+        ensures step { IfSome (held_of (level_of self.old))
+            (λ held. Drains (level_of self.old) (Finishes held result) (level_of self.new)) }
+        ensures hand { held_of (level_of self.new) ≡ hand_after result (held_of (level_of self.old)) }
+        ensures made { (other : ℕ) → done_of (level_of self.new) other
+            ≡ done_of (level_of self.old) other + one_of other (held_of (level_of self.old)) }
+    {
+        let entry = self.entry_at(id, index);
+        self.finish_call(entry);
         if self.drainer_hand.is_some() {
             return Finished::More;
         }
@@ -46,5 +69,22 @@ impl Drain for LevelCore {
             return Finished::LastOfRemoval;
         }
         Finished::Last
+    }
+
+    /// `finish` of an id whose hint is wrong. By a call, so that where it is right the look-up costs no registers.
+    #[cold]
+    #[inline(never)]
+    fn finish_apart(&mut self, id: CyclicId) -> Finished
+        requires { self.old.drainer_hand ≡ Some id }
+        ensures step { IfSome (held_of (level_of self.old))
+            (λ held. Drains (level_of self.old) (Finishes held result) (level_of self.new)) }
+        ensures hand { held_of (level_of self.new) ≡ hand_after result (held_of (level_of self.old)) }
+        ensures made { (other : ℕ) → done_of (level_of self.new) other
+            ≡ done_of (level_of self.old) other + one_of other (held_of (level_of self.old)) }
+    {
+        // Costs nothing: it tells that the level is lawful.
+        self.conservation();
+        let entry = self.entry_of(id);
+        self.finish_at(id, entry.index)
     }
 }

@@ -90,17 +90,15 @@ impl LevelCore {
     }
 
     #[inline(always)]
-    pub(crate) fn finish_call(&mut self)
-        requires { Enabled Finish (level_of self.old) }
+    pub(crate) fn finish_call(&mut self, entry: Admitted)
+        requires here { lookup entry.id self.old.table ≡ Some entry }
+        requires hand { self.old.drainer_hand ≡ Some entry.id }
         ensures { level_of self.new ≡ after Finish (level_of self.old) }
     {
-        if let Some(id) = self.drainer_hand {
-            let entry = self.entry_of(id);
-            self.drainer_hand = (entry.count != 1).then_some(id);
-            let kept = &mut self.kept[entry.index.number() as usize];
-            kept.done = entry.done + 1;
-            kept.count = entry.count - 1;
-        }
+        let kept = &mut self.kept[entry.index.number() as usize];
+        kept.done = entry.done + 1;
+        kept.count = entry.count - 1;
+        self.drainer_hand = (entry.count != 1).then_some(entry.id);
     }
 
     pub(crate) fn begin_removal(&mut self, id: CyclicId)
@@ -243,7 +241,12 @@ impl LevelCore {
             }
             Event::Publish => self.publish(),
             Event::Take => self.take_first(),
-            Event::Finish => self.finish_call(),
+            Event::Finish => {
+                if let Some(id) = self.drainer_hand {
+                    let entry = self.entry_of(id);
+                    self.finish_call(entry);
+                }
+            }
             Event::Mark(id) => self.begin_removal(id),
             Event::Clear(id) => self.end_stay(id),
             Event::Switch(bank) => self.switch_to(bank),
