@@ -1,6 +1,6 @@
 //! Handlers that the caller has already called.
 
-ghost use Rattle.std.specs.Prelude.{◌≡◌, ℕ, ◌+◌, ◌<◌, ◌∷◌, [], OnOk, OnErr, IsErr, ◌↔◌};
+ghost use Rattle.std.specs.Prelude.{◌≡◌, ℕ, ◌+◌, ◌∷◌, [], OnOk, OnErr, IsErr, IsTrue, ◌↔◌};
 ghost use Rattle.cyc_types.specs.Counting.{times};
 ghost use Rattle.cyc_border.specs.Granted.{granted_count, granted_called, GrantedRefuses};
 ghost use Rattle.cyc_border.specs.declared.granted.Granted.TheVariants.{One};
@@ -32,7 +32,7 @@ impl Calls for Granted {
         ensures refused { IsErr result ↔ GrantedRefuses self.old id }
         ensures kept { OnErr result (self.new ≡ self.old) }
     {
-        if self.told() != id.number() {
+        if !self.grants(id) {
             return Err(Refused);
         }
         *self = Granted::Counted(id);
@@ -41,13 +41,13 @@ impl Calls for Granted {
 }
 
 impl Granted {
-    /// The id whose next call is granted, 0 where there is none.
-    fn told(&self) -> u64
-        ensures { (id : ℕ) → 0 < id → ((result ≡ id) ↔ (self.now ≡ One id)) }
+    /// Whether the next call of this cyclic is granted.
+    fn grants(&self, id: CyclicId) -> bool
+        ensures { IsTrue result ↔ (self.now ≡ One id) }
     {
         match self {
-            Granted::One(id) => id.number(),
-            Granted::Nothing | Granted::Counted(_) => 0,
+            Granted::One(next) => next.number() == id.number(),
+            Granted::Nothing | Granted::Counted(_) => false,
         }
     }
 }
