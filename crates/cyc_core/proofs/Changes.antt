@@ -22,7 +22,7 @@ use Rattle.cyc_core.specs.declared.admitted.Admitted.{Admitted}
 use Rattle.cyc_core.specs.declared.level_core.LevelCore.TheInside.{Inside}
 use Rattle.cyc_core.specs.Tables.{Tables, lookup, cyclic_of_entry, cyclics_of_table, level_of}
 use Rattle.cyc_core.specs.Reached.{LevelIsReached}
-use Rattle.cyc_core.specs.Shown.{shown_core, AreKept, IsSoundCore}
+use Rattle.cyc_core.specs.Shown.{shown_core, AreKept, FreePositions, IsSoundCore}
 use Rattle.cyc_core.proofs.Keeping.{FindsElse}
 
 pub reached_lawful : (l : SoftLevel) → LevelIsReached l → Lawful l
@@ -41,15 +41,19 @@ reached_on l m event (events, all, is) may made =
 
 -- fields that show what an enabled event leaves, with the memory that was there
 pub sound_by : (a b : Inside) (event : Event) → IsSoundCore a → Enabled event (level_of (shown_core a))
-    → level_of (shown_core b) ≡ after event (level_of (shown_core a)) → AreKept b.kept.items b.ids.entries →
-    vec_capacity a.kept ≤ vec_capacity b.kept → a.ids.room ≤ b.ids.room → deque_capacity a.old_list ≤ deque_capacity b.old_list
+    → level_of (shown_core b) ≡ after event (level_of (shown_core a)) → AreKept b.kept.items b.ids.entries
+    → FreePositions b.kept.items b.free.items → vec_capacity a.kept ≤ vec_capacity b.kept
+    → vec_capacity a.free ≤ vec_capacity b.free
+    → a.ids.room ≤ b.ids.room → deque_capacity a.old_list ≤ deque_capacity b.old_list
     → deque_capacity a.new_list ≤ deque_capacity b.new_list → IsSoundCore b
-sound_by a b event h may made here kept ids old new = record {
+sound_by a b event h may made here left kept free ids old new = record {
   reached = reached_on (level_of (shown_core a)) (level_of (shown_core b)) event h.reached may made;
   cyclics_kept = here;
+  positions_free = left;
   some_ceiling = (let same : b.ceiling ≡ a.ceiling = ap (λ (x : SoftLevel). x.ceiling) made
       ∙ ceiling_after event (level_of (shown_core a)) in let some = h.some_ceiling in omega (arith, same, some));
   kept_room = (let r = h.kept_room in omega (arith, r, kept));
+  free_room = (let r = h.free_room in omega (arith, r, free));
   ids_room = (let r = h.ids_room in omega (arith, r, ids));
   old_room = (let r = h.old_room in omega (arith, r, old));
   new_room = (let r = h.new_room in omega (arith, r, new));
@@ -58,14 +62,17 @@ sound_by a b event h may made here kept ids old new = record {
 -- the same, where the lists' memory is not what it was
 pub sound_roomy : (a b : Inside) (event : Event) → IsSoundCore a → Enabled event (level_of (shown_core a))
     → level_of (shown_core b) ≡ after event (level_of (shown_core a)) → AreKept b.kept.items b.ids.entries →
-    cyclics ≤ vec_capacity b.kept → cyclics ≤ b.ids.room → cyclics ≤ deque_capacity b.old_list →
+    FreePositions b.kept.items b.free.items → cyclics ≤ vec_capacity b.kept → cyclics ≤ vec_capacity b.free → cyclics ≤ b.ids.room
+    → cyclics ≤ deque_capacity b.old_list →
     cyclics ≤ deque_capacity b.new_list → IsSoundCore b
-sound_roomy a b event h may made here kept ids old new = record {
+sound_roomy a b event h may made here left kept free ids old new = record {
   reached = reached_on (level_of (shown_core a)) (level_of (shown_core b)) event h.reached may made;
   cyclics_kept = here;
+  positions_free = left;
   some_ceiling = (let same : b.ceiling ≡ a.ceiling = ap (λ (x : SoftLevel). x.ceiling) made
       ∙ ceiling_after event (level_of (shown_core a)) in let some = h.some_ceiling in omega (arith, same, some));
   kept_room = kept;
+  free_room = free;
   ids_room = ids;
   old_room = old;
   new_room = new;

@@ -1,5 +1,6 @@
--- What a look-up by id finds of the cyclics that are kept at their indexes, and what a change at one index leaves.
-use Rattle.std.proofs.Common.{◌≡◌, ◌≢◌, ℕ, ◌<◌, eqb, cond, Bool, true, false, List, [], ◌∷◌, length, map, get_or, set, Option}
+-- What a look-up by id finds of the cyclics that are kept at their positions, and what a change at one position leaves.
+use Rattle.std.proofs.Common.{◌≡◌, ◌≢◌, ℕ, ◌+◌, ◌-◌, ◌<◌, eqb, cond, Bool, true, false, List, [], ◌∷◌, length, map, get_or}
+use Rattle.std.proofs.Common.{set, Option}
 use Rattle.std.proofs.Common.{Some, None, IsSome, inl, inr, refl, sym, ap, ◌∙◌, subst, arith, eq-eqb, ne_eqb}
 use Rattle.std.specs.Bool.{then_some}
 use Rattle.std.specs.Option.{option_map}
@@ -14,7 +15,7 @@ use Rattle.cyc_core.specs.declared.admitted.Kept.{Kept}
 use Rattle.cyc_core.specs.Tables.{lookup, cyclic_of_entry, cyclics_of_table}
 use Rattle.cyc_core.specs.Shown.{nothing_kept, kept_id, read_as, table_of, AreKept}
 
--- what is kept at an index
+-- what is kept at a position
 abbrev pub there : List Kept → ℕ → Kept
 there kept i = get_or kept i nothing_kept
 
@@ -22,10 +23,10 @@ there kept i = get_or kept i nothing_kept
 abbrev pub FindsElse : List Admitted → List Admitted → ℕ → Option Admitted → Type 0
 FindsElse xs ys id o = (q : ℕ) → lookup q ys ≡ cond (eqb q id) o (lookup q xs)
 
-some_same : {X : Type 0} (x y : X) → Some x ≡ Some y → x ≡ y
+pub some_same : {X : Type 0} (x y : X) → Some x ≡ Some y → x ≡ y
 some_same x y e = cc
 
--- the table's look-up is the finder's, and then what is kept at the index
+-- the table's look-up is the finder's, and then what is kept at the position
 pub lookup_is : (kept : List Kept) (es : List Entry) (q : ℕ)
     → lookup q (table_of kept es) ≡ option_map (λ i. read_as q i (there kept i)) (index_of q es)
 lookup_is kept [] q = refl
@@ -40,15 +41,15 @@ lookup_is kept (x ∷ xs) q = by (eqb x.id q) refl (lookup_is kept xs q)
 
 -- an id that is found is the finder's, and found as it is kept
 found_as : (kept : List Kept) (q : ℕ) (o : Option ℕ) (e : Admitted) → option_map (λ i. read_as q i (there kept i)) o ≡ Some e
-    → (o ≡ Some e.index) × (e ≡ read_as q e.index (there kept e.index))
+    → (o ≡ Some e.position) × (e ≡ read_as q e.position (there kept e.position))
 found_as kept q None e h = absurd (let no : ⊥ = cc in no)
 found_as kept q (Some i) e h =
     let is : read_as q i (there kept i) ≡ e = some_same _ _ h in
-    let at : i ≡ e.index = ap (λ (x : Admitted). x.index) is in
+    let at : i ≡ e.position = ap (λ (x : Admitted). x.position) is in
     (ap Some at, sym is ∙ ap (λ j. read_as q j (there kept j)) at)
 
 pub found_entry : (kept : List Kept) (es : List Entry) (q : ℕ) (e : Admitted) → lookup q (table_of kept es) ≡ Some e
-    → (index_of q es ≡ Some e.index) × (e ≡ read_as q e.index (there kept e.index))
+    → (index_of q es ≡ Some e.position) × (e ≡ read_as q e.position (there kept e.position))
 found_entry kept es q e h = found_as kept q (index_of q es) e (sym (lookup_is kept es q) ∙ h)
 
 -- what the finder names is found
@@ -61,21 +62,29 @@ no_index : (kept : List Kept) (q : ℕ) (o : Option ℕ)
 no_index kept q None h = refl
 no_index kept q (Some i) h = absurd (let no : ⊥ = cc in no)
 
--- what is not admitted has no index
+-- what is not admitted has no position
 pub absent_index : (kept : List Kept) (es : List Entry) (q : ℕ) → cyclics_of_table (table_of kept es) q ≡ None
     → index_of q es ≡ None
 absent_index kept es q h = no_index kept q (index_of q es) (sym (ap (option_map cyclic_of_entry) (lookup_is kept es q)) ∙ h)
 
--- the index of what is found
+-- the position of what is found
 pub index_found : (kept : List Kept) (es : List Entry) (q : ℕ)
-    → index_of q es ≡ option_map (λ (e : Admitted). e.index) (lookup q (table_of kept es))
-index_found kept es q = by (index_of q es) ∙ ap (option_map (λ (e : Admitted). e.index)) (sym (lookup_is kept es q))
+    → index_of q es ≡ option_map (λ (e : Admitted). e.position) (lookup q (table_of kept es))
+index_found kept es q = by (index_of q es) ∙ ap (option_map (λ (e : Admitted). e.position)) (sym (lookup_is kept es q))
   where
-    by : (o : Option ℕ) → o ≡ option_map (λ (e : Admitted). e.index) (option_map (λ i. read_as q i (there kept i)) o)
+    by : (o : Option ℕ) → o ≡ option_map (λ (e : Admitted). e.position) (option_map (λ i. read_as q i (there kept i)) o)
     by None = refl
     by (Some i) = refl
 
--- where a cyclic is kept there is a place
+-- one that is kept is here
+pub is_here : (k : Kept) (id : ℕ) → kept_id k ≡ Some id → k.here ≡ true
+is_here k id h = by k.here h
+  where
+    by : (b : Bool) → then_some b k.id ≡ Some id → b ≡ true
+    by true h = refl
+    by false h = absurd (let no : ⊥ = cc in no)
+
+-- where a cyclic is kept there is a position
 pub kept_low : (kept : List Kept) (i id : ℕ) → kept_id (there kept i) ≡ Some id → i < length kept
 kept_low kept i id h = elim (cases_lt i (length kept)) [
   | inl low ↦ low
@@ -84,7 +93,7 @@ kept_low kept i id h = elim (cases_lt i (length kept)) [
       let wrong : ⊥ = cc in wrong)
 ]
 
--- places in which the same is kept
+-- positions at which the same is kept
 module _ (kept more : List Kept) (es : List Entry) (same : (i : ℕ) → there more i ≡ there kept i) where
   pub same_table : table_of more es ≡ table_of kept es
   same_table = λ z. map (λ (e : Entry). read_as e.id e.index (same e.index z)) es
@@ -99,7 +108,7 @@ chosen : (b : Bool) (x y : ℕ) → then_some b x ≡ Some y → (b ≡ true) ×
 chosen true x y h = (refl, some_same x y h)
 chosen false x y h = absurd (let no : ⊥ = cc in no)
 
--- another cyclic at one index, or none: the finder names this for the one id where a cyclic is kept there, and else nothing
+-- another cyclic at one position, or none: the finder names this for the one id where a cyclic is kept there, and else nothing
 module _ (kept : List Kept) (es new : List Entry) (t : AreKept kept es) (id i : ℕ) (b : Bool) (k : Kept)
     (told : (q : ℕ) → index_of q new ≡ cond (eqb q id) (then_some b i) (index_of q es))
     (alone : (q : ℕ) → kept_id (there kept i) ≡ Some q → q ≡ id)
@@ -175,13 +184,13 @@ some_index : (kept : List Kept) (q : ℕ) (o : Option ℕ)
 some_index kept q None some none = let wrong : ⊥ = cc in wrong
 some_index kept q (Some i) some none = let wrong : ⊥ = cc in wrong
 
--- an admitted id has an index
+-- an admitted id has a position
 pub named_index : (kept : List Kept) (es : List Entry) (q : ℕ) → IsSome (cyclics_of_table (table_of kept es) q)
     → ¬ (index_of q es ≡ None)
 named_index kept es q some = some_index kept q (index_of q es)
     (subst (λ (o : Option Admitted). IsSome (option_map cyclic_of_entry o)) (lookup_is kept es q) some)
 
--- an index has one id, and an id one index
+-- a position has one id, and an id one position
 pub one_id : (kept : List Kept) (es : List Entry) → AreKept kept es → (id i : ℕ) → index_of id es ≡ Some i → (q : ℕ)
     → kept_id (there kept i) ≡ Some q → q ≡ id
 one_id kept es t id i e q h = some_same q id (sym h ∙ (t.named id i).1 e)
@@ -189,11 +198,11 @@ one_id kept es t id i e q h = some_same q id (sym h ∙ (t.named id i).1 e)
 pub one_index : (es : List Entry) (id i : ℕ) → index_of id es ≡ Some i → (j : ℕ) → index_of id es ≡ Some j → j ≡ i
 one_index es id i e j h = some_same j i (sym h ∙ e)
 
--- a cyclic that is admitted at a free index
+-- a cyclic that is admitted to a free position
 module _ (kept more : List Kept) (es new : List Entry) (t : AreKept kept es) (same : (i : ℕ) → there more i ≡ there kept i)
-    (id index place : ℕ) (at : place ≡ index) (k : Kept) (absent : index_of id es ≡ None)
-    (free : kept_id (there kept index) ≡ None)
-    (told : (q : ℕ) → index_of q new ≡ cond (eqb q id) (Some index) (index_of q es))
+    (id position place : ℕ) (at : place ≡ position) (k : Kept) (absent : index_of id es ≡ None)
+    (free : kept_id (there kept position) ≡ None)
+    (told : (q : ℕ) → index_of q new ≡ cond (eqb q id) (Some position) (index_of q es))
     (low : place < length more) (is : kept_id k ≡ Some id) where
   told_place : (q : ℕ) → index_of q new ≡ cond (eqb q id) (Some place) (index_of q es)
   told_place q = told q ∙ ap (λ n. cond (eqb q id) (Some n) (index_of q es)) (sym at)
@@ -206,7 +215,7 @@ module _ (kept more : List Kept) (es new : List Entry) (t : AreKept kept es) (sa
   none_named : (j : ℕ) → index_of id es ≡ Some j → j ≡ place
   none_named j h = let no : None ≡ Some j = sym absent ∙ h in absurd (let wrong : ⊥ = cc in wrong)
 
-  pub finds_admitted : FindsElse (table_of kept es) (table_of (set more place k) new) id (Some (read_as id index k))
+  pub finds_admitted : FindsElse (table_of kept es) (table_of (set more place k) new) id (Some (read_as id position k))
   finds_admitted q =
       finds_else more es new (same_kept kept more es same t) id place true k told_place none_there none_named low is q
       ∙ (λ z. cond (eqb q id) (Some (read_as id (at z) k)) (lookup q (same_table kept more es same z)))
@@ -215,9 +224,9 @@ module _ (kept more : List Kept) (es new : List Entry) (t : AreKept kept es) (sa
   admitted_kept ordered =
       still_kept more es new (same_kept kept more es same t) id place true k told_place none_there none_named low is ordered
 
--- a cyclic that leaves its index
-module _ (kept : List Kept) (es new : List Entry) (t : AreKept kept es) (id index place : ℕ) (at : place ≡ index) (k : Kept)
-    (named : index_of id es ≡ Some index)
+-- a cyclic that leaves its position
+module _ (kept : List Kept) (es new : List Entry) (t : AreKept kept es) (id position place : ℕ) (at : place ≡ position) (k : Kept)
+    (named : index_of id es ≡ Some position)
     (told : (q : ℕ) → index_of q new ≡ cond (eqb q id) None (index_of q es)) (is : kept_id k ≡ None) where
   named_place : index_of id es ≡ Some place
   named_place = named ∙ ap Some (sym at)
@@ -233,23 +242,23 @@ module _ (kept : List Kept) (es new : List Entry) (t : AreKept kept es) (id inde
   left_kept = still_kept kept es new t id place false k told (one_id kept es t id place named_place)
       (one_index es id place named_place) left_low is
 
--- what was found is read at its index
-module _ (kept : List Kept) (es : List Entry) (t : AreKept kept es) (id index place : ℕ) (at : place ≡ index)
-    (found : Some index ≡ option_map (λ (e : Admitted). e.index) (lookup id (table_of kept es))) where
-  found_named : index_of id es ≡ Some index
+-- what was found is read at its position
+module _ (kept : List Kept) (es : List Entry) (t : AreKept kept es) (id position place : ℕ) (at : place ≡ position)
+    (found : Some position ≡ option_map (λ (e : Admitted). e.position) (lookup id (table_of kept es))) where
+  found_named : index_of id es ≡ Some position
   found_named = index_found kept es id ∙ sym found
 
   pub found_low : place < length kept
   found_low = kept_low kept place id ((t.named id place).1 (found_named ∙ ap Some (sym at)))
 
-  pub found_read : (k : Kept) (e : Admitted) → k ≡ get_or kept place k → e ≡ read_as id index k
+  pub found_read : (k : Kept) (e : Admitted) → k ≡ get_or kept place k → e ≡ read_as id position k
       → lookup id (table_of kept es) ≡ Some e
-  found_read k e read is = named_entry kept es id index found_named
-      ∙ ap (λ x. Some (read_as id index x)) (ap (there kept) (sym at)
+  found_read k e read is = named_entry kept es id position found_named
+      ∙ ap (λ x. Some (read_as id position x)) (ap (there kept) (sym at)
       ∙ sym (read ∙ get_or_default kept place k nothing_kept found_low)) ∙ ap Some (sym is)
 
 -- the counts of one cyclic, that is read and written at its place
-module _ (kept : List Kept) (es : List Entry) (t : AreKept kept es) (e : Admitted) (place : ℕ) (at : place ≡ e.index)
+module _ (kept : List Kept) (es : List Entry) (t : AreKept kept es) (e : Admitted) (place : ℕ) (at : place ≡ e.position)
     (found : lookup e.id (table_of kept es) ≡ Some e) where
   entry_index : index_of e.id es ≡ Some place
   entry_index = (found_entry kept es e.id e found).0 ∙ ap Some (sym at)
@@ -261,13 +270,13 @@ module _ (kept : List Kept) (es : List Entry) (t : AreKept kept es) (e : Admitte
   place_low = kept_low kept place e.id kept_here
 
   module _ (k : Kept) (read : k ≡ get_or kept place k) where
-    read_there : k ≡ there kept place
+    pub read_there : k ≡ there kept place
     read_there = read ∙ get_or_default kept place k nothing_kept place_low
 
     -- the entry has the counts that are read
-    pub counts_read : e ≡ read_as e.id e.index k
+    pub counts_read : e ≡ read_as e.id e.position k
     counts_read = (found_entry kept es e.id e found).1
-        ∙ ap (read_as e.id e.index) (sym (read_there ∙ ap (there kept) at))
+        ∙ ap (read_as e.id e.position) (sym (read_there ∙ ap (there kept) at))
 
     module _ (new : Kept) (same_id : new.id ≡ k.id) (same_here : new.here ≡ k.here) where
       new_id : kept_id new ≡ Some e.id
@@ -280,7 +289,7 @@ module _ (kept : List Kept) (es : List Entry) (t : AreKept kept es) (e : Admitte
         | inr ne ↦ sym (ap (λ c. cond c (Some place) (index_of q es)) (ne_eqb q e.id ne))
       ]
 
-      pub counted : FindsElse (table_of kept es) (table_of (set kept place new) es) e.id (Some (read_as e.id e.index new))
+      pub counted : FindsElse (table_of kept es) (table_of (set kept place new) es) e.id (Some (read_as e.id e.position new))
       counted = λ q. finds_else kept es es t e.id place true new told_same
           (one_id kept es t e.id place entry_index) (one_index es e.id place entry_index) place_low new_id q
           ∙ ap (λ n. cond (eqb q e.id) (Some (read_as e.id n new)) (lookup q (table_of kept es))) at
@@ -289,3 +298,60 @@ module _ (kept : List Kept) (es : List Entry) (t : AreKept kept es) (e : Admitte
       counted_kept = still_kept kept es es t e.id place true new told_same
           (one_id kept es t e.id place entry_index) (one_index es e.id place entry_index) place_low new_id
           t.ordered
+
+-- the counts of one cyclic after one more expiration, one more that was lost, and one more call that is done
+module _ (e : Admitted) (k : Kept) (id position : ℕ) (same : e ≡ read_as id position k) where
+  sent_read : e.sent ≡ k.sent
+  sent_read = ap (λ (x : Admitted). x.sent) same
+
+  done_read : e.done ≡ k.sent - k.count - k.lost
+  done_read = ap (λ (x : Admitted). x.done) same
+
+  index_read : e.index ≡ k.index
+  index_read = ap (λ (x : Admitted). x.index) same
+
+  lost_read : e.lost ≡ k.lost
+  lost_read = ap (λ (x : Admitted). x.lost) same
+
+  count_read : e.count ≡ k.count
+  count_read = ap (λ (x : Admitted). x.count) same
+
+  pub read_expired : cyclic_of_entry (read_as id position (record k { sent = e.sent + 1; count = e.count + 1 }))
+      ≡ cyclic_of_entry (record e { sent = e.sent + 1; count = e.count + 1 })
+  read_expired =
+      let done : e.sent + 1 - (e.count + 1) - k.lost ≡ e.done = omega (arith, sent_read, count_read, done_read) in
+      λ z. record (cyclic_of_entry e) {
+        index = sym index_read z;
+        sent = e.sent + 1;
+        done = done z;
+        lost = sym lost_read z;
+        count =
+            e.count + 1;
+      }
+
+  pub read_lost : cyclic_of_entry (read_as id position (record k { sent = e.sent + 1; lost = e.lost + 1 }))
+      ≡ cyclic_of_entry (record e { sent = e.sent + 1; lost = e.lost + 1 })
+  read_lost =
+      let done : e.sent + 1 - k.count - (e.lost + 1) ≡ e.done = omega (arith, sent_read, lost_read, done_read) in
+      λ z. record (cyclic_of_entry e) {
+        index = sym index_read z;
+        sent = e.sent + 1;
+        done = done z;
+        lost = e.lost + 1;
+        count =
+            sym count_read z;
+      }
+
+  pub read_finished : 0 < e.count → e.sent ≡ e.done + e.count + e.lost
+      → cyclic_of_entry (read_as id position (record k { count = e.count - 1 }))
+      ≡ cyclic_of_entry (record e { done = e.done + 1; count = e.count - 1 })
+  read_finished some even =
+      let done : k.sent - (e.count - 1) - k.lost ≡ e.done + 1 = omega (arith, sent_read, lost_read, some, even) in
+      λ z. record (cyclic_of_entry e) {
+        index = sym index_read z;
+        sent = sym sent_read z;
+        done = done z;
+        lost = sym lost_read z;
+        count =
+            e.count - 1;
+      }

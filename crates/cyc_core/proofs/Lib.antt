@@ -1,4 +1,5 @@
 pub mod Keeping
+pub mod Free
 pub mod Changes
 pub mod Room
 pub mod FiringLaws

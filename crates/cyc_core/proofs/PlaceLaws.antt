@@ -1,5 +1,5 @@
 -- An id with calls outstanding stands at exactly one place, and an index is that of one admitted cyclic.
-use Rattle.std.proofs.Common.{◌≡◌, ◌≢◌, ℕ, zero, suc, ◌<◌, ◌≤◌, eqb, cond, Bool, true, false, ◌||◌, List, [], ◌∷◌}
+use Rattle.std.proofs.Common.{◌≡◌, ◌≢◌, ℕ, zero, suc, ◌<◌, ◌≤◌, eqb, cond, Bool, true, false, ◌||◌, ◌&&◌, eq-eqb, List, [], ◌∷◌}
 use Rattle.std.proofs.Common.{Option, Some, None, refl, sym, ap, ◌∙◌, subst, arith}
 use Rattle.std.specs.Option.{option_map}
 use Rattle.std.specs.List.{list_any}
@@ -14,9 +14,10 @@ use Rattle.cyc_core.specs.declared.books.Place.TheVariants.{FirerHand, OldBank, 
 use Rattle.cyc_core.specs.declared.admitted.Kept.{Kept}
 use Rattle.cyc_finder.specs.Indexes.{Entry, IsIndexed}
 use Rattle.cyc_core.specs.Tables.{lookup, cyclic_of_entry, cyclics_of_table}
-use Rattle.cyc_core.specs.Shown.{kept_id, table_of, AreKept}
+use Rattle.std.specs.Bool.{then_some}
+use Rattle.cyc_core.specs.Shown.{kept_id, has_index, table_of, AreKept}
 use Rattle.cyc_core.specs.Showing.{StandsAt}
-use Rattle.cyc_core.proofs.Keeping.{there, found_entry, named_entry}
+use Rattle.cyc_core.proofs.Keeping.{there, is_here, found_entry, named_entry}
 
 -- how often the id stands at a place
 times_at : SoftLevel → ℕ → Place → ℕ
@@ -131,27 +132,56 @@ cyclic_behind : (o : Option Admitted) (c : AdmittedCyclic) → option_map cyclic
 cyclic_behind None c is = absurd (let none : ⊥ = cc in none)
 cyclic_behind (Some e) c is = (e, refl, some_same (cyclic_of_entry e) c is)
 
--- where no cyclic is kept at an index, none is admitted at it, and the other way round
+-- whether one of those that are here has the index
+none_has : (index : ℕ) (kept : List Kept) → list_any (has_index index) kept ≡ false → (p : ℕ) → (there kept p).here ≡ true
+    → (there kept p).index ≢ index
+none_has index [] none p here at = absurd (let no : false ≡ true = here in let wrong : ⊥ = cc in wrong)
+none_has index (x ∷ xs) none zero here at =
+    let has : has_index index x ≡ true = (λ z. here z && eqb x.index index) ∙ eq-eqb x.index index at in
+    let no : true ≡ false = (λ z. sym has z || list_any (has_index index) xs) ∙ none in let wrong : ⊥ = cc in wrong
+none_has index (x ∷ xs) none (suc p) here at =
+    none_has index xs (not_later (has_index index x) (list_any (has_index index) xs) none) p here at
+  where
+    not_later : (a b : Bool) → (a || b) ≡ false → b ≡ false
+    not_later true b e = absurd (let no : ⊥ = cc in no)
+    not_later false b e = e
+
+no_one_has : (index : ℕ) (kept : List Kept) → ((p : ℕ) → (there kept p).here ≡ true → (there kept p).index ≢ index)
+    → list_any (has_index index) kept ≡ false
+no_one_has index [] none = refl
+no_one_has index (x ∷ xs) none = (λ z. first z || no_one_has index xs (λ p here. none (suc p) here) z)
+  where
+    by : (b c : Bool) → x.here ≡ b → eqb x.index index ≡ c → (b && c) ≡ false
+    by true true here at = absurd (none 0 here (let same : x.index ≡ index = grind (arith, nat_tests) in same))
+    by true false here at = refl
+    by false c here at = refl
+
+    first : has_index index x ≡ false
+    first = by x.here (eqb x.index index) refl refl
+
+-- where no cyclic that is kept has the index, none that is admitted has it, and the other way round
 module _ (kept : List Kept) (es : List Entry) (t : AreKept kept es) (index : ℕ) where
-  pub unused_is : kept_id (there kept index) ≡ None → (id : ℕ) (c : AdmittedCyclic)
+  pub unused_is : list_any (has_index index) kept ≡ false → (id : ℕ) (c : AdmittedCyclic)
       → cyclics_of_table (table_of kept es) id ≡ Some c
       → c.index ≢ index
-  unused_is free id c is same =
+  unused_is none id c is same =
       let (e, found, made) = cyclic_behind (lookup id (table_of kept es)) c is in
-      let named = (found_entry kept es id e found).0 ∙ ap Some (ap (λ (x : AdmittedCyclic). x.index) made ∙ same) in
-      let no : None ≡ Some id = sym free ∙ (t.named id index).1 named in
-      let wrong : ⊥ = cc in wrong
+      let (named, read) = found_entry kept es id e found in
+      let kept_here = (t.named id e.position).1 named in
+      let here = is_here (there kept e.position) id kept_here in
+      let at : (there kept e.position).index ≡ index = sym (ap (λ (x : Admitted). x.index) read)
+      ∙ ap (λ (x : AdmittedCyclic). x.index) made ∙ same in
+      none_has index kept none e.position here at
 
   pub free_is : ((id : ℕ) (c : AdmittedCyclic) → cyclics_of_table (table_of kept es) id ≡ Some c → c.index ≢ index)
-      → kept_id (there kept index) ≡ None
-  free_is unused = by (kept_id (there kept index)) refl
-    where
-      by : (o : Option ℕ) → kept_id (there kept index) ≡ o → o ≡ None
-      by None e = refl
-      by (Some id) e = let named = (t.named id index).0 e in
-          absurd (unused id _ (ap (option_map cyclic_of_entry) (named_entry kept es id index named)) refl)
+      → list_any (has_index index) kept ≡ false
+  free_is unused = no_one_has index kept (λ p here.
+      let id = (there kept p).id in
+      let named = (t.named id p).0 (ap (λ b. then_some b id) here) in
+      unused id _ (ap (option_map cyclic_of_entry) (named_entry kept es id p named)))
 
--- an unused index has no id
-pub not_indexed : (kept : List Kept) (es : List Entry) (index : ℕ)
-    → ((id : ℕ) (c : AdmittedCyclic) → cyclics_of_table (table_of kept es) id ≡ Some c → c.index ≢ index) → ¬ IsIndexed index es
-not_indexed kept es index unused (id, e) = unused id _ (ap (option_map cyclic_of_entry) (named_entry kept es id index e)) refl
+-- a free position has no id
+pub not_indexed : (kept : List Kept) (es : List Entry) → AreKept kept es → (position : ℕ) → kept_id (there kept position) ≡ None
+    → ¬ IsIndexed position es
+not_indexed kept es t position free (id, e) =
+    let no : None ≡ Some id = sym free ∙ (t.named id position).1 e in let wrong : ⊥ = cc in wrong

@@ -42,17 +42,17 @@ impl Drain for LevelCore {
             unreachable!()
         };
         match self.hinted(id) {
-            Some(index) => self.finish_at(id, index),
+            Some(position) => self.finish_at(id, position),
             None => self.finish_apart(id),
         }
     }
 }
 
 impl LevelCore {
-    /// `finish` of the id in hand, which has this index.
+    /// `finish` of the id in hand, which has this position.
     #[inline(always)]
-    fn finish_at(&mut self, id: CyclicId, index: Index) -> Finished
-        requires named { option_map (λ entry. entry.index) (lookup id self.old.table) ≡ Some index }
+    fn finish_at(&mut self, id: CyclicId, position: Index) -> Finished
+        requires named { option_map (λ entry. entry.position) (lookup id self.old.table) ≡ Some position }
         requires hand { self.old.drainer_hand ≡ Some id }
         ensures step { IfSome (held_of (level_of self.old))
             (λ held. Drains (level_of self.old) (Finishes held result) (level_of self.new)) }
@@ -60,7 +60,7 @@ impl LevelCore {
         ensures made { (other : ℕ) → done_of (level_of self.new) other
             ≡ done_of (level_of self.old) other + one_of other (held_of (level_of self.old)) }
     {
-        let entry = self.entry_at(id, index);
+        let entry = self.entry_at(id, position);
         self.finish_call(entry);
         if self.drainer_hand.is_some() {
             return Finished::More;
@@ -85,6 +85,6 @@ impl LevelCore {
         // Costs nothing: it tells that the level is lawful.
         self.conservation();
         let entry = self.entry_of(id);
-        self.finish_at(id, entry.index)
+        self.finish_at(id, entry.position)
     }
 }

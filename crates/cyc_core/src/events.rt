@@ -10,7 +10,7 @@ ghost use Rattle.cyc_level.specs.Events.{Enabled, IsUnused, after};
 ghost use Rattle.cyc_core.specs.Tables.{level_of, lookup};
 ghost use Rattle.cyc_core.specs.Reached.{Happens};
 
-use crate::admitted::{Admitted, Kept, is_free_at, reach};
+use crate::admitted::{Admitted, Kept, free_position, is_index_kept};
 use crate::level_core::{LevelCore, set_hint};
 use cyc_level::Event;
 use cyc_types::{CyclicId, GREATEST_BANK, Index};
@@ -32,18 +32,17 @@ impl LevelCore {
         requires { Enabled (Admit id index) (level_of self.old) }
         ensures { level_of self.new ≡ after (Admit id index) (level_of self.old) }
     {
-        let position = index.number() as usize;
-        reach(&mut self.kept, position);
-        self.ids.insert(id, index);
-        self.kept[position] = Kept {
+        let position = free_position(&mut self.kept, &mut self.free);
+        self.ids.insert(id, position);
+        self.kept[position.number() as usize] = Kept {
             id,
             sent: 0,
-            done: 0,
             lost: 0,
             count: 0,
+            index,
             here: true,
         };
-        set_hint(&mut self.hints, id, index);
+        set_hint(&mut self.hints, id, position);
     }
 
     pub(crate) fn expire(&mut self, entry: Admitted)
@@ -51,7 +50,7 @@ impl LevelCore {
         requires enabled { Enabled (Expire entry.id) (level_of self.old) }
         ensures { level_of self.new ≡ after (Expire entry.id) (level_of self.old) }
     {
-        let kept = &mut self.kept[entry.index.number() as usize];
+        let kept = &mut self.kept[entry.position.number() as usize];
         kept.sent = entry.sent + 1;
         kept.count = entry.count + 1;
         self.firer_hand = (entry.count == 0).then_some(entry.id);
@@ -63,7 +62,7 @@ impl LevelCore {
         ensures { level_of self.new ≡ after (Lose entry.id) (level_of self.old) }
     {
         prove!(entry.count == self.ceiling);
-        let kept = &mut self.kept[entry.index.number() as usize];
+        let kept = &mut self.kept[entry.position.number() as usize];
         kept.sent = entry.sent + 1;
         kept.lost = entry.lost + 1;
     }
@@ -95,8 +94,7 @@ impl LevelCore {
         requires hand { self.old.drainer_hand ≡ Some entry.id }
         ensures { level_of self.new ≡ after Finish (level_of self.old) }
     {
-        let kept = &mut self.kept[entry.index.number() as usize];
-        kept.done = entry.done + 1;
+        let kept = &mut self.kept[entry.position.number() as usize];
         kept.count = entry.count - 1;
         self.drainer_hand = (entry.count != 1).then_some(entry.id);
     }
@@ -112,8 +110,9 @@ impl LevelCore {
         requires { Enabled (Clear id) (level_of self.old) }
         ensures { level_of self.new ≡ after (Clear id) (level_of self.old) }
     {
-        let index = self.ids.remove(id);
-        self.kept[index.number() as usize].here = false;
+        let position = self.ids.remove(id);
+        self.kept[position.number() as usize].here = false;
+        self.free.push_reserved(position);
         self.marked = None;
     }
 
@@ -142,7 +141,7 @@ impl LevelCore {
             return false;
         }
         let places: u32 = 1 << self.hard_bank;
-        u32::from(index.number()) < places && is_free_at(&self.kept, index)
+        u32::from(index.number()) < places && !is_index_kept(&self.kept, index)
     }
 
     fn may_expire(&self, id: CyclicId) -> bool
@@ -254,7 +253,7 @@ impl LevelCore {
         }
     }
 
-    /// Makes one event, where it is enabled; else nothing changes.
+    /// Makes one event, where it is enabled; else nothing changes. O(n) for Admit.
     pub fn step(&mut self, event: Event) -> Result<(), NotEnabled>
         ensures enabled { IsOk result ↔ Enabled event (level_of self.old) }
         ensures ok { OnOk result (level_of self.new ≡ after event (level_of self.old)) }

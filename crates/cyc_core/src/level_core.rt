@@ -19,9 +19,10 @@ use std::marker::Model;
 
 /// One soft level, with all its memory taken when it is made.
 ///
-/// Each admitted cyclic is kept at its index, and a finder says which index an id has. So one that is admitted or leaves moves no
-/// other's counts: both are `insert` and `remove` of `Finder`, O(log n) on average where ids rise. A raise and a finish find
-/// their cyclic by one look where its hint is right.
+/// Each admitted cyclic is kept at a position of its own, and a finder says which position an id has. So one that is admitted
+/// or leaves moves no other's counts: both are `insert` and `remove` of `Finder`, O(log n) on average where ids rise. A
+/// position that was left is taken again, so the cyclics of a level stand side by side, whatever their indexes on the CPU: few
+/// lines of a cache hold them. A raise and a finish find their cyclic by one look where its hint is right.
 ///
 /// Contracts see it as its tables, and `level_of` gives the level that they show.
 #[derive(Drop)]
@@ -29,16 +30,18 @@ pub struct LevelCore {
     pub(crate) ceiling: u32,
     pub(crate) hard_bank: u8,
     pub(crate) soft_bank: u8,
-    // The cyclics by their indexes, as far as any index was used. A place whose cyclic left says so, and stays.
+    // The cyclics at their positions. One whose cyclic left says so, and stays.
     pub(crate) kept: Vec<Kept>,
-    // The index of each admitted id.
+    // The positions that were left, of which the last is taken first.
+    pub(crate) free: Vec<Index>,
+    // The position of each admitted id.
     pub(crate) ids: Finder,
     pub(crate) marked: Option<CyclicId>,
     pub(crate) firer_hand: Option<CyclicId>,
     pub(crate) old_list: VecDeque<CyclicId>,
     pub(crate) new_list: VecDeque<CyclicId>,
     pub(crate) drainer_hand: Option<CyclicId>,
-    // The index at which an id of these low bits was admitted last. Another may have these bits too, and it may have left, so
+    // The position of the id of these low bits that was admitted last. Another may have these bits too, and it may have left, so
     // each look is checked. They stand in memory of their own, so that a level that is moved copies little.
     pub(crate) hints: Vec<Index>,
 }
@@ -64,11 +67,11 @@ fn hint_of(id: CyclicId) -> usize {
     (number.wrapping_add(number / hints) % hints) as usize
 }
 
-/// The id was admitted at this index.
+/// The id was admitted to this position.
 #[inline(always)]
-pub(crate) fn set_hint(hints: &mut [Index], id: CyclicId, index: Index) {
+pub(crate) fn set_hint(hints: &mut [Index], id: CyclicId, position: Index) {
     if let Some(hint) = hints.get_mut(hint_of(id)) {
-        *hint = index;
+        *hint = position;
     }
 }
 
@@ -106,9 +109,9 @@ fn find_apart(ids: &Finder, id: CyclicId) -> Option<Index>
 impl LevelCore {
     /// An empty level with both banks 0 and this ceiling.
     ///
-    /// It takes room for `CYCLICS` admitted cyclics, 40 bytes each, for a finder of as many ids (`Finder::reserve`), for two
-    /// lists of as many, 8 bytes each, and for the hints; no other call takes memory. Of cyclics and lists it writes nothing yet.
-    /// Refuses Memory alone.
+    /// It takes room for `CYCLICS` admitted cyclics, 32 bytes each, for the positions that they leave, 2 bytes each, for a
+    /// finder of as many ids (`Finder::reserve`), for two lists of as many, 8 bytes each, and for the hints; no other call takes
+    /// memory. Of cyclics, positions and lists it writes nothing yet. Refuses Memory alone.
     pub fn new(alloc: Global, ceiling: Ceiling) -> Result<LevelCore, Refusal>
         ensures ok { IfOk result (λ core. level_of core ≡ empty_level ceiling) }
         ensures err { IfErr result (λ refusal. refusal ≡ Refusal.Memory) }
@@ -119,6 +122,7 @@ impl LevelCore {
             hard_bank: 0,
             soft_bank: 0,
             kept: Vec::with_capacity(alloc, room)?,
+            free: Vec::with_capacity(alloc, room)?,
             ids: no_ids(alloc)?,
             marked: None,
             firer_hand: None,
@@ -140,11 +144,10 @@ impl LevelCore {
         let _ceiling = &self.ceiling;
     }
 
-    /// The index at which the id was admitted, where its hint is right, as it is until another id of its low bits is admitted.
-    /// O(1).
+    /// The position of the id, where its hint is right, as it is until another id of its low bits is admitted. O(1).
     #[inline(always)]
     pub(crate) fn hinted(&self, id: CyclicId) -> Option<Index>
-        ensures { IfSome result (λ index. option_map (λ entry. entry.index) (lookup id self.now.table) ≡ Some index) }
+        ensures { IfSome result (λ position. option_map (λ entry. entry.position) (lookup id self.now.table) ≡ Some position) }
     {
         let hint = *self.hints.get(hint_of(id))?;
         if is_kept_at(&self.kept, hint, id) {
@@ -153,28 +156,28 @@ impl LevelCore {
         None
     }
 
-    /// The index of the id, where it is admitted. O(1) where its hint is right, else as `Finder::find`.
+    /// The position of the id, where it is admitted. O(1) where its hint is right, else as `Finder::find`.
     #[inline(always)]
     pub(crate) fn search(&self, id: CyclicId) -> Option<Index>
-        ensures { result ≡ option_map (λ entry. entry.index) (lookup id self.now.table) }
+        ensures { result ≡ option_map (λ entry. entry.position) (lookup id self.now.table) }
     {
         match self.hinted(id) {
-            Some(index) => Some(index),
+            Some(position) => Some(position),
             None => find_apart(&self.ids, id),
         }
     }
 
-    /// The entry of an admitted id, which has this index.
+    /// The entry of an admitted id, which has this position.
     #[inline(always)]
-    pub(crate) fn entry_at(&self, id: CyclicId, index: Index) -> Admitted
-        requires { option_map (λ entry. entry.index) (lookup id self.now.table) ≡ Some index }
+    pub(crate) fn entry_at(&self, id: CyclicId, position: Index) -> Admitted
+        requires { option_map (λ entry. entry.position) (lookup id self.now.table) ≡ Some position }
         ensures here { lookup id self.now.table ≡ Some result }
         ensures cyclic { (level_of self.now).cyclics id ≡ Some (cyclic_of_entry result) }
         ensures id { result.id ≡ id }
         ensures lawful { Lawful (level_of self.now) }
         ensures some_ceiling { 0 < self.now.ceiling }
     {
-        self.kept[index.number() as usize].read(id, index)
+        self.kept[position.number() as usize].read(id, position)
     }
 
     /// The entry of the id, where it is admitted.
@@ -185,7 +188,7 @@ impl LevelCore {
         // Costs nothing: it tells that the level is lawful.
         self.conservation();
         match self.search(id) {
-            Some(index) => Some(self.entry_at(id, index)),
+            Some(position) => Some(self.entry_at(id, position)),
             None => None,
         }
     }
@@ -200,9 +203,9 @@ impl LevelCore {
         ensures lawful { Lawful (level_of self.now) }
         ensures some_ceiling { 0 < self.now.ceiling }
     {
-        let Some(index) = self.search(id) else {
+        let Some(position) = self.search(id) else {
             unreachable!()
         };
-        self.entry_at(id, index)
+        self.entry_at(id, position)
     }
 }

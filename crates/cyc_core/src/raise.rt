@@ -36,7 +36,7 @@ impl Raise for LevelCore {
     #[inline(always)]
     fn raise(&mut self, id: CyclicId) -> Raised {
         match self.hinted(id) {
-            Some(index) => self.raise_at(id, index),
+            Some(position) => self.raise_at(id, position),
             None => self.raise_apart(id),
         }
     }
@@ -79,16 +79,16 @@ impl Raise for LevelCore {
 }
 
 impl LevelCore {
-    /// `raise` of an id that has this index.
+    /// `raise` of an id that has this position.
     #[inline(always)]
-    fn raise_at(&mut self, id: CyclicId, index: Index) -> Raised
-        requires named { option_map (λ entry. entry.index) (lookup id self.old.table) ≡ Some index }
+    fn raise_at(&mut self, id: CyclicId, position: Index) -> Raised
+        requires named { option_map (λ entry. entry.position) (lookup id self.old.table) ≡ Some position }
         requires may { MayRaise id (firing_view (level_of self.old)) }
         ensures step { FiringDoes (level_of self.old) (Raises id result) (level_of self.new) }
         ensures learns { Learns (firing_view (level_of self.old)) (Raises id result) (firing_view (level_of self.new)) }
         ensures sound { Sound (firing_view (level_of self.new)) }
     {
-        let entry = self.entry_at(id, index);
+        let entry = self.entry_at(id, position);
         let count = entry.count;
         if count == self.ceiling {
             self.lose(entry);
@@ -113,6 +113,6 @@ impl LevelCore {
         ensures sound { Sound (firing_view (level_of self.new)) }
     {
         let entry = self.entry_of(id);
-        self.raise_at(id, entry.index)
+        self.raise_at(id, entry.position)
     }
 }

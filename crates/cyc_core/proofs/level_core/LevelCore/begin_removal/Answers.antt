@@ -6,5 +6,7 @@ use Rattle.cyc_core.proofs.level_core.LevelCore.begin_removal.Goals as goal
 pub invariant_of-self : goal.invariant_of-self
 invariant_of-self c =
     let may = rw (← c.self.view_is) at c.requires in
-    sound_by c.self.inside _ (Mark c.args.id) c.self.invariant may refl c.self.invariant.cyclics_kept (omega arith) (omega arith)
+    sound_by c.self.inside _ (Mark c.args.id) c.self.invariant may refl c.self.invariant.cyclics_kept
+    c.self.invariant.positions_free
+    (omega arith) (omega arith) (omega arith)
     (omega arith) (omega arith)

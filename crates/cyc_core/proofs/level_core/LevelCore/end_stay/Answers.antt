@@ -7,11 +7,12 @@ use Rattle.cyc_core.specs.declared.admitted.Kept.{Kept}
 use Rattle.cyc_core.specs.Tables.{level_of}
 use Rattle.cyc_core.specs.Shown.{shown_core}
 use Rattle.cyc_core.proofs.Keeping.{named_index, left_low, finds_left, left_kept}
+use Rattle.cyc_core.proofs.Free.{room_for, left_at}
 use Rattle.cyc_core.proofs.Changes.{level_clear, sound_by, reached_lawful}
 use Rattle.cyc_core.proofs.level_core.LevelCore.end_stay.Goals as goal
 
-pub remove-index-requires : goal.remove-index-requires
-remove-index-requires c =
+pub remove-position-requires : goal.remove-position-requires
+remove-position-requires c =
     let a = c.self.inside in
     let kept = a.kept.items in
     let entries = a.ids.entries in
@@ -25,37 +26,49 @@ index_mut-requires c =
     let a = c.self.inside in
     let kept = a.kept.items in
     let entries = a.ids.entries in
-    let gone = c.remove-index.ensures in
-    let none : Kept = record { id = 1; sent = 0; done = 0; lost = 0; count = 0; here = false } in
-    let low = left_low kept entries c.remove-index.new.self.entries c.self.invariant.cyclics_kept c.args.id
-    c.remove-index.result c.number.result c.number.ensures.value none gone.index gone.told refl in
+    let gone = c.remove-position.ensures in
+    let none : Kept = record { id = 1; sent = 0; lost = 0; count = 0; index = 0; here = false } in
+    let low = left_low kept entries c.remove-position.new.self.entries c.self.invariant.cyclics_kept c.args.id
+    c.remove-position.result c.number.result c.number.ensures.value none gone.index gone.told refl in
     omega (arith, low)
+
+pub push_reserved-requires : goal.push_reserved-requires
+push_reserved-requires c =
+    let a = c.self.inside in
+    let most = room_for a.kept.items a.ids.entries c.self.invariant.cyclics_kept c.args.id c.remove-position.result
+    c.number.result
+    c.number.ensures.value c.remove-position.ensures.index a.free.items c.self.invariant.positions_free in
+    let room = c.self.invariant.free_room in
+    omega (arith, most, room)
 
 pub invariant_of-self : goal.invariant_of-self
 invariant_of-self c =
     let a = c.self.inside in
     let kept = a.kept.items in
     let entries = a.ids.entries in
-    let gone = c.remove-index.ensures in
+    let gone = c.remove-position.ensures in
     let (k, at, is) = gone.entries in
     let sound = c.self.invariant.cyclics_kept in
     let may = rw (← c.self.view_is) at c.requires in
     let new : Kept = record c.index_mut.result.now { here = false } in
-    let made = level_clear (shown_core a) _ c.args.id (finds_left kept entries c.remove-index.new.self.entries sound c.args.id
-    c.remove-index.result c.number.result c.number.ensures.value new gone.index gone.told refl) in
+    let made = level_clear (shown_core a) _ c.args.id (finds_left kept entries c.remove-position.new.self.entries sound c.args.id
+    c.remove-position.result c.number.result c.number.ensures.value new gone.index gone.told refl) in
     sound_by a _ (Clear c.args.id) c.self.invariant may made
-    (left_kept kept entries c.remove-index.new.self.entries sound c.args.id c.remove-index.result c.number.result
+    (left_kept kept entries c.remove-position.new.self.entries sound c.args.id c.remove-position.result c.number.result
     c.number.ensures.value new gone.index gone.told refl
     (subst (Rises id_in) (sym is) (rises_removed id_in entries sound.ordered c.args.id k at)))
-    (omega arith) (omega (arith, gone.room)) (omega arith) (omega arith)
+    (left_at kept entries sound c.args.id c.remove-position.result c.number.result c.number.ensures.value gone.index a.free.items
+    c.push_reserved.new.self.items new c.push_reserved.ensures.items c.self.invariant.positions_free refl)
+    (omega arith) (omega (arith, c.push_reserved.ensures.capacity)) (omega (arith, gone.room)) (omega arith) (omega arith)
 
 pub returns : goal.returns
 returns c =
     let a = c.self.inside in
     let kept = a.kept.items in
     let entries = a.ids.entries in
-    let gone = c.remove-index.ensures in
+    let gone = c.remove-position.ensures in
     let new : Kept = record c.index_mut.result.now { here = false } in
-    rw (← c.self.view_is) (level_clear (shown_core a) _ c.args.id (finds_left kept entries c.remove-index.new.self.entries
-    c.self.invariant.cyclics_kept c.args.id c.remove-index.result c.number.result c.number.ensures.value new gone.index gone.told
+    rw (← c.self.view_is) (level_clear (shown_core a) _ c.args.id (finds_left kept entries c.remove-position.new.self.entries
+    c.self.invariant.cyclics_kept c.args.id c.remove-position.result c.number.result c.number.ensures.value new gone.index
+    gone.told
     refl))

@@ -1,12 +1,11 @@
-use Rattle.std.proofs.Common.{◌<◌, ◌+◌, ap, arith, refl, sym}
+use Rattle.std.proofs.Common.{◌<◌, ◌+◌, ap, arith, refl}
 use Rattle.cyc_level.specs.declared.Event.TheVariants.{Expire}
 use Rattle.cyc_level.specs.Level.{AdmittedCyclic}
 use Rattle.cyc_level.specs.Events.{most_sent}
-use Rattle.cyc_core.specs.declared.admitted.Admitted.{Admitted}
 use Rattle.cyc_core.specs.declared.admitted.Kept.{Kept}
-use Rattle.cyc_core.specs.Tables.{cyclic_of_entry}
 use Rattle.cyc_core.specs.Shown.{shown_core, read_as}
-use Rattle.cyc_core.proofs.Keeping.{place_low, counts_read, counted, counted_kept}
+use Rattle.cyc_core.proofs.Keeping.{place_low, read_there, counts_read, counted, counted_kept, read_expired}
+use Rattle.cyc_core.proofs.Free.{counted_free}
 use Rattle.cyc_core.proofs.Changes.{found_fact, level_expire, sound_by}
 use Rattle.cyc_core.proofs.level_core.LevelCore.expire.Goals as goal
 
@@ -51,13 +50,16 @@ invariant_of-self c =
     let read = c.index_mut-kept.result.now in
     let new : Kept = record read { sent = entry.sent + 1; count = entry.count + 1 } in
     let same = counts_read kept entries sound entry place is here read c.index_mut-kept.ensures.value in
-    let made = ap (λ (x : Admitted). cyclic_of_entry (record x { sent = entry.sent + 1; count = entry.count + 1 })) (sym same) in
+    let made = read_expired entry read entry.id entry.position same in
     sound_by a _ (Expire entry.id) c.self.invariant may
-    (level_expire (shown_core a) _ entry.id entry (read_as entry.id entry.index new) here
+    (level_expire (shown_core a) _ entry.id entry (read_as entry.id entry.position new) here
     (counted kept entries sound entry place is here read c.index_mut-kept.ensures.value new refl refl) _ made
     c.then_some-self-inside.ensures may.0)
     (counted_kept kept entries sound entry place is here read c.index_mut-kept.ensures.value new refl refl)
-    (omega arith) (omega arith) (omega arith) (omega arith)
+    (counted_free kept a.free.items place place refl new c.self.invariant.positions_free
+    (place_low kept entries sound entry place is here)
+    (ap (λ (k : Kept). k.here) (read_there kept entries sound entry place is here read c.index_mut-kept.ensures.value)))
+    (omega arith) (omega arith) (omega arith) (omega arith) (omega arith)
 
 pub returns : goal.returns
 returns c =
@@ -73,7 +75,7 @@ returns c =
     let read = c.index_mut-kept.result.now in
     let new : Kept = record read { sent = entry.sent + 1; count = entry.count + 1 } in
     let same = counts_read kept entries sound entry place is here read c.index_mut-kept.ensures.value in
-    let made = ap (λ (x : Admitted). cyclic_of_entry (record x { sent = entry.sent + 1; count = entry.count + 1 })) (sym same) in
-    rw (← c.self.view_is) (level_expire (shown_core a) _ entry.id entry (read_as entry.id entry.index new) here
+    let made = read_expired entry read entry.id entry.position same in
+    rw (← c.self.view_is) (level_expire (shown_core a) _ entry.id entry (read_as entry.id entry.position new) here
     (counted kept entries sound entry place is here read c.index_mut-kept.ensures.value new refl refl) _ made
     c.then_some-self-inside.ensures may.0)

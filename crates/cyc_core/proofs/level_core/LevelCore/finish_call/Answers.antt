@@ -1,12 +1,12 @@
-use Rattle.std.proofs.Common.{◌+◌, ◌-◌, ap, arith, refl, sym}
+use Rattle.std.proofs.Common.{◌-◌, ap, arith, refl}
 use Rattle.std.specs.Prelude.{is_some}
 use Rattle.std.specs.Option.{option_map}
 use Rattle.cyc_level.specs.declared.Event.TheVariants.{Finish}
-use Rattle.cyc_core.specs.declared.admitted.Admitted.{Admitted}
 use Rattle.cyc_core.specs.declared.admitted.Kept.{Kept}
 use Rattle.cyc_core.specs.Tables.{cyclic_of_entry, level_of}
 use Rattle.cyc_core.specs.Shown.{shown_core, read_as}
-use Rattle.cyc_core.proofs.Keeping.{place_low, counts_read, counted, counted_kept}
+use Rattle.cyc_core.proofs.Keeping.{place_low, read_there, counts_read, counted, counted_kept, read_finished}
+use Rattle.cyc_core.proofs.Free.{counted_free}
 use Rattle.cyc_core.proofs.Changes.{held_count, level_finish, sound_by, reached_lawful}
 use Rattle.cyc_core.proofs.level_core.LevelCore.finish_call.Goals as goal
 
@@ -18,16 +18,6 @@ index_mut-kept-requires c =
     let here = rw (← c.self.view_is) at c.requires.here in
     let low = place_low kept entries c.self.invariant.cyclics_kept c.args.entry c.number.result c.number.ensures.value here in
     omega (arith, low)
-
-pub overflow_add-kept : goal.overflow_add-kept
-overflow_add-kept c =
-    let t = shown_core c.self.inside in
-    let law = reached_lawful (level_of t) c.self.invariant.reached in
-    let entry = c.args.entry in
-    let found = ap (option_map cyclic_of_entry) (rw (← c.self.view_is) at c.requires.here) in
-    let some = held_count (level_of t) law entry.id (cyclic_of_entry entry) found (rw (← c.self.view_is) at c.requires.hand) in
-    let even = law.conserved entry.id (cyclic_of_entry entry) found in
-    omega (arith, some, even)
 
 pub overflow_sub-kept : goal.overflow_sub-kept
 overflow_sub-kept c =
@@ -53,15 +43,19 @@ invariant_of-self c =
     let law = reached_lawful (level_of t) c.self.invariant.reached in
     let some = held_count (level_of t) law entry.id (cyclic_of_entry entry) (ap (option_map cyclic_of_entry) here) hand in
     let read = c.index_mut-kept.result.now in
-    let new : Kept = record read { done = entry.done + 1; count = entry.count - 1 } in
+    let new : Kept = record read { count = entry.count - 1 } in
     let same = counts_read kept entries sound entry place is here read c.index_mut-kept.ensures.value in
-    let made = ap (λ (x : Admitted). cyclic_of_entry (record x { done = entry.done + 1; count = entry.count - 1 })) (sym same) in
+    let even = law.conserved entry.id (cyclic_of_entry entry) (ap (option_map cyclic_of_entry) here) in
+    let made = read_finished entry read entry.id entry.position same some even in
     sound_by a _ Finish c.self.invariant (ap is_some hand)
-    (level_finish t _ entry.id entry (read_as entry.id entry.index new) here
+    (level_finish t _ entry.id entry (read_as entry.id entry.position new) here
     (counted kept entries sound entry place is here read c.index_mut-kept.ensures.value new refl refl) _ made
     hand some c.then_some-self-inside.ensures)
     (counted_kept kept entries sound entry place is here read c.index_mut-kept.ensures.value new refl refl)
-    (omega arith) (omega arith) (omega arith) (omega arith)
+    (counted_free kept a.free.items place place refl new c.self.invariant.positions_free
+    (place_low kept entries sound entry place is here)
+    (ap (λ (k : Kept). k.here) (read_there kept entries sound entry place is here read c.index_mut-kept.ensures.value)))
+    (omega arith) (omega arith) (omega arith) (omega arith) (omega arith)
 
 pub returns : goal.returns
 returns c =
@@ -78,9 +72,10 @@ returns c =
     let law = reached_lawful (level_of t) c.self.invariant.reached in
     let some = held_count (level_of t) law entry.id (cyclic_of_entry entry) (ap (option_map cyclic_of_entry) here) hand in
     let read = c.index_mut-kept.result.now in
-    let new : Kept = record read { done = entry.done + 1; count = entry.count - 1 } in
+    let new : Kept = record read { count = entry.count - 1 } in
     let same = counts_read kept entries sound entry place is here read c.index_mut-kept.ensures.value in
-    let made = ap (λ (x : Admitted). cyclic_of_entry (record x { done = entry.done + 1; count = entry.count - 1 })) (sym same) in
-    rw (← c.self.view_is) (level_finish t _ entry.id entry (read_as entry.id entry.index new) here
+    let even = law.conserved entry.id (cyclic_of_entry entry) (ap (option_map cyclic_of_entry) here) in
+    let made = read_finished entry read entry.id entry.position same some even in
+    rw (← c.self.view_is) (level_finish t _ entry.id entry (read_as entry.id entry.position new) here
     (counted kept entries sound entry place is here read c.index_mut-kept.ensures.value new refl refl) _ made
     hand some c.then_some-self-inside.ensures)

@@ -1,13 +1,13 @@
-use Rattle.std.proofs.Common.{◌≡◌, ◌<◌, ◌+◌, ap, arith, refl, sym}
+use Rattle.std.proofs.Common.{◌≡◌, ◌<◌, ◌+◌, ap, arith, refl}
 use Rattle.std.specs.Option.{option_map}
 use Rattle.cyc_level.specs.declared.Event.TheVariants.{Lose}
 use Rattle.cyc_level.specs.Level.{AdmittedCyclic}
 use Rattle.cyc_level.specs.Events.{most_sent}
-use Rattle.cyc_core.specs.declared.admitted.Admitted.{Admitted}
 use Rattle.cyc_core.specs.declared.admitted.Kept.{Kept}
 use Rattle.cyc_core.specs.Tables.{cyclic_of_entry, level_of}
 use Rattle.cyc_core.specs.Shown.{shown_core, read_as}
-use Rattle.cyc_core.proofs.Keeping.{place_low, counts_read, counted, counted_kept}
+use Rattle.cyc_core.proofs.Keeping.{place_low, read_there, counts_read, counted, counted_kept, read_lost}
+use Rattle.cyc_core.proofs.Free.{counted_free}
 use Rattle.cyc_core.proofs.Changes.{found_fact, level_lose, sound_by, reached_lawful}
 use Rattle.cyc_core.proofs.level_core.LevelCore.lose.Goals as goal
 
@@ -63,12 +63,15 @@ invariant_of-self c =
     let read = c.index_mut-kept.result.now in
     let new : Kept = record read { sent = entry.sent + 1; lost = entry.lost + 1 } in
     let same = counts_read kept entries sound entry place is here read c.index_mut-kept.ensures.value in
-    let made = ap (λ (x : Admitted). cyclic_of_entry (record x { sent = entry.sent + 1; lost = entry.lost + 1 })) (sym same) in
+    let made = read_lost entry read entry.id entry.position same in
     sound_by a _ (Lose entry.id) c.self.invariant may
-    (level_lose (shown_core a) _ entry.id entry (read_as entry.id entry.index new) here
+    (level_lose (shown_core a) _ entry.id entry (read_as entry.id entry.position new) here
     (counted kept entries sound entry place is here read c.index_mut-kept.ensures.value new refl refl) made)
     (counted_kept kept entries sound entry place is here read c.index_mut-kept.ensures.value new refl refl)
-    (omega arith) (omega arith) (omega arith) (omega arith)
+    (counted_free kept a.free.items place place refl new c.self.invariant.positions_free
+    (place_low kept entries sound entry place is here)
+    (ap (λ (k : Kept). k.here) (read_there kept entries sound entry place is here read c.index_mut-kept.ensures.value)))
+    (omega arith) (omega arith) (omega arith) (omega arith) (omega arith)
 
 pub returns : goal.returns
 returns c =
@@ -83,6 +86,6 @@ returns c =
     let read = c.index_mut-kept.result.now in
     let new : Kept = record read { sent = entry.sent + 1; lost = entry.lost + 1 } in
     let same = counts_read kept entries sound entry place is here read c.index_mut-kept.ensures.value in
-    let made = ap (λ (x : Admitted). cyclic_of_entry (record x { sent = entry.sent + 1; lost = entry.lost + 1 })) (sym same) in
-    rw (← c.self.view_is) (level_lose (shown_core a) _ entry.id entry (read_as entry.id entry.index new) here
+    let made = read_lost entry read entry.id entry.position same in
+    rw (← c.self.view_is) (level_lose (shown_core a) _ entry.id entry (read_as entry.id entry.position new) here
     (counted kept entries sound entry place is here read c.index_mut-kept.ensures.value new refl refl) made)

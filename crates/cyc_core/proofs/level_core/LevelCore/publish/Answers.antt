@@ -20,5 +20,6 @@ invariant_of-self c =
     let pushed = c.push_back_reserved.ensures in
     let made = (λ z. record (level_of t) { firer_hand = None; new_list = pushed.items z })
     ∙ level_publish t c.in-Some.id c.in-Some.is in
-    sound_by c.self.inside _ Publish c.self.invariant may made c.self.invariant.cyclics_kept (omega arith) (omega arith)
+    sound_by c.self.inside _ Publish c.self.invariant may made c.self.invariant.cyclics_kept c.self.invariant.positions_free
+    (omega arith) (omega arith) (omega arith)
     (omega arith) (omega (arith, pushed.capacity))

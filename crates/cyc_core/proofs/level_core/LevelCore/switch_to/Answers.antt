@@ -19,8 +19,8 @@ invariant_of-self c =
     let new_room : cyclics ≤ deque_capacity c.swap.new.y =
     subst (λ d. cyclics ≤ deque_capacity d) (sym c.swap.ensures.y_after) c.self.invariant.old_room in
     sound_roomy c.self.inside _ (Switch c.args.bank) c.self.invariant may
-    (level_switch t c.args.bank _ _ old new) c.self.invariant.cyclics_kept c.self.invariant.kept_room
-    c.self.invariant.ids_room old_room new_room
+    (level_switch t c.args.bank _ _ old new) c.self.invariant.cyclics_kept c.self.invariant.positions_free
+    c.self.invariant.kept_room c.self.invariant.free_room c.self.invariant.ids_room old_room new_room
 
 pub returns : goal.returns
 returns c =

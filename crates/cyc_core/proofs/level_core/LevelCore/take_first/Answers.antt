@@ -11,7 +11,8 @@ invariant_of-self c =
     let same : c.self.inside.hard_bank ≡ c.self.inside.soft_bank = c.if-self.true in
     let popped = c.pop_front-self-inside.ensures in
     sound_by c.self.inside _ Take c.self.invariant may
-    (level_take_new t _ _ same popped.items popped.rest) c.self.invariant.cyclics_kept (omega arith) (omega arith)
+    (level_take_new t _ _ same popped.items popped.rest) c.self.invariant.cyclics_kept c.self.invariant.positions_free
+    (omega arith) (omega arith) (omega arith)
     (omega arith) (omega (arith, popped.capacity))
 
 pub invariant_of-self-2 : goal.invariant_of-self-2
@@ -21,5 +22,6 @@ invariant_of-self-2 c =
     let differ : c.self.inside.hard_bank ≢ c.self.inside.soft_bank = c.if-self.false in
     let popped = c.pop_front-self-inside-2.ensures in
     sound_by c.self.inside _ Take c.self.invariant may
-    (level_take_old t _ _ differ popped.items popped.rest) c.self.invariant.cyclics_kept (omega arith) (omega arith)
+    (level_take_old t _ _ differ popped.items popped.rest) c.self.invariant.cyclics_kept c.self.invariant.positions_free
+    (omega arith) (omega arith) (omega arith)
     (omega (arith, popped.capacity)) (omega arith)
