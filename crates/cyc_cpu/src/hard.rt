@@ -1,7 +1,7 @@
 //! The firing side of one CPU: opening it, taking memory, growing, adding and firing.
 
 ghost use Rattle.std.specs.Prelude.{◌≡◌, ◌≢◌, ℕ, ◌+◌, ◌<◌, ◌≤◌, ◌++◌, ◌∷◌, [], List, All, length, slice_set, None, Some, IfOk};
-ghost use Rattle.std.specs.Prelude.{false, IfErr, Ok, OnOk, OnErr, IfNone, IfSome, ◌⊎◌};
+ghost use Rattle.std.specs.Prelude.{false, IfErr, Ok, Err, OnOk, OnErr, IfNone, IfSome, ◌⊎◌};
 ghost use Rattle.std.specs.Bool.{OnTrue, OnFalse};
 ghost use Rattle.cyc_types.specs.Limits.{cyclics};
 ghost use Rattle.cyc_types.specs.declared.level.Level.TheVariants.{Low, Lock};
@@ -206,23 +206,27 @@ impl<R: Raise> Hard<R> {
             self.table.reprogram(index, moment);
             return Ok(());
         }
-        self.reprogram_anew(id, moment)
+        if self.reprogram_anew(id, moment) {
+            return Ok(());
+        }
+        Err(Refusal::NoCyclic)
     }
 
     /// As `reprogram`, of a cyclic whose removal is not open and that two looks did not find: out of the way of one that they
-    /// find.
+    /// find. Says whether it is here.
     #[cold]
     #[inline(never)]
-    fn reprogram_anew(&mut self, id: CyclicId, moment: Moment) -> Result<(), Refusal>
+    fn reprogram_anew(&mut self, id: CyclicId, moment: Moment) -> bool
         requires { self.old.removal ≢ Some id }
-        ensures { CpuChanges R.Raise self.old (Reprogram id moment result) self.new }
+        ensures here { OnTrue result (CpuChanges R.Raise self.old (Reprogram id moment (Ok tt)) self.new) }
+        ensures none { OnFalse result (CpuChanges R.Raise self.old (Reprogram id moment (Err NoCyclic)) self.new) }
     {
         match self.table.seek(id) {
             Some(index) => {
                 self.table.reprogram(index, moment);
-                Ok(())
+                true
             }
-            None => Err(Refusal::NoCyclic),
+            None => false,
         }
     }
 

@@ -58,6 +58,12 @@ hole_made position few h low = record {
   apart = λ p q low_p low_q _ _ off. h.apart p q low_p low_q off;
 }
 
+-- what doesn't come before the one at a position doesn't come before the one above it
+pub below_later : (position : ℕ) (few : List Entry) (e : Entry) → IsHeap few → position < length few
+    → comes (entry_at few position) e ≡ true → IsBelow e position few
+below_later position few e h low later a is = comes_trans (entry_at few a) (entry_at few position) e (h.rising a position is low)
+    later
+
 pub same_self : (position : ℕ) (few : List Entry) → IsSame position few position few
 same_self position few = record {
   long = refl;

@@ -7,7 +7,7 @@ ghost use Rattle.cyc_heap.specs.Tournament.{entry_at, cyclic_index, free_entry};
 ghost use Rattle.cyc_heap.specs.Few.{shown, IsTree, IsChanged};
 
 use crate::entry::Entry;
-use crate::few::{find, put, put_first};
+use crate::few::{find, put, put_first, replace};
 use crate::games::enter;
 use cyc_types::{Index, Moment};
 
@@ -53,7 +53,7 @@ fn change_few(entries: &mut Vec<Entry>, held: usize, leaves: usize, index: Index
 {
     let position = find(&entries.as_slice()[..held], index).unwrap();
     let entry = at_moment(&entries[position], moment);
-    put(entries, held, position, entry);
+    replace(entries, held, position, entry);
 }
 
 /// One of many has another moment. A fire calls this, so that in its loop over few the games take no place.
@@ -165,7 +165,7 @@ fn take_few(entries: &mut Vec<Entry>, held: usize, leaves: usize, index: Index)
     let moved = entries[last];
     entries[last] = Entry::free();
     if position < last {
-        put(entries, last, position, moved);
+        replace(entries, last, position, moved);
     }
 }
 

@@ -97,6 +97,21 @@ fn settle(few: &mut [Entry], position: usize, entry: Entry)
     sink(few, hole, entry);
 }
 
+/// The same in exchange for one of the same heap: what stands above is looked at only where the entry expires before that one.
+fn exchange(few: &mut [Entry], position: usize, entry: Entry)
+    requires position { position < length few.old }
+    requires heap { IsHeap few.old }
+    requires apart { (p : ℕ) → p < length few.old → p ≢ position → cyclic_index (entry_at few.old p) ≢ cyclic_index entry }
+    ensures heap { IsHeap few.new }
+    ensures filled { IsFilled position few.old entry few.new }
+{
+    let mut hole = position;
+    if position > 0 && entry.expires_before(&few[position]) {
+        hole = rise(few, position, &entry);
+    }
+    sink(few, hole, entry);
+}
+
 /// The same among so many that stand in front.
 pub(crate) fn put(entries: &mut Vec<Entry>, held: usize, position: usize, entry: Entry)
     requires held { held ≤ length entries.old.items }
@@ -111,6 +126,22 @@ pub(crate) fn put(entries: &mut Vec<Entry>, held: usize, position: usize, entry:
 {
     let (front, _behind) = entries.as_mut_slice().split_at_mut(held);
     settle(front, position, entry);
+}
+
+/// As `exchange`, among so many that stand in front.
+pub(crate) fn replace(entries: &mut Vec<Entry>, held: usize, position: usize, entry: Entry)
+    requires held { held ≤ length entries.old.items }
+    requires position { position < held }
+    requires heap { IsHeap (take held entries.old.items) }
+    requires apart { (p : ℕ) → p < held → p ≢ position → cyclic_index (entry_at entries.old.items p) ≢ cyclic_index entry }
+    ensures heap { IsHeap (take held entries.new.items) }
+    ensures filled { IsFilled position (take held entries.old.items) entry (take held entries.new.items) }
+    ensures behind { drop held entries.new.items ≡ drop held entries.old.items }
+    ensures long { length entries.new.items ≡ length entries.old.items }
+    ensures room { vec_capacity entries.new ≡ vec_capacity entries.old }
+{
+    let (front, _behind) = entries.as_mut_slice().split_at_mut(held);
+    exchange(front, position, entry);
 }
 
 /// The same in place of the first.

@@ -3,21 +3,21 @@ use Rattle.std.proofs.Math.ListN.{set}
 use Rattle.std.proofs.lemmas.List.{get_or_default}
 use Rattle.cyc_heap.specs.declared.entry.Entry.{Entry}
 use Rattle.cyc_heap.specs.Tournament.{nowhere, entry_at, cyclic_index, free_entry}
-use Rattle.cyc_heap.specs.Few.{shown, IsHeapBut, IsFilled, IsTree, IsChanged}
-use Rattle.cyc_heap.proofs.Sifting.{found, cut_open, cut_apart, last_tree, last_changed, moved_tree, moved_changed}
+use Rattle.cyc_heap.specs.Few.{shown, IsHeap, IsFilled, IsTree, IsChanged}
+use Rattle.cyc_heap.proofs.Sifting.{found, cut_heap, cut_apart, last_tree, last_changed, moved_tree, moved_changed}
 use Rattle.cyc_heap.proofs.changes.take_few.Goals as goal
 
-pub put-requires-clause-heap : goal.put-requires-clause-heap
-put-requires-clause-heap c =
+pub replace-requires-clause-heap : goal.replace-requires-clause-heap
+replace-requires-clause-heap c =
     let es = c.args.entries.now.items in
     let t = c.requires.tree in
     let (low, here) = found c.args.held es c.as_slice.result.now c.find.result c.unwrap-position.result c.args.index t.within
     c.as_slice.ensures.value c.unwrap-position.ensures c.find.ensures.some in
-    subst (λ e. IsHeapBut c.unwrap-position.result (take (c.args.held - 1) (set es (c.args.held - 1) e))) (sym c.free.ensures)
-    (cut_open c.args.held c.args.leaves c.unwrap-position.result c.args.index es t low here c.if-position-last.true)
+    subst (λ e. IsHeap (take (c.args.held - 1) (set es (c.args.held - 1) e))) (sym c.free.ensures)
+    (cut_heap c.args.held c.args.leaves c.unwrap-position.result c.args.index es t low here)
 
-pub put-requires-clause-apart : goal.put-requires-clause-apart
-put-requires-clause-apart c =
+pub replace-requires-clause-apart : goal.replace-requires-clause-apart
+replace-requires-clause-apart c =
     let es = c.args.entries.now.items in
     let t = c.requires.tree in
     let (low, here) = found c.args.held es c.as_slice.result.now c.find.result c.unwrap-position.result c.args.index t.within
@@ -37,9 +37,9 @@ returns-then-position-last-clause-tree c =
     let within = t.within in
     let x = c.index-moved.result.now in
     let at = get_or_default es (c.args.held - 1) nowhere x (omega (arith, low, within)) ∙ sym c.index-moved.ensures in
-    let f = c.put.ensures in
+    let f = c.replace.ensures in
     let last = c.args.held - 1 in
-    let new = c.put.new.entries.items in
+    let new = c.replace.new.entries.items in
     let cut : Entry → List Entry = set es last in
     moved_tree c.args.held c.args.leaves c.unwrap-position.result c.args.index es t low here new c.if-position-last.true
     (f.long ∙ ap (λ e. length (cut e)) c.free.ensures) f.heap
@@ -55,9 +55,9 @@ returns-then-position-last-clause-changed c =
     let within = t.within in
     let x = c.index-moved.result.now in
     let at = get_or_default es (c.args.held - 1) nowhere x (omega (arith, low, within)) ∙ sym c.index-moved.ensures in
-    let f = c.put.ensures in
+    let f = c.replace.ensures in
     let last = c.args.held - 1 in
-    let new = c.put.new.entries.items in
+    let new = c.replace.new.entries.items in
     let cut : Entry → List Entry = set es last in
     moved_changed c.args.held c.args.leaves c.unwrap-position.result c.args.index es t low here new c.if-position-last.true
     (f.long ∙ ap (λ e. length (cut e)) c.free.ensures) f.heap

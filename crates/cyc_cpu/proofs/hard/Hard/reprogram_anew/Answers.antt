@@ -16,8 +16,8 @@ invariant_of-self g c = let i = c.self.inside in
     c.seek.ensures.same)
     c.self.invariant)
 
-pub returns-in-Some : goal.returns-in-Some
-returns-in-Some g c = let i = c.self.inside in
+pub returns-in-Some-clause-here : goal.returns-in-Some-clause-here
+returns-in-Some-clause-here g c = let i = c.self.inside in
     let v = ap (over i.removal i.most i.suspended i.lock i.low) c.seek.ensures.same ∙ c.self.view_is in
     changes_from g.R.Raise (Reprogram c.args.id c.args.moment (Ok tt)) _ _
     (over i.removal i.most i.suspended i.lock i.low c.reprogram.new.self) v
@@ -25,8 +25,8 @@ returns-in-Some g c = let i = c.self.inside in
     c.args.moment c.in-Some.ensures.some (λ q. c.requires (sym (ap (λ (v : CpuView _). v.removal) c.self.view_is) ∙ q))
     c.reprogram.ensures.rows c.reprogram.ensures.size i.suspended c.reprogram.ensures.room)
 
-pub returns-in-None : goal.returns-in-None
-returns-in-None g c =
+pub returns-in-None-clause-none : goal.returns-in-None-clause-none
+returns-in-None-clause-none g c =
     let i = c.self.inside in
     let v = ap (over i.removal i.most i.suspended i.lock i.low) c.seek.ensures.same ∙ c.self.view_is in (
       refl,
