@@ -17,6 +17,10 @@ use Rattle.cyc_core.specs.Tables.{Tables, lookup, cyclic_of_entry, level_of}
 use Rattle.cyc_core.specs.Shown.{nothing_kept, kept_id, table_of, AreKept, FreePositions}
 use Rattle.cyc_core.proofs.Keeping.{there, is_here, kept_low, named_entry, some_same}
 
+at_most_one : (b : Bool) → cond b 0 1 ≤ 1
+at_most_one true = omega arith
+at_most_one false = omega arith
+
 -- the positions that are free, where one is taken, where one is left, and where the counts of a cyclic change
 module _ (kept : List Kept) (free : List ℕ) (number position : ℕ) (at : number ≡ position) (new : Kept) where
   one_more : (p : ℕ) → times_in p (position ∷ free) ≡ cond (eqb p number) 1 0 + times_in p free
@@ -54,10 +58,6 @@ module _ (kept : List Kept) (free : List ℕ) (number position : ℕ) (at : numb
       (λ p ne l. let one = all p l in let no = ap (λ b. cond {A = ℕ} b 1 0) (ne_eqb p number ne) in omega (arith, one, no))
       (λ p some. t.low p (let one = one_more p in omega (arith, one, some)))
       t.few
-    where
-      at_most_one : (b : Bool) → cond b 0 1 ≤ 1
-      at_most_one true = omega arith
-      at_most_one false = omega arith
 
   pub left_free : FreePositions kept free → (there kept number).here ≡ true → new.here ≡ false → number < length kept
       → FreePositions (set kept number new) (free ++ position ∷ [])
@@ -102,13 +102,9 @@ room_left kept free t p low here =
           let l = t.low q (omega (arith, some, no)) in let f = t.few in omega (arith, l, f)
     ]
 
-    single : (b : Bool) → cond b 0 1 ≤ 1
-    single true = omega arith
-    single false = omega arith
-
     once_free : (q : ℕ) → times_in q free ≤ 1
     once_free q = elim (cases_lt q (length kept)) [
-      | inl l ↦ let o = t.once q l in let s = single (there kept q).here in omega (arith, o, s)
+      | inl l ↦ let o = t.once q l in let s = at_most_one (there kept q).here in omega (arith, o, s)
       | inr past ↦ elim (cases_lt 0 (times_in q free)) [
         | inl some ↦ let l = t.low q some in absurd (omega (arith, l, past))
         | inr none ↦ omega (arith, none)

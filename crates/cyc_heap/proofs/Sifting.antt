@@ -8,8 +8,8 @@ use Rattle.std.proofs.lemmas.List.{length-set, length-take-le, get_or-take, get_
 use Rattle.cyc_types.specs.Series.{never}
 use Rattle.cyc_heap.specs.declared.entry.Entry.{Entry}
 use Rattle.cyc_heap.specs.Tournament.{nowhere, entry_at, cyclic_index, free_entry, comes}
-use Rattle.cyc_heap.specs.Few.{shown, IsHeap, IsHeapBut, IsFilled, IsFew, IsBareFront, IsTree, IsChanged}
-use Rattle.cyc_heap.proofs.Moving.{child_low, hole_made}
+use Rattle.cyc_heap.specs.Few.{shown, IsHeap, IsFilled, IsFew, IsBareFront, IsTree, IsChanged}
+use Rattle.cyc_heap.proofs.Moving.{child_low}
 use Rattle.cyc_heap.proofs.Spreading.{tree_after, changed_to, changed_free}
 
 -- what stands in front
@@ -80,10 +80,6 @@ module _ (held leaves position x : ℕ) (es new : List Entry) (e : Entry) (t : I
   position_low = let l = front_long held es t.within in
       let f = (t.heap refl).low position (omega (arith, low, l)) in
       let at = ap cyclic_index (front held es position low) in omega (arith, f, at, here)
-
-  pub position_open : IsHeapBut position (take held es)
-  position_open = let l = front_long held es t.within in
-      hole_made position (take held es) (t.heap refl).heap (omega (arith, low, l))
 
   module _ (same : length new ≡ length es) (heap : IsHeap (take held new))
       (f : IsFilled position (take held es) e (take held new))
@@ -190,10 +186,6 @@ module _ (held leaves position x : ℕ) (es : List Entry) (t : IsTree true held 
     apart = λ p q a b ne. subst₂ (λ a b. cyclic_index a ≢ cyclic_index b) (sym (before p (omega (arith, a, n))))
         (sym (before q (omega (arith, b, n)))) (apart p q (omega (arith, a, n)) (omega (arith, b, n)) ne);
   }
-
-  pub cut_open : position < held - 1 → IsHeapBut position (take (held - 1) cut)
-  cut_open less = let n = front_long (held - 1) cut cut_inside in
-      hole_made position (take (held - 1) cut) cut_heap (omega (arith, less, n))
 
   pub cut_apart : (p : ℕ) → p < held - 1 → cyclic_index (entry_at cut p) ≢ cyclic_index (entry_at es (held - 1))
   cut_apart p less = subst₂ (λ a b. cyclic_index a ≢ cyclic_index b) (sym (before p less) ∙ front (held - 1) cut p less)
