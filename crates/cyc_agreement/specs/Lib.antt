@@ -10,15 +10,6 @@ pub mod Holding
 pub mod Refusals
 pub mod Adding
 pub mod Binding
-pub mod Removing
-pub mod Polling
-pub mod Counting
-pub mod Withdrawing
-pub mod RemovalLaws
-pub mod Counts
-pub mod Juggling
-pub mod GoingOffline
-pub mod Walking
 pub mod Omni
 pub mod Online
 pub mod OmniLaws

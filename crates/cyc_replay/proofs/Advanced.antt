@@ -12,7 +12,7 @@ use Rattle.cyc_system.specs.System.{RunningSystem, running_system}
 use Rattle.cyc_model.specs.State.{State, Outcome, cpus_online}
 use Rattle.cyc_types.specs.Reasons.{when, or_else, bad_now}
 use Rattle.cyc_model.specs.Advance.{advance, advance_refusal}
-use Rattle.cyc_replay.specs.SystemAdvancing.{at_clock, fired_and_lost, HasFired, IsAdvanced}
+use Rattle.cyc_system_model.specs.SystemAdvancing.{at_clock, fired_and_lost, HasFired, IsAdvanced}
 use Rattle.cyc_replay.specs.declared.machine.Machine.{Machine}
 use Rattle.cyc_replay.specs.Machine.{ShowsMachine, IsReached}
 use Rattle.cyc_replay.specs.Words.{Comes, TakesWord}
@@ -21,7 +21,7 @@ use Rattle.cyc_model.proofs.Still.{still_fires}
 use Rattle.cyc_replay.proofs.Named.{reached_good}
 use Rattle.cyc_replay.proofs.Remembering.{remembers_on, remembers_does}
 use Rattle.cyc_replay.specs.Advancing.{IsAdvancing}
-use Rattle.cyc_replay.specs.Room.{HaveRoomFor}
+use Rattle.cyc_system_model.specs.Room.{HaveRoomFor}
 
 below_never : (now : ℕ) → now < never → nat_le never now ≡ false
 below_never now low = grind (arith, nat_tests)

@@ -26,14 +26,14 @@ use Rattle.cyc_model.specs.Remove.{busy_on_any, remove}
 use Rattle.cyc_model.specs.Report.{counts_of}
 use Rattle.cyc_model.proofs.Spread.{Good}
 use Rattle.cyc_model.specs.Script.{does, text_in, refusal_of}
-use Rattle.cyc_replay.specs.SystemWords.{GivesIndexes, IsRefusedFor}
-use Rattle.cyc_replay.specs.Removal.{told_by_receipt, IsRemovedAtOnce, IsKept}
+use Rattle.cyc_system_model.specs.SystemWords.{GivesIndexes, IsRefusedFor}
+use Rattle.cyc_system_model.specs.Removal.{told_by_receipt, IsRemovedAtOnce, IsKept}
 use Rattle.cyc_replay.specs.declared.machine.Machine.{Machine}
 use Rattle.cyc_replay.specs.Machine.{ShowsMachine, Remembers, id_at, numbers_of}
 use Rattle.cyc_system.specs.Removing.{BeginsRemoval}
 use Rattle.cyc_words.specs.declared.named.Named.TheVariants.{Leaving, Removed}
 use Rattle.cyc_words.specs.Names.{news, noted}
-use Rattle.cyc_replay.proofs.Removals.{remove_forgets, receipt_removed}
+use Rattle.cyc_system_model.proofs.Removals.{remove_forgets, receipt_removed}
 use Rattle.cyc_replay.specs.Runs.{listed}
 use Rattle.cyc_replay.specs.Words.{TakesWord}
 use Rattle.cyc_replay.proofs.Doing.{Accepts, Answers}

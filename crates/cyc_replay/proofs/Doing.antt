@@ -12,8 +12,8 @@ use Rattle.cyc_model.specs.Script.{refusal_of, does, word}
 use Rattle.cyc_model.proofs.Events.{calls_append}
 use Rattle.cyc_model.proofs.Telling.{tells_steps}
 use Rattle.cyc_cpu_model.specs.Answers.{IsRefused}
-use Rattle.cyc_replay.specs.Shown.{IsSystem, ShowsSystem}
-use Rattle.cyc_replay.specs.SystemWords.{GivesIndexes, IsDone, IsDoneWith, IsRefusedFor}
+use Rattle.cyc_system_model.specs.Shown.{IsSystem, ShowsSystem}
+use Rattle.cyc_system_model.specs.SystemWords.{GivesIndexes, IsDone, IsDoneWith, IsRefusedFor}
 use Rattle.cyc_replay.specs.declared.machine.Machine.{Machine}
 use Rattle.cyc_replay.specs.Machine.{ShowsMachine, Remembers, IsWide, IsReached, AllMost, numbers_of}
 use Rattle.cyc_replay.specs.Words.{Comes}
@@ -22,7 +22,7 @@ use Rattle.cyc_system.specs.System.{SystemView}
 use Rattle.cyc_system.specs.Agreement.{most_on}
 use Rattle.cyc_agreement.specs.Suspending.{is_suspended}
 use Rattle.cyc_model.proofs.Known.{IsLasting}
-use Rattle.cyc_replay.specs.Room.{HaveRoomFor}
+use Rattle.cyc_system_model.specs.Room.{HaveRoomFor}
 use Rattle.cyc_replay.proofs.Introduced.{introduces_does}
 use Rattle.cyc_replay.proofs.Mosts.{most_kept}
 use Rattle.cyc_replay.proofs.Named.{reached_good}

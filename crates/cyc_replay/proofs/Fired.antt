@@ -39,18 +39,18 @@ use Rattle.cyc_model.proofs.Totals.{expired_in}
 use Rattle.cyc_model.proofs.Numbers.{Has, numbers_few}
 use Rattle.cyc_model.proofs.Calm.{good_clock}
 use Rattle.cyc_cpu_model.specs.Shown.{shown_cyclic}
-use Rattle.cyc_replay.specs.SystemAdvancing.{at_clock, online_below, fired_and_lost, HasFired}
-use Rattle.cyc_replay.specs.Shown.{shown_list, IsSystem}
+use Rattle.cyc_system_model.specs.SystemAdvancing.{at_clock, online_below, fired_and_lost, HasFired}
+use Rattle.cyc_system_model.specs.Shown.{shown_list, IsSystem}
 use Rattle.cyc_replay.specs.declared.machine.Machine.{Machine}
 use Rattle.cyc_replay.specs.Machine.{IsWide, AllMost, numbers_of}
 use Rattle.cyc_replay.specs.Advancing.{IsAdvancing}
 use Rattle.cyc_replay.proofs.Mosts.{most_changed}
-use Rattle.cyc_replay.proofs.SystemSuspending.{mark_at}
+use Rattle.cyc_system_model.proofs.SystemSuspending.{mark_at}
 use Rattle.cyc_replay.proofs.Named.{reached_good}
 use Rattle.cyc_replay.proofs.Unrefused.{IsFew, EachTimer, same_range, still_wide, never_stopped}
 use Rattle.cyc_model.proofs.Growing.{few_times, grows_fires}
 use Rattle.cyc_replay.proofs.Remembering.{SameNames, remembers_on}
-use Rattle.cyc_replay.specs.Room.{HaveRoomFor}
+use Rattle.cyc_system_model.specs.Room.{HaveRoomFor}
 use Rattle.cyc_replay.proofs.Grown.{few_timers, few_reached, many_reached}
 
 -- ---- what a fire keeps

@@ -1,36 +1,3 @@
-mod Lists
-mod Cpus
-mod Asking
-mod Destinations
-mod Entering
-mod SystemAdding
-mod Reprogramming
-mod Replacing
-mod SystemRunning
-mod Binding
-mod Sums
-mod Half
-mod Ending
-mod Coming
-mod SystemRemoving
-mod Answering
-pub mod Removals
-mod Polling
-mod SystemCounting
-mod Going
-mod Spreading
-mod Returning
-mod Rooms
-mod Records
-mod Agreeing
-mod Keeping
-mod Suspensions
-pub mod SystemSuspending
-mod Turning
-mod Juggling
-mod SystemOffline
-mod SystemBeginning
-pub mod SystemAdvancing
 pub mod Mosts
 pub mod Named
 pub mod Remembering

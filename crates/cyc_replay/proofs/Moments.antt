@@ -19,7 +19,7 @@ use Rattle.cyc_system.specs.Calls.{FireOne, SoftInterrupt, reprograms}
 use Rattle.cyc_system.specs.Calls.{Add as AddCall, AddOmni, Bind as BindCall, BeginRemove, Juggle as JuggleCall}
 use Rattle.cyc_system.specs.Calls.{Offline as OfflineCall, Online as OnlineCall, Suspend as SuspendCall, Resume as ResumeCall}
 use Rattle.cyc_words.specs.Names.{news}
-use Rattle.cyc_replay.specs.Kept.{LeavesMark}
+use Rattle.cyc_system_model.specs.Kept.{LeavesMark}
 
 -- a call that reaches no handler leaves the tally
 pub as_running : (call : SystemCall) (t : TallyView) (v w : SystemView Tables) → Changes raise_tables v call w

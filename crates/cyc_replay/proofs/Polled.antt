@@ -26,9 +26,9 @@ use Rattle.cyc_system.proofs.Spots.{same_some, none_some}
 use mathlib.Core.Logic.{dite}
 use native.Mathlib.Decide.{ℕ_discrete}
 use Rattle.std.specs.Prelude.{not, is_some, slice_set, Ok, Err}
-use Rattle.cyc_replay.specs.Shown.{ShowsSystem}
-use Rattle.cyc_replay.specs.Room.{HaveRoomFor}
-use Rattle.cyc_replay.specs.Removal.{HavePolled, IsInterrupted, answer_line, told_by_receipt}
+use Rattle.cyc_system_model.specs.Shown.{ShowsSystem}
+use Rattle.cyc_system_model.specs.Room.{HaveRoomFor}
+use Rattle.cyc_system_model.specs.Removal.{HavePolled, IsInterrupted, polled_line, told_by_receipt}
 use Rattle.cyc_replay.specs.declared.machine.Machine.{Machine}
 use Rattle.cyc_replay.specs.Machine.{ShowsMachine, Remembers, IsWide, id_at, name_at, numbers_of}
 use Rattle.cyc_replay.proofs.Doing.{Keeps}
@@ -41,9 +41,9 @@ use Rattle.cyc_words.specs.declared.named.Named.{Named}
 use Rattle.cyc_words.specs.declared.named.Named.TheVariants.{Removed}
 use Rattle.cyc_words.specs.Names.{news, noted}
 use Rattle.cyc_model.proofs.Printing.{unknown_gone}
-use Rattle.cyc_replay.proofs.Polling.{polls_tell, polls_forget, receipt_polled}
+use Rattle.cyc_system_model.proofs.Polling.{polls_tell, polls_forget, receipt_polled}
 use Rattle.cyc_replay.proofs.Unknown.{unknown_polled, still_known}
-use Rattle.cyc_replay.proofs.Removals.{same_removal}
+use Rattle.cyc_system_model.proofs.Removals.{same_removal}
 use Rattle.cyc_replay.proofs.OpenRemovals.{up_to, none_up_to, all_up_to, one_up_to, leaving_rise, leaving_open, open_leaving}
 
 module _ (texts : List (List ℕ)) (step : ℕ) (i : SoftintStep) (s : State) where
@@ -87,11 +87,11 @@ module _ (texts : List (List ℕ)) (step : ℕ) (i : SoftintStep) (s : State) wh
         (still_polls texts step (id ∷ []) (left ids)).last in omega (arith, a, b)
 
     pub polling_next : (answer : Option Receipt) (n : Machine)
-        → HavePolled texts step (ids ++ id ∷ []) (lines ++ answer_line step (text_of_id id texts s.names) answer)
+        → HavePolled texts step (ids ++ id ∷ []) (lines ++ polled_line step (text_of_id id texts s.names) answer)
         (interrupt step i s).state n.system
         → Keeps (left ids) n.system → n.clock ≡ m.clock → n.tally ≡ m.tally → numbers_of n.names ≡ numbers_of m.names
         → Remembers (left (ids ++ id ∷ [])) n
-        → IsPolling texts step (ids ++ id ∷ []) (lines ++ answer_line step (text_of_id id texts s.names) answer) i s n
+        → IsPolling texts step (ids ++ id ∷ []) (lines ++ polled_line step (text_of_id id texts s.names) answer) i s n
     polling_next answer n next kept clock tally names remembers = record {
       reached = p.reached;
       accepted = p.accepted;
@@ -180,17 +180,17 @@ module _ (texts : List (List ℕ)) (step : ℕ) (i : SoftintStep) (s : State) wh
 
   -- where it answers not, and where it does
   pub answered_none : (ids lines : List ℕ) (id : ℕ) (answer : Option Receipt) (line : List ℕ) (n : Machine) → answer ≡ None
-      → IsPolling texts step (ids ++ id ∷ []) (lines ++ answer_line step (text_of_id id texts s.names) answer) i s n
+      → IsPolling texts step (ids ++ id ∷ []) (lines ++ polled_line step (text_of_id id texts s.names) answer) i s n
       → (more : List ℕ) × (line ≡ line ++ more) × IsPolling texts step (ids ++ id ∷ []) (lines ++ more) i s n
   answered_none ids lines id answer line n none p = (
     [],
     sym (append-nil line),
     subst (λ o. IsPolling texts step (ids ++ id ∷ [])
-        (lines ++ answer_line step (text_of_id id texts s.names) o) i s n) none p,
+        (lines ++ polled_line step (text_of_id id texts s.names) o) i s n) none p,
   )
 
   pub answered_some : (ids lines : List ℕ) (id : ℕ) (receipt : Receipt) (line after text : List ℕ) (calls : ℕ) (n : Machine)
-      → IsPolling texts step (ids ++ id ∷ []) (lines ++ answer_line step (text_of_id id texts s.names) (Some receipt)) i s n
+      → IsPolling texts step (ids ++ id ∷ []) (lines ++ polled_line step (text_of_id id texts s.names) (Some receipt)) i s n
       → ((t : State) → ShowsMachine t n → text ≡ text_of_id id texts t.names) → calls ≡ receipt.sent - receipt.lost
       → after ≡ line ++ removed step text calls
       → (more : List ℕ) × (after ≡ line ++ more) × IsPolling texts step (ids ++ id ∷ []) (lines ++ more) i s n

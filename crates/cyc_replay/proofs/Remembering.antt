@@ -24,7 +24,7 @@ use Rattle.cyc_model.proofs.Known.{IsLasting, unknown_before}
 use Rattle.cyc_model.proofs.Gone.{gone_does, gone_steps}
 use Rattle.cyc_replay.specs.declared.machine.Machine.{Machine}
 use Rattle.cyc_replay.specs.Machine.{ShowsMachine, Remembers, IsReached, id_of_named, id_at, name_number, numbers_of, name_at}
-use Rattle.cyc_replay.specs.Removal.{told_by_receipt}
+use Rattle.cyc_system_model.specs.Removal.{told_by_receipt}
 use Rattle.cyc_types.specs.declared.receipt.Receipt.{Receipt}
 use Rattle.cyc_words.specs.declared.named.Named.{Named}
 use Rattle.cyc_words.specs.declared.named.Named.TheVariants.{Nothing, Cyclic, Leaving, Removed}

@@ -24,12 +24,12 @@ use Rattle.cyc_model.proofs.Reaching.{well_steps, start_good, length_new}
 use Rattle.cyc_model.proofs.Telling.{tells_steps}
 use Rattle.cyc_model.proofs.Unindexed.{text_bare}
 use Rattle.cyc_cpu_model.specs.Shown.{shown_cpu}
-use Rattle.cyc_replay.specs.Shown.{shown_cpus}
+use Rattle.cyc_system_model.specs.Shown.{shown_cpus}
 use Rattle.cyc_replay.specs.declared.machine.Machine.{Machine}
 use Rattle.cyc_replay.specs.Machine.{ShowsMachine}
 use Rattle.cyc_replay.specs.Runs.{RunsTo, listed}
 use Rattle.cyc_replay.proofs.Indexes.{same_line}
-use Rattle.cyc_replay.proofs.Cpus.{get_shown, long_shown}
+use Rattle.cyc_system_model.proofs.Cpus.{get_shown, long_shown}
 use Rattle.cyc_replay.specs.Replay.{HasReplayed, LevelsAreSound}
 
 -- ---- a run of a whole script

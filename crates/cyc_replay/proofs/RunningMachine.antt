@@ -12,7 +12,7 @@ use Rattle.cyc_model.specs.Script.{word, steps_from, start, run_on}
 use Rattle.cyc_model.proofs.Events.{events_append}
 use Rattle.cyc_model.proofs.Telling.{tells_steps}
 use Rattle.cyc_model.proofs.Reaching.{length_new}
-use Rattle.cyc_replay.specs.SystemWords.{GivesIndexes}
+use Rattle.cyc_system_model.specs.SystemWords.{GivesIndexes}
 use Rattle.cyc_replay.specs.declared.machine.Machine.{Machine}
 use Rattle.cyc_replay.specs.Machine.{ShowsMachine, IsNamed, IsReached}
 use Rattle.cyc_replay.specs.Words.{TakesWord}

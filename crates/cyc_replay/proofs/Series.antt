@@ -17,7 +17,7 @@ use Rattle.cyc_model.specs.Reprogram.{reprogram_refusal, cpu_refusals}
 use Rattle.cyc_types.specs.Reasons.{first_refusal, when}
 use Rattle.cyc_types.proofs.Facts.{so_true}
 use Rattle.cyc_model.specs.Refusals.{bad_when, magnitude}
-use Rattle.cyc_replay.specs.SystemWords.{IsSeries, IsMoment}
+use Rattle.cyc_system_model.specs.SystemWords.{IsSeries, IsMoment}
 
 not_below : (n m : ℕ) → m < n + 1 → nat_lt n m ≡ false
 not_below n m h = grind (arith, nat_tests)

@@ -15,8 +15,8 @@ use Rattle.cyc_cpu.specs.Cpu.{IsFresh}
 use Rattle.cyc_cpu.proofs.Fresh.{empty_is_fresh}
 use Rattle.cyc_cpu.specs.Soft.{firing_at}
 use Rattle.cyc_model.specs.Script.{start}
-use Rattle.cyc_replay.specs.Shown.{ShowsSystem, IsSystem}
-use Rattle.cyc_replay.specs.Kept.{LevelsAreNew, new_system}
+use Rattle.cyc_system_model.specs.Shown.{ShowsSystem, IsSystem}
+use Rattle.cyc_system_model.specs.Kept.{LevelsAreNew, new_system}
 use Rattle.cyc_agreement.specs.Suspending.{is_suspended}
 use Rattle.std.specs.Option.{option_map, option_map_or}
 use Rattle.cyc_replay.specs.declared.machine.Machine.{Machine}
@@ -47,9 +47,9 @@ use Rattle.cyc_system.specs.Agreement.{Agrees}
 use Rattle.cyc_system.proofs.Spots.{same_some, none_some}
 use Rattle.cyc_model.specs.State.{State}
 use Rattle.cyc_system.specs.Splitting.{GoesOn, IsSameEnd, index_admitted, AllComeBack}
-use Rattle.cyc_replay.specs.Room.{HaveRoomFor}
-use Rattle.cyc_replay.proofs.Rooms.{near, far, first_enough, bank_rises}
-use Rattle.cyc_replay.specs.Shown.{shown_list, shown_record, AllFull}
+use Rattle.cyc_system_model.specs.Room.{HaveRoomFor}
+use Rattle.cyc_system_model.proofs.Rooms.{near, far, first_enough, bank_rises}
+use Rattle.cyc_system_model.specs.Shown.{shown_list, shown_record, AllFull}
 
 pub fresh_levels : (ceiling : ℕ) (ends : List (Tables × Tables)) → LevelsAreNew ceiling ends
     → All (λ e. IsFresh (firing_at e.0) × IsFresh (firing_at e.1)) ends

@@ -7,9 +7,9 @@ use Rattle.cyc_agreement.specs.Suspending.{is_suspended}
 use Rattle.cyc_model.specs.Questions.{plain}
 use Rattle.cyc_model.specs.State.{State}
 use Rattle.cyc_model.specs.Script.{does}
-use Rattle.cyc_replay.specs.Room.{HaveRoomFor}
-use Rattle.cyc_replay.specs.Shown.{IsSystem, ShowsSystem}
-use Rattle.cyc_replay.specs.SystemWords.{IsDone, IsRefusedFor}
+use Rattle.cyc_system_model.specs.Room.{HaveRoomFor}
+use Rattle.cyc_system_model.specs.Shown.{IsSystem, ShowsSystem}
+use Rattle.cyc_system_model.specs.SystemWords.{IsDone, IsRefusedFor}
 use Rattle.cyc_replay.specs.declared.machine.Machine.{Machine}
 use Rattle.cyc_types.specs.Tally.{tally_count}
 use Rattle.cyc_replay.specs.Machine.{ShowsMachine, IsWide, AllMost, numbers_of}

@@ -11,7 +11,7 @@ use Rattle.cyc_model.specs.Questions.{plain}
 use Rattle.cyc_model.specs.State.{State, Outcome, each}
 use Rattle.cyc_model.specs.Script.{refusal_of}
 use Rattle.cyc_model.proofs.Still.{still_juggle, still_offline}
-use Rattle.cyc_replay.specs.SystemWords.{IsDoneWith, IsRefusedFor, IsAtOnce}
+use Rattle.cyc_system_model.specs.SystemWords.{IsDoneWith, IsRefusedFor, IsAtOnce}
 use Rattle.cyc_replay.specs.declared.machine.Machine.{Machine}
 use Rattle.cyc_replay.specs.Machine.{ShowsMachine, IsReached, numbers_of}
 use Rattle.cyc_replay.specs.Words.{TakesWord}

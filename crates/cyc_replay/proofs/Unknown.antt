@@ -19,7 +19,7 @@ use Rattle.cyc_model.specs.Places.{id_of, is_no_cyclic, keep_counts, forgotten}
 use Rattle.cyc_model.specs.Remove.{clear_if, poll, begin, begun, remove}
 use Rattle.cyc_model.specs.Softint.{is_open, text_of_id, polled, poll_id}
 use Rattle.cyc_model.proofs.Placing.{place_forgotten_other}
-use Rattle.cyc_replay.specs.Shown.{ShowsSystem, shown_record}
+use Rattle.cyc_system_model.specs.Shown.{ShowsSystem, shown_record}
 
 -- ---- begins and polls leave where cyclics are
 

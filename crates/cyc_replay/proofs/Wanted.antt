@@ -4,11 +4,11 @@ use Rattle.std.proofs.lemmas.List.{length-map}
 use Rattle.cyc_model.specs.State.{State}
 use Rattle.cyc_replay.specs.declared.machine.Machine.{Machine}
 use Rattle.cyc_replay.specs.Machine.{ShowsMachine, IsNamed, IsReached}
-use Rattle.cyc_replay.specs.Room.{HaveRoomFor}
-use Rattle.cyc_replay.specs.Shown.{shown_record}
+use Rattle.cyc_system_model.specs.Room.{HaveRoomFor}
+use Rattle.cyc_system_model.specs.Shown.{shown_record}
 use Rattle.cyc_replay.proofs.Introduced.{few_placed}
 use Rattle.cyc_replay.proofs.Named.{reached_good}
-use Rattle.cyc_replay.proofs.Rooms.{room_fewer}
+use Rattle.cyc_system_model.proofs.Rooms.{room_fewer}
 
 pub room_for_all : (step : ℕ) (s : State) (m : Machine) → IsReached step s → IsNamed s → ShowsMachine s m
     → HaveRoomFor (length m.system.records) m.system.cpus

@@ -37,17 +37,17 @@ use Rattle.cyc_words.specs.declared.answer.WordAnswer.TheVariants.{Added, Removi
 use Rattle.cyc_words.specs.Names.{news, noted}
 use Rattle.cyc_words.specs.Words.{no_series, word_answer, done}
 use Rattle.cyc_words.specs.Doing.{WordState, word_state, DoesCall, DoesWord}
-use Rattle.cyc_replay.specs.Kept.{LeavesMark}
-use Rattle.cyc_replay.specs.Room.{HaveRoomFor}
-use Rattle.cyc_replay.specs.Shown.{IsSystem, ShowsSystem}
-use Rattle.cyc_replay.specs.SystemWords.{IsSeries}
+use Rattle.cyc_system_model.specs.Kept.{LeavesMark}
+use Rattle.cyc_system_model.specs.Room.{HaveRoomFor}
+use Rattle.cyc_system_model.specs.Shown.{IsSystem, ShowsSystem}
+use Rattle.cyc_system_model.specs.SystemWords.{IsSeries}
 use Rattle.cyc_replay.specs.declared.machine.Machine.{Machine}
 use Rattle.cyc_replay.specs.Machine.{ShowsMachine, AllMost, IsNamed, IsReached, id_at, id_of_named, name_number, numbers_of}
 use Rattle.cyc_replay.specs.WordLines.{name_in_word, named_by, why_line, word_line}
 use Rattle.cyc_replay.specs.Words.{TakesWord, answer_line}
 use Rattle.cyc_replay.proofs.Doing.{Answers}
-use Rattle.cyc_replay.proofs.Keeping.{kept, most_kept, room_kept}
-use Rattle.cyc_replay.proofs.Suspensions.{suspended_kept}
+use Rattle.cyc_system_model.proofs.Keeping.{kept, most_kept, room_kept}
+use Rattle.cyc_system_model.proofs.Suspensions.{suspended_kept}
 use Rattle.cyc_replay.proofs.Mosts.{most_kept as mosts_kept}
 use Rattle.cyc_replay.proofs.Named.{reached_good, nobody_first, named_so}
 use Rattle.cyc_replay.proofs.Grown.{few_reached}
@@ -62,16 +62,16 @@ use Rattle.cyc_replay.proofs.Suspended.{answers_marked}
 use Rattle.cyc_replay.proofs.Turns.{juggles, goes_offline, juggle_takes, offline_takes, same_each}
 use Rattle.cyc_replay.proofs.Begun.{Begun, nobody as nobody_removed, begun, begun_answers, begun_says, remove_taken}
 use Rattle.cyc_replay.proofs.Begun.{remove_refused as refused_remove}
-use Rattle.cyc_replay.proofs.SystemAdding.{add_accepted, add_refused}
-use Rattle.cyc_replay.proofs.Spreading.{omni_accepted, omni_refused}
-use Rattle.cyc_replay.proofs.Binding.{bind_accepted, bind_refused}
-use Rattle.cyc_replay.proofs.Replacing.{unbind_accepted, unbind_refused}
-use Rattle.cyc_replay.proofs.Reprogramming.{reprogram_accepted, reprogram_refused}
-use Rattle.cyc_replay.proofs.Removals.{remove_done, remove_kept, remove_refused}
-use Rattle.cyc_replay.proofs.Returning.{online_accepted, online_refused}
-use Rattle.cyc_replay.proofs.Juggling.{juggle_accepted, juggle_refused}
-use Rattle.cyc_replay.proofs.SystemOffline.{offline_accepted, offline_left, offline_pending, offline_refused}
-use Rattle.cyc_replay.proofs.SystemSuspending.{suspend_accepted, suspend_refused, resume_accepted, resume_refused}
+use Rattle.cyc_system_model.proofs.SystemAdding.{add_accepted, add_refused}
+use Rattle.cyc_system_model.proofs.Spreading.{omni_accepted, omni_refused}
+use Rattle.cyc_system_model.proofs.Binding.{bind_accepted, bind_refused}
+use Rattle.cyc_system_model.proofs.Replacing.{unbind_accepted, unbind_refused}
+use Rattle.cyc_system_model.proofs.Reprogramming.{reprogram_accepted, reprogram_refused}
+use Rattle.cyc_system_model.proofs.Removals.{remove_done, remove_kept, remove_refused}
+use Rattle.cyc_system_model.proofs.Returning.{online_accepted, online_refused}
+use Rattle.cyc_system_model.proofs.Juggling.{juggle_accepted, juggle_refused}
+use Rattle.cyc_system_model.proofs.SystemOffline.{offline_accepted, offline_left, offline_pending, offline_refused}
+use Rattle.cyc_system_model.proofs.SystemSuspending.{suspend_accepted, suspend_refused, resume_accepted, resume_refused}
 
 abbrev as_unit : Result (Unit {0}) Refusal → Result (Unit {0}) Refusal
 as_unit answer = answer

@@ -7,9 +7,9 @@ use Rattle.cyc_script.specs.Limits.{most_steps}
 use Rattle.cyc_model.specs.State.{State}
 use Rattle.cyc_system.specs.System.{RunningSystem, running_system}
 use Rattle.cyc_agreement.specs.Suspending.{is_suspended}
-use Rattle.cyc_replay.specs.Room.{HaveRoomFor}
-use Rattle.cyc_replay.specs.Shown.{IsSystem}
-use Rattle.cyc_replay.specs.SystemAdvancing.{at_clock, Expirations, HasFired}
+use Rattle.cyc_system_model.specs.Room.{HaveRoomFor}
+use Rattle.cyc_system_model.specs.Shown.{IsSystem}
+use Rattle.cyc_system_model.specs.SystemAdvancing.{at_clock, Expirations, HasFired}
 use Rattle.cyc_replay.specs.declared.machine.Machine.{Machine}
 use Rattle.cyc_replay.specs.Machine.{IsReached, IsWide, AllMost, Remembers, numbers_of}
 

@@ -7,8 +7,8 @@ use Rattle.cyc_system.specs.System.{running_system}
 use Rattle.cyc_model.specs.Questions.{plain}
 use Rattle.cyc_model.specs.State.{State, each}
 use Rattle.cyc_model.specs.Softint.{interrupt, softint_refusal, poll_id}
-use Rattle.cyc_replay.specs.Running.{IsServed}
-use Rattle.cyc_replay.specs.Removal.{HavePolled}
+use Rattle.cyc_system_model.specs.Running.{IsServed}
+use Rattle.cyc_system_model.specs.Removal.{HavePolled}
 use Rattle.cyc_replay.specs.declared.machine.Machine.{Machine}
 use Rattle.cyc_replay.specs.Machine.{ShowsMachine, IsReached}
 

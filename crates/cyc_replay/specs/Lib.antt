@@ -1,10 +1,3 @@
-pub mod Shown
-pub mod SystemWords
-pub mod Running
-pub mod Kept
-pub mod SystemAdvancing
-pub mod Removal
-pub mod Room
 pub mod Machine
 pub mod Words
 pub mod Runs

@@ -16,9 +16,9 @@ use Rattle.cyc_agreement.specs.Suspending.{is_suspended}
 use Rattle.cyc_words.specs.declared.named.Named.{Named}
 use Rattle.cyc_words.specs.declared.named.Named.TheVariants.{Nothing, Cyclic, Leaving, Removed}
 use Rattle.cyc_words.specs.Names.{named_at}
-use Rattle.cyc_replay.specs.Room.{HaveRoomFor}
-use Rattle.cyc_replay.specs.Shown.{ShowsSystem, IsSystem}
-use Rattle.cyc_replay.specs.Removal.{told_by_receipt}
+use Rattle.cyc_system_model.specs.Room.{HaveRoomFor}
+use Rattle.cyc_system_model.specs.Shown.{ShowsSystem, IsSystem}
+use Rattle.cyc_system_model.specs.Removal.{told_by_receipt}
 use Rattle.cyc_replay.specs.declared.machine.Machine.{Machine}
 
 -- the id that a name has, or had until its removal answered

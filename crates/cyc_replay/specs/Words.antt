@@ -13,7 +13,7 @@ use Rattle.cyc_model.specs.Questions.{plain}
 use Rattle.cyc_model.specs.State.{State, Outcome, cpu_of}
 use Rattle.cyc_model.specs.Free.{AllCanBeAdmitted}
 use Rattle.cyc_model.specs.Script.{word}
-use Rattle.cyc_replay.specs.SystemWords.{GivesIndexes}
+use Rattle.cyc_system_model.specs.SystemWords.{GivesIndexes}
 use Rattle.cyc_replay.specs.declared.machine.Machine.{Machine}
 use Rattle.cyc_replay.specs.Machine.{ShowsMachine}
 

@@ -14,14 +14,14 @@ ghost use Rattle.cyc_model.specs.Advance.{advance};
 ghost use Rattle.cyc_replay.specs.Machine.{ShowsMachine, IsReached};
 ghost use Rattle.cyc_text.specs.Status.{IsMemory};
 ghost use Rattle.cyc_replay.specs.Words.{Comes, TakesWord};
-ghost use Rattle.cyc_replay.specs.SystemAdvancing.{fired_and_lost};
+ghost use Rattle.cyc_system_model.specs.SystemAdvancing.{fired_and_lost};
 ghost use Rattle.cyc_replay.specs.Advancing.{IsAdvancing};
 
 use crate::lines::write_answer;
 use crate::machine::Machine;
-use crate::system_laws::{advance_law, kept_law};
 use cyc_core::LevelCore;
 use cyc_system::System;
+use cyc_system_model::{advance_law, kept_law};
 use cyc_text::{RunFault, write_fired};
 use cyc_types::{CPUS, Moment, Refusal, Tally};
 

@@ -9,15 +9,15 @@ ghost use Rattle.cyc_types.specs.Limits.{most_cpus};
 ghost use Rattle.cyc_script.specs.Limits.{most_steps};
 ghost use Rattle.cyc_model.specs.Script.{start};
 ghost use Rattle.cyc_words.specs.declared.named.Named.TheVariants.{Nothing};
-ghost use Rattle.cyc_replay.specs.Kept.{LevelsAreNew};
+ghost use Rattle.cyc_system_model.specs.Kept.{LevelsAreNew};
 ghost use Rattle.cyc_replay.specs.Machine.{ShowsMachine};
 ghost use Rattle.cyc_replay.specs.Beginning.{IsEmptyCpu, HasReserved};
 
 use crate::machine::Machine;
-use crate::system_laws::begin_law;
 use cyc_core::LevelCore;
 use cyc_cpu::Hard;
 use cyc_system::System;
+use cyc_system_model::begin_law;
 use cyc_types::{CYCLICS, Ceiling, CyclicId, Moment, Refusal, Tally};
 use cyc_words::Names;
 use std::alloc::Global;

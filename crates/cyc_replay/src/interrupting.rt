@@ -11,7 +11,7 @@ ghost use Rattle.cyc_script.specs.declared.step.Step.TheVariants as steps;
 ghost use Rattle.cyc_system.specs.System.{removal_on};
 ghost use Rattle.cyc_model.specs.State.{State};
 ghost use Rattle.cyc_model.specs.Softint.{interrupt, leaving_ids, softint_refusal, text_of_id};
-ghost use Rattle.cyc_replay.specs.Removal.{answer_line};
+ghost use Rattle.cyc_system_model.specs.Removal.{polled_line};
 ghost use Rattle.cyc_text.specs.Status.{IsMemory};
 ghost use Rattle.cyc_replay.specs.Machine.{ShowsMachine, IsReached, id_at, name_at};
 ghost use Rattle.cyc_replay.specs.Words.{TakesWord};
@@ -22,12 +22,12 @@ ghost use Rattle.cyc_replay.specs.Interrupting.{HasInterrupted, IsPolling};
 
 use crate::lines::{name_text, write_answer};
 use crate::machine::{Machine, id_in, name_of};
-use crate::system_laws::{kept_law, poll_law, softint_law};
-use cyc_agreement::others_law;
 use cyc_core::LevelCore;
+use cyc_removal::others_law;
 use cyc_script::Softint;
 use cyc_soft::Ran;
 use cyc_system::{SoftFault, System};
+use cyc_system_model::{kept_law, poll_law, softint_law};
 use cyc_text::{RunFault, write_ran};
 use cyc_types::{CPUS, CyclicId, Receipt, Refusal, Soft, Tally};
 use cyc_words::{Names, poll};
@@ -153,7 +153,7 @@ fn poll_removal(machine: &mut Machine, id: CyclicId) -> Option<Receipt>
     requires open { (n : ℕ) × (removal_on n machine.old.system.cpus ≡ Some id) }
     ensures polls { (texts : List (List ℕ)) (step : ℕ) (ids lines : List ℕ) (i : SoftintStep) (s : State)
         → IsPolling texts step ids lines i s machine.old
-        → IsPolling texts step (ids ++ id ∷ []) (lines ++ answer_line step (text_of_id id texts s.names) result) i s machine.new }
+        → IsPolling texts step (ids ++ id ∷ []) (lines ++ polled_line step (text_of_id id texts s.names) result) i s machine.new }
     ensures others { (n k : ℕ) → k ≢ id → (removal_on n machine.new.system.cpus ≡ Some k) ↔
         (removal_on n machine.old.system.cpus ≡ Some k) }
 {

@@ -11,12 +11,12 @@ ghost use Rattle.cyc_model.specs.Places.{id_of};
 ghost use Rattle.cyc_model.specs.Report.{counts_of, reports};
 ghost use Rattle.cyc_model.specs.Script.{names_of};
 ghost use Rattle.cyc_words.specs.declared.named.Named.TheVariants.{Removed};
-ghost use Rattle.cyc_replay.specs.Removal.{told_by_receipt};
+ghost use Rattle.cyc_system_model.specs.Removal.{told_by_receipt};
 ghost use Rattle.cyc_replay.specs.Machine.{ShowsMachine, IsReached};
 
 use crate::machine::{Machine, id_in};
-use crate::system_laws::{kept_law, report_law};
 use cyc_script::Script;
+use cyc_system_model::{kept_law, report_law};
 use cyc_text::{Counts, RunFault, Sink, write_report};
 use cyc_types::{CyclicId, Tally};
 use cyc_words::Named;

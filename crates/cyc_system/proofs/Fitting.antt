@@ -35,10 +35,10 @@ use Rattle.cyc_agreement.proofs.Spots.{same_some, none_some}
 use Rattle.cyc_agreement.proofs.Lists.{false_true}
 use Rattle.cyc_agreement.proofs.Entering.{none_here}
 use Rattle.cyc_agreement.proofs.Destinations.{destination_fits}
-use Rattle.cyc_agreement.specs.declared.turning.Turn.{Turn}
-use Rattle.cyc_agreement.specs.declared.turning.Turn.TheVariants.{StaysBound, StaysPending, StaysRefused, Moves}
-use Rattle.cyc_agreement.specs.Juggling.{TakesTurn}
-use Rattle.cyc_agreement.specs.GoingOffline.{quiet, Retires}
+use Rattle.cyc_juggle.specs.declared.turning.Turn.{Turn}
+use Rattle.cyc_juggle.specs.declared.turning.Turn.TheVariants.{StaysBound, StaysPending, StaysRefused, Moves}
+use Rattle.cyc_juggle.specs.Juggling.{TakesTurn}
+use Rattle.cyc_juggle.specs.GoingOffline.{quiet, Retires}
 use Rattle.cyc_system.proofs.Turned.{StillHolds, was}
 
 -- ---- the counts of a cyclic on its CPU

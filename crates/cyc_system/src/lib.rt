@@ -15,7 +15,7 @@ mod suspending;
 mod system;
 
 pub use asking::CpuOrOmni;
-pub use cyc_agreement::{SystemRemoval, SystemTotals, others_law};
+pub use cyc_removal::{SystemRemoval, SystemTotals, others_law};
 pub use cyc_timers::{FireRefused, Fired};
 pub use laws::{away_law, ids_law};
 pub use splitting::Desk;

@@ -1,7 +1,8 @@
-//! The calls that go over several CPUs or over all cyclics of one: what each of them does stands in `cyc_agreement`.
+//! The calls that go over several CPUs or over all cyclics of one: what each of them does stands in `cyc_agreement`, `cyc_removal`
+//! and `cyc_juggle`.
 
 use crate::system::System;
-use cyc_agreement::SystemRemoval;
+use cyc_removal::SystemRemoval;
 use cyc_types::{CyclicId, JuggleReport, Level, Moment, Raise, Receipt, Refusal, When};
 
 impl<R: Raise> System<R> {
@@ -59,7 +60,7 @@ impl<R: Raise> System<R> {
     {
         self.cpus.law();
         self.records.law();
-        let answer = cyc_agreement::juggle(&mut self.cpus, &mut self.records, cpu);
+        let answer = cyc_juggle::juggle(&mut self.cpus, &mut self.records, cpu);
         self.cpus.law();
         self.records.law();
         answer
@@ -76,7 +77,7 @@ impl<R: Raise> System<R> {
     {
         self.cpus.law();
         self.records.law();
-        let answer = cyc_agreement::offline(&mut self.cpus, &mut self.records, cpu);
+        let answer = cyc_juggle::offline(&mut self.cpus, &mut self.records, cpu);
         self.cpus.law();
         self.records.law();
         answer
@@ -91,7 +92,7 @@ impl<R: Raise> System<R> {
     pub fn begin_remove(&mut self, id: CyclicId) -> Result<SystemRemoval, Refusal>
         ensures { Changes R.Raise self.old (BeginRemove id result) self.new }
     {
-        cyc_agreement::begin_remove(&mut self.cpus, &mut self.records, id)
+        cyc_removal::begin_remove(&mut self.cpus, &mut self.records, id)
     }
 
     /// Asks every CPU on which the removal of the cyclic is open whether its calls are made (the end of `cyclic_remove`). The
@@ -101,6 +102,6 @@ impl<R: Raise> System<R> {
     pub fn poll_remove(&mut self, id: CyclicId) -> Result<Option<Receipt>, Refusal>
         ensures { Changes R.Raise self.old (PollRemove id result) self.new }
     {
-        cyc_agreement::poll_remove(&mut self.cpus, &mut self.records, id)
+        cyc_removal::poll_remove(&mut self.cpus, &mut self.records, id)
     }
 }

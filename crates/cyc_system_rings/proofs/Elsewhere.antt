@@ -37,10 +37,10 @@ use Rattle.cyc_system_laws.specs.SystemRemoval.TheVariants as over
 use Rattle.cyc_system_workers.specs.Adding.{OnlyWorks, entering}
 use Rattle.cyc_system_laws.specs.Removing.{Begun, BeginsOn, BeginsRemoval}
 use Rattle.cyc_system_laws.specs.Polling.{Polled, PollsOn, PollsRemoval}
-use Rattle.cyc_agreement.specs.declared.turning.Turn.{Turn}
-use Rattle.cyc_agreement.specs.declared.turning.Turn.TheVariants.{StaysBound, StaysPending, StaysRefused, Moves}
-use Rattle.cyc_agreement.specs.Juggling.{TakesTurn, Turns, single_ids}
-use Rattle.cyc_agreement.specs.GoingOffline.{quiet, Retires, EndsOffline}
+use Rattle.cyc_juggle.specs.declared.turning.Turn.{Turn}
+use Rattle.cyc_juggle.specs.declared.turning.Turn.TheVariants.{StaysBound, StaysPending, StaysRefused, Moves}
+use Rattle.cyc_juggle.specs.Juggling.{TakesTurn, Turns, single_ids}
+use Rattle.cyc_juggle.specs.GoingOffline.{quiet, Retires, EndsOffline}
 use Rattle.cyc_agreement.specs.Omni.{entering_each}
 use Rattle.cyc_agreement.specs.Online.{GoesOnline, staying, is_staying, returns, return_at}
 use Rattle.cyc_system_laws.specs.SystemCalls.{SystemCall, Changes, Add, AddOmni, Bind, BeginRemove, PollRemove}

@@ -1,5 +1,5 @@
 use Rattle.std.proofs.Common.{◌≡◌, ◌∙◌, length, subst, arith}
-use Rattle.cyc_replay.specs.SystemAdvancing.{fired_and_lost}
+use Rattle.cyc_system_model.specs.SystemAdvancing.{fired_and_lost}
 use Rattle.cyc_replay.specs.Advancing.{IsAdvancing}
 use Rattle.cyc_replay.proofs.advancing.fire_all.Goals as goal
 

@@ -3,7 +3,7 @@ use Rattle.cyc_types.specs.Tally.{TallyView}
 use Rattle.cyc_core.specs.Tables.{Tables}
 use Rattle.cyc_system.specs.System.{RunningSystem}
 use Rattle.cyc_model.specs.State.{State}
-use Rattle.cyc_replay.specs.SystemAdvancing.{fired_and_lost}
+use Rattle.cyc_system_model.specs.SystemAdvancing.{fired_and_lost}
 use Rattle.cyc_replay.specs.Advancing.{IsAdvancing}
 use Rattle.cyc_replay.proofs.advancing.fire_all.Given as goal
 

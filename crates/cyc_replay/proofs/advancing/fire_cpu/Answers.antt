@@ -3,7 +3,7 @@ use Rattle.std.specs.Prelude.{Ok}
 use Rattle.cyc_types.specs.Tally.{tally_count}
 use Rattle.cyc_system.specs.System.{running_system}
 use Rattle.cyc_system.specs.Calls.{FireOne}
-use Rattle.cyc_replay.specs.SystemAdvancing.{at_clock, fired_and_lost, HasFired}
+use Rattle.cyc_system_model.specs.SystemAdvancing.{at_clock, fired_and_lost, HasFired}
 use Rattle.cyc_replay.proofs.Remembering.{remembers_on}
 use Rattle.cyc_replay.proofs.Fired.{most_fired, wide_fired, passed, never_fire, low_here, passed_on}
 use Rattle.cyc_replay.proofs.advancing.fire_cpu.Goals as goal

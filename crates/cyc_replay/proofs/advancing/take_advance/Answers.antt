@@ -4,7 +4,7 @@ use Rattle.cyc_types.specs.declared.refusal.Refusal.TheVariants.{Suspended}
 use Rattle.cyc_script.specs.declared.step.Step.TheVariants.{Advance}
 use Rattle.cyc_system.specs.System.{running_system}
 use Rattle.cyc_agreement.specs.Suspending.{is_suspended}
-use Rattle.cyc_replay.specs.SystemAdvancing.{at_clock}
+use Rattle.cyc_system_model.specs.SystemAdvancing.{at_clock}
 use Rattle.cyc_replay.specs.Machine.{ShowsMachine}
 use Rattle.cyc_replay.specs.Words.{TakesWord}
 use Rattle.cyc_replay.proofs.Fired.{many_here}

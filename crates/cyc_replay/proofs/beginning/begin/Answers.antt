@@ -6,8 +6,8 @@ use Rattle.cyc_agreement.specs.Suspending.{is_suspended}
 use Rattle.cyc_system.specs.System.{SystemView}
 use Rattle.cyc_core.specs.Tables.{Tables}
 use Rattle.cyc_model.specs.Script.{start}
-use Rattle.cyc_replay.specs.Shown.{ShowsSystem, IsSystem}
-use Rattle.cyc_replay.specs.Kept.{new_system}
+use Rattle.cyc_system_model.specs.Shown.{ShowsSystem, IsSystem}
+use Rattle.cyc_system_model.specs.Kept.{new_system}
 use Rattle.cyc_replay.specs.Beginning.{IsEmptyCpu}
 use Rattle.cyc_replay.specs.Machine.{AllMost}
 use Rattle.cyc_replay.proofs.Mosts.{most_new}

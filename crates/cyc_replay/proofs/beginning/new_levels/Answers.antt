@@ -1,7 +1,7 @@
 use Rattle.std.proofs.Common.{[], ◌∷◌, length, ap, sym, subst, ◌∙◌, arith}
 use Rattle.std.proofs.lemmas.List.{length-append}
 use Rattle.cyc_core.specs.Tables.{Tables}
-use Rattle.cyc_replay.specs.Kept.{LevelsAreNew}
+use Rattle.cyc_system_model.specs.Kept.{LevelsAreNew}
 use Rattle.cyc_replay.proofs.Start.{one_more_new}
 use Rattle.cyc_replay.proofs.beginning.new_levels.Goals as goal
 

@@ -1,5 +1,5 @@
 use Rattle.std.proofs.Common.{◌≡◌, length}
-use Rattle.cyc_replay.specs.Kept.{LevelsAreNew}
+use Rattle.cyc_system_model.specs.Kept.{LevelsAreNew}
 use Rattle.cyc_replay.proofs.beginning.new_levels.Given as goal
 
 abbrev pub invariant-loop : goal.invariant-loop

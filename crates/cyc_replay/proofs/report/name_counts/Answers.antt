@@ -1,10 +1,10 @@
 use Rattle.std.proofs.Common.{Some, None, refl, ap, sym, ◌∙◌, subst, length}
 use Rattle.cyc_system.specs.System.{running_system}
 use Rattle.cyc_system.specs.Calls.{AskTotals}
-use Rattle.cyc_replay.specs.Shown.{ShowsSystem}
+use Rattle.cyc_system_model.specs.Shown.{ShowsSystem}
 use Rattle.cyc_model.specs.Report.{counts_of}
 use Rattle.cyc_replay.specs.Machine.{id_of_named}
-use Rattle.cyc_replay.specs.Removal.{told_by_receipt}
+use Rattle.cyc_system_model.specs.Removal.{told_by_receipt}
 use Rattle.cyc_replay.proofs.Doing.{keeps, refuses}
 use Rattle.cyc_replay.proofs.Named.{same_id}
 use Rattle.cyc_replay.proofs.Remembering.{nobody_counts}

@@ -1,0 +1,13 @@
+pub mod Replaced
+pub mod OtherOnline
+pub mod MayGo
+pub mod Here
+pub mod Places
+pub mod Stepping
+pub mod ListsUpTo
+pub mod Stepped
+pub mod Walked
+pub mod AskingEach
+pub mod Retired
+pub mod Emptied
+pub mod Within

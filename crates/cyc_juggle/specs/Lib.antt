@@ -1,0 +1,3 @@
+pub mod Juggling
+pub mod GoingOffline
+pub mod Walking

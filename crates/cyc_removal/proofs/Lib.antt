@@ -1,0 +1,17 @@
+pub mod One
+pub mod Withdrawing
+pub mod Walking
+pub mod Opening
+pub mod Removed
+pub mod Agreeing
+pub mod Where
+pub mod Telling
+pub mod Alone
+pub mod Asking
+pub mod Folds
+pub mod Others
+pub mod Forgetting
+pub mod Sums
+pub mod EndsAlone
+pub mod Receipts
+pub mod Answering

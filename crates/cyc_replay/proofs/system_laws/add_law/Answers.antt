@@ -1,8 +1,0 @@
-use Rattle.cyc_replay.proofs.SystemAdding.{add_accepted, add_refused}
-use Rattle.cyc_replay.proofs.system_laws.add_law.Goals as goal
-
-pub returns-clause-accepted : goal.returns-clause-accepted
-returns-clause-accepted c = λ a series id s v w sys h is did. add_accepted a series s v w sys h is id did
-
-pub returns-clause-refused : goal.returns-clause-refused
-returns-clause-refused c = λ a series e s v w sys h is did. add_refused a series s v w sys h is e did
