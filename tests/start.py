@@ -201,7 +201,8 @@ def tries(start):
         start.builds(f"after {number.name}", "run")
     start.write("crates/wide/src/lib.rt", "w")
     start.write("crates.txt", "low: thiserror\nhigh: low\nwide: low\ncyclic_replay: low\ncyclic: high wide low\n")
-    start.side_by_side("side by side", [*RUN, "wide: lib, in a copy", "wide: lib"])
+    with_two = ["low: lib", "high: lib --jobs 2", "cyclic: run -- replay"]
+    start.side_by_side("side by side", [*with_two, "wide: lib --jobs 2, in a copy", "wide: lib"])
     said, calls = "the kit's line\n", ["cyclic: try -- replay x"]
     start.run("a look", ["replay", "x"], 3, "look -- replay x\nscript", said, calls, script="look")
     start.write("crates/low/src/lib.rt", "no kit")
