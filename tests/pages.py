@@ -1,7 +1,7 @@
 #!/usr/bin/env python3
 """Runs the examples of the pages, and looks up the names, the code and the contracts that they quote.
 
-    tests/pages.py [PAGE ..]     those of the named pages, or of all of docs/ and the README
+    tests/pages.py [PAGE ..]     those of the named pages, or of all of docs/ and the README; the program is built already
 
 An example is a block that begins with ```console. A line '$ COMMAND' is run by bash at the top of the repository, with the lines
 '> ..' that go on with it; the lines after it are all that it must write, on standard output and standard error.
@@ -155,6 +155,8 @@ def differing(text):
 
 def main():
     os.chdir(TOP)
+    if subprocess.run(["tools/is-built", "cyclic"], check=False).returncode:
+        sys.exit("pages: the program isn't built, which the examples run")
     pages = sys.argv[1:] or ["README.md", *sorted(glob.glob("*.md") + glob.glob("docs/*.md"))]
     tried, faults = 0, []
     for page in dict.fromkeys(pages):
