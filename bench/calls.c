@@ -68,22 +68,22 @@ static void remove_now(uint64_t id)
     check(cyclic_begin_remove(&cpu, id, &kept, &receipt, &busy));
 }
 
-static uint64_t id_at(uint64_t place)
+static uint64_t id_at(uint64_t position)
 {
-    return 1 + place * gap;
+    return 1 + position * gap;
 }
 
 /* COUNT ids are there, on a CPU that had PEAK. */
 static void fill(uint64_t count, uint64_t peak)
 {
     uint64_t top = peak > count ? peak : count;
-    for (uint64_t place = 0; place < top; place++)
-        add(id_at(place), START);
-    for (uint64_t place = top; place > count; place--)
-        remove_now(id_at(place - 1));
+    for (uint64_t position = 0; position < top; position++)
+        add(id_at(position), START);
+    for (uint64_t position = top; position > count; position--)
+        remove_now(id_at(position - 1));
 }
 
-static uint64_t place_of(char pattern, long call, uint64_t count)
+static uint64_t position_of(char pattern, long call, uint64_t count)
 {
     switch (pattern) {
     case 's': return count / 2;
@@ -97,9 +97,9 @@ static long again(uint64_t count, char pattern)
 {
     static int64_t moment = START;
     for (long call = 0; call < CALLS; call++) {
-        uint64_t place = place_of(pattern, call, count);
+        uint64_t position = position_of(pattern, call, count);
         moment += any() & 1023;
-        check(cyclic_reprogram(&cpu, id_at(place), moment));
+        check(cyclic_reprogram(&cpu, id_at(position), moment));
     }
     return CALLS;
 }
@@ -123,10 +123,10 @@ static long churn(uint64_t count, char pattern, int between)
 {
     static uint64_t next = 1000000, ids[MOST];
     if (ids[0] == 0)
-        for (uint64_t place = 0; place < count; place++)
-            ids[place] = id_at(place);
+        for (uint64_t position = 0; position < count; position++)
+            ids[position] = id_at(position);
     for (long call = 0; call < CALLS; call += 2) {
-        uint64_t *id = &ids[place_of(pattern, call / 2, count)];
+        uint64_t *id = &ids[position_of(pattern, call / 2, count)];
         remove_now(*id);
         *id = between ? *id + 1 : next++;
         add(*id, START + (any() & 0xffff));

@@ -51,7 +51,7 @@ impl Level {
     }
 
     fn admit(&mut self, id: CyclicId, index: u16) {
-        let place = self.table.partition_point(|entry| entry.id < id);
+        let position = self.table.partition_point(|entry| entry.id < id);
         let entry = Admitted {
             id,
             index,
@@ -60,15 +60,15 @@ impl Level {
             lost: 0,
             count: 0,
         };
-        self.table.insert(place, entry);
+        self.table.insert(position, entry);
     }
 
     fn entry(&mut self, id: CyclicId) -> &mut Admitted {
-        let place = self
+        let position = self
             .table
             .binary_search_by_key(&id, |entry| entry.id)
             .expect("an admitted id");
-        &mut self.table[place]
+        &mut self.table[position]
     }
 
     fn raise(&mut self, id: CyclicId) {

@@ -77,13 +77,13 @@ impl Fires<'_> {
                 }
                 let mut index = wheel.take(&slot);
                 while index != NONE {
-                    let place = index as usize;
-                    let next = wheel.next[place];
+                    let position = index as usize;
+                    let next = wheel.next[position];
                     if slot.level == 0 {
-                        handler(place as u64 + 1);
-                        moments[place] += self.intervals[place];
+                        handler(position as u64 + 1);
+                        moments[position] += self.intervals[position];
                     }
-                    wheel.insert(index, moments[place]);
+                    wheel.insert(index, moments[position]);
                     index = next;
                 }
             }

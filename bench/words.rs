@@ -53,9 +53,9 @@ struct Finder {
 
 impl Finder {
     fn insert(&mut self, id: u64, index: usize) {
-        let place = self.ids.partition_point(|other| *other < id);
-        self.ids.insert(place, id);
-        self.indexes.insert(place, index);
+        let position = self.ids.partition_point(|other| *other < id);
+        self.ids.insert(position, id);
+        self.indexes.insert(position, index);
         self.hints[id as usize % HINTS] = (id, index);
     }
 
@@ -67,7 +67,7 @@ impl Finder {
         self.ids
             .binary_search(&id)
             .ok()
-            .map(|place| self.indexes[place])
+            .map(|position| self.indexes[position])
     }
 }
 
@@ -119,8 +119,8 @@ impl<'a, const APART: usize, const SPREAD: usize> RaiseEnd<'a, APART, SPREAD> {
         if pend.fetch_add(1, SeqCst) != 0 {
             return;
         }
-        let place = CYCLICS + self.mask + spread::<SPREAD>(self.mask + 1, self.next as usize);
-        self.ring.word(place).store(id * CYCLICS as u64 + index as u64, SeqCst);
+        let slot = CYCLICS + self.mask + spread::<SPREAD>(self.mask + 1, self.next as usize);
+        self.ring.word(slot).store(id * CYCLICS as u64 + index as u64, SeqCst);
         self.next = self.next.wrapping_add(1);
         self.ring
             .word(PRODUCERS + self.bank)
@@ -175,8 +175,8 @@ impl<'a, const APART: usize, const SPREAD: usize> DrainEnd<'a, APART, SPREAD> {
             let bank = self.ring.word(HARD).load(SeqCst) as usize;
             let end = self.ring.word(PRODUCERS + self.bank).load(SeqCst);
             if end != u64::from(self.next) {
-                let place = CYCLICS + self.mask + spread::<SPREAD>(self.mask + 1, self.next as usize);
-                self.hand = self.ring.word(place).load(SeqCst);
+                let slot = CYCLICS + self.mask + spread::<SPREAD>(self.mask + 1, self.next as usize);
+                self.hand = self.ring.word(slot).load(SeqCst);
                 self.next = self.next.wrapping_add(1);
                 return true;
             }

@@ -15,7 +15,7 @@
  *     docs/embedding.md). No function here is called from a signal handler, or in the forked child of a process with threads.
  *
  * Moments and intervals are nanoseconds, from 0 to CYCLIC_NEVER, on any clock that never goes back. An id is a number that the
- * caller gives to a cyclic, from 1 to CYCLIC_LAST_ID: as a place in its own table of handlers. It is the caller's to give
+ * caller gives to a cyclic, from 1 to CYCLIC_LAST_ID: as a position in its own table of handlers. It is the caller's to give
  * no id twice.
  *
  * No function here calls a handler, waits or takes a lock; those that take memory say so. Every one but cyclic_version answers 0 where

@@ -201,7 +201,7 @@ def components(each):
     made = Script(3)
     omni = [(f"o{n}", LEVELS[n % 3], 20 * (n % 2), 9 + n % 13, 4 * (n % 2)) for n in range(each)]
 
-    def place(cpu, since):
+    def put_all_on(cpu, since):
         for name, level, start, interval, skew in omni:
             made.put(Cyclic(name, cpu, level, start + cpu * skew, interval, since))
 
@@ -209,7 +209,7 @@ def components(each):
         made.step("ok", "omni", *it)
         all_follow(made, each, n + 1)
     for cpu in range(CPUS):
-        place(cpu, 0)
+        put_all_on(cpu, 0)
     made.step("refused 5" if each == MOST else "refused 6", "omni", "more", "low", 1, 1, 0)
     made.advance(120)
     for cpu in range(CPUS):
@@ -221,7 +221,7 @@ def components(each):
         made.advance(11 + cpu)
         made.serve_all()
         made.step("ok", "online", cpu)
-        place(cpu, made.now)
+        put_all_on(cpu, made.now)
         made.advance(35)
     made.serve_all()
     for name, *_ in omni[:5]:

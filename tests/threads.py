@@ -59,10 +59,10 @@ class Cyclic:
         self.since = [0] * len(moments)
 
     def advance(self, now):
-        for place, moment in enumerate(self.moments):
-            count, self.moments[place] = fired(moment, self.interval, now)
+        for position, moment in enumerate(self.moments):
+            count, self.moments[position] = fired(moment, self.interval, now)
             self.expired += count
-            self.since[place] += count
+            self.since[position] += count
 
     def settle(self, ceiling):
         """Nothing is pending now. What stood at the ceiling may have been lost before."""

@@ -35,12 +35,12 @@ impl Handful {
         u32::try_from(self.ids.len()).unwrap_or(u32::MAX)
     }
 
-    /// Any cyclic, and its place in the list of ids.
+    /// Any cyclic, and its position in the list of ids.
     fn any(&mut self) -> Option<(usize, CyclicId)> {
         let len = self.len();
-        let place = self.machine.random.below(len) as usize;
-        let id = self.ids.get(place).copied()?;
-        Some((place, id))
+        let position = self.machine.random.below(len) as usize;
+        let id = self.ids.get(position).copied()?;
+        Some((position, id))
     }
 
     /// Whether the CPU has room for one more of few.
@@ -85,7 +85,7 @@ impl Handful {
 
     /// A cyclic goes, where it isn't the only one of its CPU.
     fn go(&mut self) {
-        let Some((place, id)) = self.any() else {
+        let Some((position, id)) = self.any() else {
             return;
         };
         if !self.has_neighbour(id) {
@@ -95,7 +95,7 @@ impl Handful {
         let Some(last) = self.ids.pop() else {
             return;
         };
-        if let Some(there) = self.ids.get_mut(place) {
+        if let Some(there) = self.ids.get_mut(position) {
             *there = last;
         }
     }
@@ -170,8 +170,8 @@ pub(crate) fn few(alloc: Global, size: u32, seed: u32) -> Result<u64, Refusal> {
         }
         handful.round()?;
     }
-    for place in 0..handful.ids.len() {
-        if let Some(id) = handful.ids.get(place).copied() {
+    for position in 0..handful.ids.len() {
+        if let Some(id) = handful.ids.get(position).copied() {
             handful.machine.count(id);
         }
     }

@@ -39,14 +39,14 @@ impl Fleet {
         self.machine.add(level, interval)
     }
 
-    /// One of the places of the list of ids.
-    fn place(&mut self) -> usize {
+    /// Any position in the list of ids.
+    fn position(&mut self) -> usize {
         self.machine.random.below(CYCLICS) as usize
     }
 
-    /// The id at the place.
-    fn id(&self, place: usize) -> Result<CyclicId, Refusal> {
-        id_of(self.ids.get(place).copied().unwrap_or(1))
+    /// The id at the position.
+    fn id(&self, position: usize) -> Result<CyclicId, Refusal> {
+        id_of(self.ids.get(position).copied().unwrap_or(1))
     }
 
     /// A cyclic gets another next expiration.
@@ -70,11 +70,11 @@ impl Fleet {
     }
 
     /// A cyclic is removed, and another one is added in its place.
-    fn replace(&mut self, place: usize) -> Result<(), Refusal> {
-        let id = self.id(place)?;
+    fn replace(&mut self, position: usize) -> Result<(), Refusal> {
+        let id = self.id(position)?;
         self.machine.remove(id);
         let number = self.add()?;
-        if let Some(there) = self.ids.get_mut(place) {
+        if let Some(there) = self.ids.get_mut(position) {
             *there = number;
         }
         Ok(())
@@ -82,14 +82,14 @@ impl Fleet {
 
     /// Any call on any cyclic.
     fn call(&mut self) -> Result<(), Refusal> {
-        let place = self.place();
-        let id = self.id(place)?;
+        let position = self.position();
+        let id = self.id(position)?;
         match self.machine.random.below(16) {
             0..8 => self.reprogram(id)?,
             8..11 => self.bind(id, true),
             11..13 => self.bind(id, false),
             13..15 => self.machine.count(id),
-            _ => self.replace(place)?,
+            _ => self.replace(position)?,
         }
         Ok(())
     }
@@ -141,8 +141,8 @@ pub(crate) fn moves(alloc: Global, size: u32, seed: u32) -> Result<u64, Refusal>
     for _ in 0..size {
         fleet.round()?;
     }
-    for place in 0..fleet.ids.len() {
-        let id = fleet.id(place)?;
+    for position in 0..fleet.ids.len() {
+        let id = fleet.id(position)?;
         fleet.machine.count(id);
     }
     Ok(fleet.machine.digest.number())

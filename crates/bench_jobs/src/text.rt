@@ -85,16 +85,16 @@ fn push_number(whole: &mut String, number: u64) -> Result<(), AllocError> {
     let mut digits = ['0'; 20];
     let mut first = 20;
     let mut rest = number;
-    for place in (0..20_usize).rev() {
-        digits[place] = digit(rest);
-        first = place;
+    for position in (0..20_usize).rev() {
+        digits[position] = digit(rest);
+        first = position;
         rest /= 10;
         if rest == 0 {
             break;
         }
     }
-    for place in first..20 {
-        whole.push(digits[place])?;
+    for position in first..20 {
+        whole.push(digits[position])?;
     }
     Ok(())
 }

@@ -10,13 +10,13 @@ use cyc_types::{CyclicId, Drain, Finished, GREATEST_BANK, Index, Raise};
 use std::hint;
 
 /// Admits the next id at its index.
-fn admit_next<R: Raise>(raise: &mut R, index: u16)
-    requires index { index < cyclics }
-    requires filled { IsFilledLevel index (R.view raise.old) }
-    ensures { IsFilledLevel (index + 1) (R.view raise.new) }
+fn admit_next<R: Raise>(raise: &mut R, number: u16)
+    requires number { number < cyclics }
+    requires filled { IsFilledLevel number (R.view raise.old) }
+    ensures { IsFilledLevel (number + 1) (R.view raise.new) }
 {
-    if let (Some(id), Some(place)) = (CyclicId::new(u64::from(index) + 1), Index::new(index)) {
-        raise.admit(id, place);
+    if let (Some(id), Some(index)) = (CyclicId::new(u64::from(number) + 1), Index::new(number)) {
+        raise.admit(id, index);
     }
 }
 

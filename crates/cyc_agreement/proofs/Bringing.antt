@@ -51,7 +51,7 @@ counts_at (x ∷ xs) (suc n) h = counts_at xs n (λ k d low. h (suc k) d (omega 
 
 module _ {R : Type 0} (firing : Raise R) (n now : ℕ) (v : CpusView R)
     (rs : List Record) where
-  -- those below place k have come back
+  -- those below position k have come back
   pub record Bringing (k : ℕ) (w : CpusView R) (qs : List Record) : Type 0 where
     pub list : qs ≡ changed_to (after_return n v) k rs
     pub works : Works firing (returns n now (filter (is_staying v) (take k rs))) v w

@@ -1,4 +1,4 @@
--- A system still agrees with its records after a call that changed no cyclic's place, and after one that gave an id.
+-- A system still agrees with its records after a call that changed no cyclic's placement, and after one that gave an id.
 use Rattle.std.proofs.Common.{◌≡◌, ◌≢◌, ℕ, zero, suc, ◌+◌, ◌≤◌, ◌⊎◌, inl, inr, Bool, true, false, Some, List, [], ◌∷◌, ◌++◌}
 use Rattle.std.proofs.Common.{length, get_or, replicate, refl, sym, ap, ◌∙◌, subst, arith}
 use Rattle.std.specs.List.{slice_get}
@@ -25,8 +25,8 @@ pub agrees_beside : {R : Type 0} (s : SystemView R) (w : CpusView R) → Agrees 
 agrees_beside s w a b alike = record {
   known = λ n id h. (let (k, r, is, named, stands, on) = a.known n id (sym (has_beside s.cpus w b n id) ∙ h) in
       (k, r, is, named, stands, online_same s.cpus w n b.online ∙ on));
-  home = λ k n bound r is place. has_beside s.cpus w b n r.id ∙ a.home k n bound r is place;
-  everywhere = λ k n r is place on. by n r (a.everywhere k n r is place (sym (online_same s.cpus w n b.online) ∙ on));
+  home = λ k n bound r is placement. has_beside s.cpus w b n r.id ∙ a.home k n bound r is placement;
+  everywhere = λ k n r is placement on. by n r (a.everywhere k n r is placement (sym (online_same s.cpus w n b.online) ∙ on));
   ended = λ k n r is h. a.ended k n r is (sym (has_beside s.cpus w b n r.id) ∙ h);
   single = a.single;
   given = a.given;
@@ -52,15 +52,16 @@ none_ended (suc n) zero = refl
 none_ended (suc n) (suc k) = none_ended n k
 
 -- where an id was just given, and its cyclic stands where its record says
-pub record Enters {R : Type 0} (id : ℕ) (place : Placement) (w : CpusView R) : Type 0 where
-  pub stands : (n : ℕ) → has n id w ≡ true → Stands n place × (is_online n w ≡ true)
-  pub home : (n : ℕ) (bound : Bool) → place ≡ On n bound → has n id w ≡ true
-  pub everywhere : (n : ℕ) → is_everywhere place ≡ true → is_online n w ≡ true → has n id w ≡ true
+pub record Enters {R : Type 0} (id : ℕ) (placement : Placement) (w : CpusView R) : Type 0 where
+  pub stands : (n : ℕ) → has n id w ≡ true → Stands n placement × (is_online n w ≡ true)
+  pub home : (n : ℕ) (bound : Bool) → placement ≡ On n bound → has n id w ≡ true
+  pub everywhere : (n : ℕ) → is_everywhere placement ≡ true → is_online n w ≡ true → has n id w ≡ true
 
-module _ {R : Type 0} (s : SystemView R) (id : ℕ) (level : Level) (place : Placement) (w : CpusView R) (next : id ≡ s.last + 1)
-    (a : Agrees s) (b : SameBut id s.cpus w) (c : Enters id place w) where
+module _ {R : Type 0} (s : SystemView R) (id : ℕ) (level : Level) (placement : Placement) (w : CpusView R)
+    (next : id ≡ s.last + 1)
+    (a : Agrees s) (b : SameBut id s.cpus w) (c : Enters id placement w) where
   x : Record
-  x = new_record id level place
+  x = new_record id level placement
 
   old : (k : ℕ) (r : Record) → IsRecord s.records k r → r.id ≢ id
   old k r is e = let l = a.given k r is in absurd (omega (arith, l, next, e))
@@ -112,7 +113,7 @@ module _ {R : Type 0} (s : SystemView R) (id : ℕ) (level : Level) (place : Pla
   by_given k r (inl is) = let l = a.given k r is in omega (arith, l, next)
   by_given k r (inr e) = let f : r.id ≡ id = ap (λ (q : Record). q.id) e in omega (arith, f)
 
-  pub agrees_given : Agrees (record { cpus = w; records = s.records ++ new_record id level place ∷ []; last = id })
+  pub agrees_given : Agrees (record { cpus = w; records = s.records ++ new_record id level placement ∷ []; last = id })
   unfolding x
   agrees_given = record {
     known = by_known;

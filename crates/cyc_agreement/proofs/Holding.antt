@@ -81,26 +81,26 @@ holds_given s t id r h agrees but removals still records none = record {
     by k n m q (inl at) = inl (k, q, at, refl)
     by k n m q (inr e) = inr (let z = ap (λ c. c.sent) (ap (λ p. ended_on n p) e ∙ none n) in omega (arith, z))
 
--- a cyclic whose removal is not open has another place
-pub holds_moved : {R : Type 0} (s t : SystemView R) (k : ℕ) (r : Record) (place : Placement) → Holds s → Agrees t
+-- a cyclic whose removal is not open has another placement
+pub holds_moved : {R : Type 0} (s t : SystemView R) (k : ℕ) (r : Record) (placement : Placement) → Holds s → Agrees t
     → SameBut r.id s.cpus t.cpus
     → ((n : ℕ) → removal_on n t.cpus ≡ removal_on n s.cpus) → ((n : ℕ) → removal_on n s.cpus ≢ Some r.id)
-    → IsRecord s.records k r → t.records ≡ slice_set s.records k (with_placement place r) → Holds t
-holds_moved s t k r place h agrees but removals still here records = record {
+    → IsRecord s.records k r → t.records ≡ slice_set s.records k (with_placement placement r) → Holds t
+holds_moved s t k r placement h agrees but removals still here records = record {
   agrees = agrees;
   whole = whole_kept s.cpus t.cpus removals (λ m n q e has_now. sym (but.others n q (λ same. still m (e ∙ ap Some same)))
       ∙ has_now) h.whole;
   within = within_kept s t but.most (λ j n m q is e. inl (by j n q (subst (λ rs. IsRecord rs j q) records is))) h.within;
 }
   where
-    by : (j n : ℕ) (q : Record) → IsRecord (slice_set s.records k (with_placement place r)) j q
+    by : (j n : ℕ) (q : Record) → IsRecord (slice_set s.records k (with_placement placement r)) j q
         → (i : ℕ) × (p : Record) × IsRecord s.records i p × (ended_on n q ≡ ended_on n p)
     by j n q is = dite (ℕ_discrete j k)
         (λ e. (
           k,
           r,
           here,
-          ap (λ p. ended_on n p) (same_some (sym is ∙ ap (λ i. slice_get (slice_set s.records k (with_placement place r)) i) e
-              ∙ get_set_same s.records k (with_placement place r) (slice_get_within s.records k r here))),
+          ap (λ p. ended_on n p) (same_some (sym is ∙ ap (λ i. slice_get (slice_set s.records k (with_placement placement r)) i) e
+              ∙ get_set_same s.records k (with_placement placement r) (slice_get_within s.records k r here))),
         ))
-        (λ ne. (j, q, sym (get_set_other s.records k j (with_placement place r) ne) ∙ is, refl))
+        (λ ne. (j, q, sym (get_set_other s.records k j (with_placement placement r) ne) ∙ is, refl))

@@ -46,11 +46,11 @@ any_at p (x ∷ xs) zero d low passes = ap (λ b. b || list_any p xs) passes
 any_at p (x ∷ xs) (suc k) d low passes = ap (λ b. p x || b) (any_at p xs k d (omega (arith, low)) passes)
     ∙ or_right (p x) true refl
 
--- the place of one that passes
-pub any_place : {A : Type 0} (p : A → Bool) (xs : List A) → list_any p xs ≡ true → (k : ℕ) × (k < length xs)
+-- the position of one that passes
+pub any_position : {A : Type 0} (p : A → Bool) (xs : List A) → list_any p xs ≡ true → (k : ℕ) × (k < length xs)
     × ((d : A) → p (get_or xs k d) ≡ true)
-any_place p [] e = absurd (let odd : false ≡ true = e in cc)
-any_place p (x ∷ xs) e = by (p x) refl e (any_place p xs)
+any_position p [] e = absurd (let odd : false ≡ true = e in cc)
+any_position p (x ∷ xs) e = by (p x) refl e (any_position p xs)
   where
     by : (b : Bool) → p x ≡ b → (b || list_any p xs) ≡ true
         → (list_any p xs ≡ true → (k : ℕ) × (k < length xs) × ((d : _) → p (get_or xs k d) ≡ true))

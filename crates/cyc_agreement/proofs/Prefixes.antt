@@ -1,4 +1,4 @@
--- A list that a loop changes place by place, and the elements that pass a test up to a place.
+-- A list that a loop changes position by position, and the elements that pass a test up to a position.
 use Rattle.std.proofs.Common.{◌≡◌, ℕ, zero, suc, ◌+◌, ◌<◌, ◌≤◌, Bool, true, false, cond, Some, List, [], ◌∷◌, ◌++◌, length, map}
 use Rattle.std.proofs.Common.{filter, take, drop, slice_set, refl, sym, ap, ◌∙◌, add-one, arith}
 use Rattle.std.specs.Prelude.{◌||◌, ◌==◌}
@@ -12,7 +12,7 @@ use Rattle.cyc_places.specs.Places.{IsRecord, HasRisingIds}
 use Rattle.cyc_agreement.proofs.Lists.{among, eq_true, true_eq, false_true}
 use Rattle.cyc_agreement.proofs.Spots.{none_some, same_some}
 
--- the elements below a place are changed, and the others are not
+-- the elements below a position are changed, and the others are not
 pub changed_to : {A : Type 0} → (A → A) → ℕ → List A → List A
 changed_to f k xs = map f (take k xs) ++ drop k xs
 
@@ -35,7 +35,7 @@ changed_all f zero (x ∷ xs) all = absurd (omega (arith, all))
 changed_all f (suc k) [] all = refl
 changed_all f (suc k) (x ∷ xs) all = ap (λ l. f x ∷ l) (changed_all f k xs (omega (arith, all)))
 
--- what stands at the place is as it was
+-- what stands at the position is as it was
 pub changed_at : {A : Type 0} (f : A → A) (k : ℕ) (xs : List A) → slice_get (changed_to f k xs) k ≡ slice_get xs k
 unfolding changed_to
 changed_at f zero [] = refl

@@ -23,7 +23,7 @@ use Rattle.cyc_agreement.proofs.Spots.{same_some}
 use Rattle.cyc_agreement.specs.System.{SystemView, is_everywhere, is_omnipresent, ids_of, has, is_leaving_here, is_leaving}
 use Rattle.cyc_agreement.specs.System.{is_unknown, record_of, is_online}
 use Rattle.cyc_agreement.specs.Refusals.{no_cyclic, omnipresent, no_cpu, offline_cpu, IsPresent}
-use Rattle.cyc_agreement.proofs.Lists.{among, any_at, any_none, any_place, any_map, eq_true, true_eq, false_ne, false_true}
+use Rattle.cyc_agreement.proofs.Lists.{among, any_at, any_none, any_position, any_map, eq_true, true_eq, false_ne, false_true}
 use Rattle.cyc_agreement.proofs.Who.{ids_there, id_in}
 use Rattle.cyc_agreement.proofs.FirstReason.{not_when, is_when, not_le}
 
@@ -38,7 +38,7 @@ has_low v n id h = dite (ℕ_discrete (length v.cpus - n) 0)
 pub cyclic_here : {R : Type 0} (v : CpusView R) (n id : ℕ) (cpu : CpuView R) → has n id v ≡ true → IsCpu n cpu v
     → HasCyclic id cpu.cyclics
 cyclic_here v n id cpu h at =
-    let (k, low, passes) = any_place (λ (c : Cyclic). c.timer.id == id) cpu.cyclics
+    let (k, low, passes) = any_position (λ (c : Cyclic). c.timer.id == id) cpu.cyclics
     (sym (any_map id_in (λ own. own == id) cpu.cyclics) ∙ sym (ap (λ ids. among id ids) (ids_there v n cpu cpu at)) ∙ h) in
     by k low passes
   where

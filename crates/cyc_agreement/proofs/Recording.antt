@@ -1,4 +1,4 @@
--- The record of an id, by its place among the others.
+-- The record of an id, by its position among the others.
 use Rattle.std.proofs.Common.{◌≡◌, ◌==◌, ℕ, zero, suc, ◌-◌, ◌<◌, cond, Option, Some, None, List, [], ◌∷◌, find, refl, sym, ap}
 use Rattle.std.proofs.Common.{◌∙◌, arith}
 use mathlib.Core.Logic.{dite}
@@ -37,7 +37,7 @@ one_record rs i j r q rising a b same = dite (ℕ_discrete j i) (λ e. e) (λ ne
     (λ z. let less : j < i = omega (arith, z, ne) in let l = rising j i q r less b a in absurd (omega (arith, l, same)))
     (λ n. let less : i < j = omega (arith, n) in let l = rising i j r q less a b in absurd (omega (arith, l, same))))
 
--- what is read at the place of a record is that record
+-- what is read at the position of a record is that record
 pub record_read : (id k : ℕ) (q : Record) (rs : List Record) → HasRisingIds rs → ((r : Record) × IsRecord rs k r × (r.id ≡ id))
     → IsRecord rs k q → (q.id ≡ id) × (found id rs ≡ Some q)
 record_read id k q rs rising (r, is, named) at =

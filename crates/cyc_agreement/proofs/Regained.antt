@@ -33,7 +33,7 @@ use Rattle.cyc_agreement.proofs.Rejoined.{turned, at_mapped, none_offline}
 use Rattle.cyc_agreement.proofs.Components.{Came, came_none, came_then, came_more, came_placed, here_placed, one_of, cyclics_on}
 use Rattle.cyc_agreement.proofs.Components.{were_there, are_there, are_same, find_one, find_none}
 
--- one that passes has a place among those that do
+-- one that passes has a position among those that do
 passing_at : (p : Record → Bool) (k : ℕ) (r : Record) (rs : List Record) → IsRecord rs k r → p r ≡ true → (j : ℕ)
     × IsRecord (filter p rs) j r
 passing_at p k r [] is e = absurd (none_some is)
@@ -58,8 +58,8 @@ module _ {R : Type 0} (firing : Raise R) (n now : ℕ) where
   same_series : {a b : When} {i j : ℕ} → Everywhere a i ≡ Everywhere b j → (a ≡ b) × (i ≡ j)
   same_series {a} {b} {i} {j} e = (cc, cc)
 
-  regain_at : (r : Record) (place : Placement) (v w : CpusView R) → r.placement ≡ place
-      → Works firing (return_at n now r.id r.level (ended_on n r) place) v w → Regained (r ∷ []) v w
+  regain_at : (r : Record) (placement : Placement) (v w : CpusView R) → r.placement ≡ placement
+      → Works firing (return_at n now r.id r.level (ended_on n r) placement) v w → Regained (r ∷ []) v w
   regain_at r (On m bound) v w is e = record {
     came = came_more r.id [] (cyclics_on n v) (cyclics_on n w)
         (came_none (cyclics_on n v) (cyclics_on n w) (ap (λ x. cyclics_on n x) (sym e)));
@@ -133,9 +133,9 @@ module _ {R : Type 0} (firing : Raise R) (s t : SystemView R) (n now : ℕ)
 
   pub all_back : (k : ℕ) (r : Record) (when : When) (skew : ℕ) → IsRecord s.records k r → r.placement ≡ Everywhere when skew
       → is_staying s.cpus r ≡ true → OfCpu n (λ cpu. HasOne (old_component n r when skew now) cpu.cyclics) t.cpus
-  all_back k r when skew is place stays cpu at =
+  all_back k r when skew is placement stays cpu at =
       let (j, there) = passing_at (is_staying s.cpus) k r s.records is stays in
-      let (here, rising) = gained.here j r when skew there place in
+      let (here, rising) = gained.here j r when skew there placement in
       subst (λ l. HasOne (old_component n r when skew now) l) (sym (now_on n)
       ∙ ap (λ o. option_map_or (λ (c : CpuView R). c.cyclics) o []) at)
       (one_of (old_component n r when skew now) (cyclics_on n did.0.0) rising here)
@@ -182,18 +182,18 @@ module _ {R : Type 0} (firing : Raise R) (s t : SystemView R) (n now : ℕ)
           → r.placement ≡ p
           → option_map_or f (find (λ (c : Cyclic). c.timer.id == (after_return n s.cpus r).id) (cyclics_on n t.cpus)) 0 + g
           (ended_on n (after_return n s.cpus r)) ≡ g (ended_on n r)
-      at_last k r is false leaves p place = let x = turned n (is_staying s.cpus r) r in
+      at_last k r is false leaves p placement = let x = turned n (is_staying s.cpus r) r in
           ap (λ (q : Record). option_map_or f (find (λ (c : Cyclic). c.timer.id == q.id) (cyclics_on n t.cpus)) 0 + g
           (ended_on n q)) (x.left leaves)
           ∙ ap (λ l. option_map_or f (find (λ (c : Cyclic). c.timer.id == r.id) l) 0 + g (ended_on n r)) (now_on n)
           ∙ ap (λ o. option_map_or f o 0 + g (ended_on n r)) (find_none r.id (cyclics_on n did.0.0) (not_other k r is leaves))
           ∙ (let e : 0 + g (ended_on n r) ≡ g (ended_on n r) = omega arith in e)
-      at_last k r is true stays (On m bound) place = absurd (false_true (sym (ap is_everywhere place)
+      at_last k r is true stays (On m bound) placement = absurd (false_true (sym (ap is_everywhere placement)
           ∙ staying_everywhere s.cpus r stays))
-      at_last k r is true stays (Everywhere series skew) place =
+      at_last k r is true stays (Everywhere series skew) placement =
           let x = turned n (is_staying s.cpus r) r in
           let (j, there) = passing_at (is_staying s.cpus) k r s.records is stays in
-          let (here, up) = gained.here j r series skew there place in
+          let (here, up) = gained.here j r series skew there placement in
           (λ i. option_map_or f (find (λ (c : Cyclic). c.timer.id == x.id i) (now_on n i)) 0 + g (x.here stays i))
           ∙ ap (λ o. option_map_or f o 0 + g no_counts)
           (find_one r.id (old_component n r series skew now) (cyclics_on n did.0.0) refl up here)

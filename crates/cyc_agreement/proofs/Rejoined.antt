@@ -23,7 +23,7 @@ use Rattle.cyc_agreement.specs.Cpus.{CpusView, IsCpu}
 use Rattle.cyc_agreement.proofs.CpuSpots.{get_set_same, get_set_other}
 use Rattle.cyc_agreement.specs.System.{SystemView, ids_of, ids_on, has, removal_on, is_online, is_leaving_here}
 use Rattle.cyc_agreement.specs.Agreement.{Agrees, Stands, most_on, suspended_on}
-use Rattle.cyc_agreement.proofs.Lists.{among, any_place, eq_true, true_eq, false_true}
+use Rattle.cyc_agreement.proofs.Lists.{among, any_position, eq_true, true_eq, false_true}
 use Rattle.cyc_agreement.proofs.Spots.{get_some, same_some, none_some}
 use Rattle.cyc_agreement.proofs.Recording.{one_record}
 use Rattle.cyc_agreement.proofs.Presence.{not_leaving}
@@ -57,7 +57,7 @@ not_open v r m stays e = let (cpu, at, is) = removal_at r.id (slice_get v.cpus m
 pub open_on : {R : Type 0} (v : CpusView R) (id : ℕ) → list_any (is_leaving_here id) v.cpus ≡ true → (m : ℕ)
     × (removal_on m v ≡ Some id)
 open_on {R} v id e =
-    let (k, low, passes) = any_place (is_leaving_here id) v.cpus e in
+    let (k, low, passes) = any_position (is_leaving_here id) v.cpus e in
     let (cpu, at) = get_some v.cpus k low in (
       k,
       ap (λ o. option_and_then (λ (cpu : CpuView R). cpu.removal) o) at

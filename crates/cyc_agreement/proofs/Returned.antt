@@ -104,8 +104,8 @@ module _ {R : Type 0} (firing : Raise R) where
   })
 
   -- one component comes back
-  pub back_at : (n now : ℕ) (r : Record) (place : Placement) (v w : CpusView R) → is_everywhere place ≡ true
-      → Works firing (return_at n now r.id r.level (ended_on n r) place) v w → Back n (r ∷ []) v w
+  pub back_at : (n now : ℕ) (r : Record) (placement : Placement) (v w : CpusView R) → is_everywhere placement ≡ true
+      → Works firing (return_at n now r.id r.level (ended_on n r) placement) v w → Back n (r ∷ []) v w
   back_at n now r (On m bound) v w e works = absurd (false_true e)
   back_at n now r (Everywhere series skew) v w e (u, did, last) = subst (λ x. Back n (r ∷ []) v x) last
       (back_one n r (cyclic_with r.id r.level series.interval (component_first n series skew now) (ended_on n r).sent
@@ -208,11 +208,12 @@ leaving_same id (x ∷ xs) (y ∷ ys) long same =
 
 -- one component was placed
 module _ {R : Type 0} (firing : Raise R) (n now : ℕ) where
-  by_place : (q : Record) (place : Placement) (series : When) (skew : ℕ) (counts : Sent) (v : CpusView R) (x y : CpuView R)
-      → place ≡ Everywhere series skew → IsCpu n x v
+  by_placement : (q : Record) (placement : Placement) (series : When) (skew : ℕ) (counts : Sent) (v : CpusView R)
+      (x y : CpuView R)
+      → placement ≡ Everywhere series skew → IsCpu n x v
       → CpuChanges firing x (PlaceCall q.id q.level series.interval (component_first n series skew now) counts) y
-      → Works firing (return_at n now q.id q.level counts place) v (with_cpu v n y)
-  by_place q place series skew counts v x y is at did =
+      → Works firing (return_at n now q.id q.level counts placement) v (with_cpu v n y)
+  by_placement q placement series skew counts v x y is at did =
       subst (λ p. Works firing (return_at n now q.id q.level counts p) v (with_cpu v n y)) (sym is)
       (with_cpu v n y, changed n _ x y v at did, refl)
 
@@ -221,8 +222,8 @@ module _ {R : Type 0} (firing : Raise R) (n now : ℕ) where
       → moment ≡ component_first n series skew now → counts ≡ ended_on n q
       → CpuChanges firing x (PlaceCall q.id q.level series.interval moment counts) y
       → Works firing (return_at n now r.id r.level (ended_on n r) r.placement) v (with_cpu v n y)
-  one_back r q series skew moment counts v x y same place at first ended did =
+  one_back r q series skew moment counts v x y same placement at first ended did =
       subst (λ (z : Record). Works firing (return_at n now z.id z.level (ended_on n z) z.placement) v (with_cpu v n y)) (sym same)
       (subst (λ c. Works firing (return_at n now q.id q.level c q.placement) v (with_cpu v n y)) ended
-      (by_place q q.placement series skew counts v x y place at
+      (by_placement q q.placement series skew counts v x y placement at
       (subst (λ m. CpuChanges firing x (PlaceCall q.id q.level series.interval m counts) y) first did)))

@@ -5,7 +5,7 @@ use Rattle.std.specs.Prelude.{◌||◌, ◌==◌}
 use Rattle.std.proofs.lemmas.Bool.{or_right}
 use Rattle.cyc_places.specs.declared.record.Record.{Record}
 use Rattle.cyc_places.specs.Places.{HasRisingIds}
-use Rattle.cyc_agreement.proofs.Lists.{among, any_place, eq_true, true_eq, false_ne, false_true}
+use Rattle.cyc_agreement.proofs.Lists.{among, any_position, eq_true, true_eq, false_ne, false_true}
 use Rattle.cyc_agreement.proofs.Shifted.{Rise}
 use Rattle.cyc_agreement.proofs.Prefixes.{ids_in, found_in}
 
@@ -20,7 +20,7 @@ rises_of [] h = tt
 rises_of (x ∷ xs) h = (above, rises_of xs (λ i j less low. h (suc i) (suc j) (omega (arith, less)) (omega (arith, low))))
   where
     above : (q : ℕ) → among q xs ≡ true → x < q
-    above q e = let (k, low, is) = any_place (λ own. own == q) xs e in
+    above q e = let (k, low, is) = any_position (λ own. own == q) xs e in
         let same = eq_true (get_or xs k 0) q (is 0) in
         let less = h 0 (suc k) (omega arith) (omega (arith, low)) in omega (arith, less, same)
 

@@ -1,4 +1,4 @@
--- One place of a list.
+-- One position of a list.
 use Rattle.std.proofs.Common.{◌≡◌, ℕ, zero, suc, ◌<◌, ◌⊎◌, inl, inr, Option, Some, None, List, [], ◌∷◌, ◌++◌, length, refl, sym}
 use Rattle.std.proofs.Common.{ap, arith}
 use Rattle.std.specs.List.{slice_get}
@@ -27,7 +27,7 @@ get_either [] x (suc i) r e = absurd (none_some e)
 get_either (y ∷ ys) x zero r e = inl e
 get_either (y ∷ ys) x (suc i) r e = get_either ys x i r e
 
--- each place below the length has its element
+-- each position below the length has its element
 pub get_some : {A : Type 0} (xs : List A) (n : ℕ) → n < length xs → (x : A) × (slice_get xs n ≡ Some x)
 get_some [] n low = absurd (omega (arith, low))
 get_some (x ∷ xs) zero low = (x, refl)

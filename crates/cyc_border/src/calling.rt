@@ -2,7 +2,8 @@
 
 ghost use Rattle.std.specs.Prelude.{◌≡◌, Some, None, Err, IfSome, IfNone, IfOk, IfErr};
 ghost use Rattle.cyc_cpu.specs.Soft.{end_at, held_at, HasEmptyLists};
-ghost use Rattle.cyc_border.specs.Border.{IsAsked, WhyNotAsked, AddsAsked, CallsAdd, FiresPart, FiresCpu, refused_at, Takes, Finishes};
+ghost use Rattle.cyc_border.specs.Border.{IsAsked, WhyNotAsked, AddsAsked, CallsAdd, FiresPart, FiresCpu, refused_at};
+ghost use Rattle.cyc_border.specs.Border.{Takes, Finishes};
 ghost use Rattle.cyc_border.specs.Border.{add_numbers, grant, stopped_at, handed_after, call_at, with_call};
 
 use crate::cpu::Cpu;

@@ -29,7 +29,7 @@ pub struct Books {
     pub low: Closed,
 }
 
-/// A place for the books, whose memory is taken before the CPU is closed.
+/// Room for the books, whose memory is taken before the CPU is closed.
 #[derive(Drop)]
 pub struct Shelf {
     pub books: Option<Books>,

@@ -40,7 +40,8 @@ pub fn suspended_law<R: Raise>()
 /// It does nothing when it runs: its clause is the law.
 pub fn handed_out_law<R: Raise>()
     ensures { (now later id : ℕ) (stop answer : Result Fired FireRefused) (calls : List PartCall) (high high' high'' : Option ℕ)
-        (u v w x : CpuView R) → later < never → now ≤ later → HasDistinctIds (timers u.cyclics) → All IsSoundTimer (timers u.cyclics)
+        (u v w x : CpuView R) → later < never → now ≤ later → HasDistinctIds (timers u.cyclics)
+        → All IsSoundTimer (timers u.cyclics)
         → FiresPart R.Raise now stop high u (Some id) v → stopped_at stop ≡ Some id
         → All IsRest calls → FoldsTo (MakesPart R.Raise) (paused (Some id) v) calls (paused high' w)
         → FiresPart R.Raise later answer high' w high'' x → w.suspended ≡ false

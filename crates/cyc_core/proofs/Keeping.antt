@@ -200,78 +200,79 @@ one_index es id i e j h = some_same j i (sym h ∙ e)
 
 -- a cyclic that is admitted to a free position
 module _ (kept more : List Kept) (es new : List Entry) (t : AreKept kept es) (same : (i : ℕ) → there more i ≡ there kept i)
-    (id position place : ℕ) (at : place ≡ position) (k : Kept) (absent : index_of id es ≡ None)
+    (id position number : ℕ) (at : number ≡ position) (k : Kept) (absent : index_of id es ≡ None)
     (free : kept_id (there kept position) ≡ None)
     (told : (q : ℕ) → index_of q new ≡ cond (eqb q id) (Some position) (index_of q es))
-    (low : place < length more) (is : kept_id k ≡ Some id) where
-  told_place : (q : ℕ) → index_of q new ≡ cond (eqb q id) (Some place) (index_of q es)
-  told_place q = told q ∙ ap (λ n. cond (eqb q id) (Some n) (index_of q es)) (sym at)
+    (low : number < length more) (is : kept_id k ≡ Some id) where
+  told_position : (q : ℕ) → index_of q new ≡ cond (eqb q id) (Some number) (index_of q es)
+  told_position q = told q ∙ ap (λ n. cond (eqb q id) (Some n) (index_of q es)) (sym at)
 
-  none_there : (q : ℕ) → kept_id (there more place) ≡ Some q → q ≡ id
+  none_there : (q : ℕ) → kept_id (there more number) ≡ Some q → q ≡ id
   none_there q h =
-      let no : None ≡ Some q = sym free ∙ ap (λ n. kept_id (there kept n)) (sym at) ∙ sym (ap kept_id (same place)) ∙ h in
+      let no : None ≡ Some q = sym free ∙ ap (λ n. kept_id (there kept n)) (sym at) ∙ sym (ap kept_id (same number)) ∙ h in
       absurd (let wrong : ⊥ = cc in wrong)
 
-  none_named : (j : ℕ) → index_of id es ≡ Some j → j ≡ place
+  none_named : (j : ℕ) → index_of id es ≡ Some j → j ≡ number
   none_named j h = let no : None ≡ Some j = sym absent ∙ h in absurd (let wrong : ⊥ = cc in wrong)
 
-  pub finds_admitted : FindsElse (table_of kept es) (table_of (set more place k) new) id (Some (read_as id position k))
+  pub finds_admitted : FindsElse (table_of kept es) (table_of (set more number k) new) id (Some (read_as id position k))
   finds_admitted q =
-      finds_else more es new (same_kept kept more es same t) id place true k told_place none_there none_named low is q
+      finds_else more es new (same_kept kept more es same t) id number true k told_position none_there none_named low is q
       ∙ (λ z. cond (eqb q id) (Some (read_as id (at z) k)) (lookup q (same_table kept more es same z)))
 
-  pub admitted_kept : Rises finder.id_in new → AreKept (set more place k) new
+  pub admitted_kept : Rises finder.id_in new → AreKept (set more number k) new
   admitted_kept ordered =
-      still_kept more es new (same_kept kept more es same t) id place true k told_place none_there none_named low is ordered
+      still_kept more es new (same_kept kept more es same t) id number true k told_position none_there none_named low is ordered
 
 -- a cyclic that leaves its position
-module _ (kept : List Kept) (es new : List Entry) (t : AreKept kept es) (id position place : ℕ) (at : place ≡ position) (k : Kept)
+module _ (kept : List Kept) (es new : List Entry) (t : AreKept kept es) (id position number : ℕ) (at : number ≡ position)
+    (k : Kept)
     (named : index_of id es ≡ Some position)
     (told : (q : ℕ) → index_of q new ≡ cond (eqb q id) None (index_of q es)) (is : kept_id k ≡ None) where
-  named_place : index_of id es ≡ Some place
-  named_place = named ∙ ap Some (sym at)
+  named_position : index_of id es ≡ Some number
+  named_position = named ∙ ap Some (sym at)
 
-  pub left_low : place < length kept
-  left_low = kept_low kept place id ((t.named id place).1 named_place)
+  pub left_low : number < length kept
+  left_low = kept_low kept number id ((t.named id number).1 named_position)
 
-  pub finds_left : FindsElse (table_of kept es) (table_of (set kept place k) new) id None
-  finds_left = finds_else kept es new t id place false k told (one_id kept es t id place named_place)
-      (one_index es id place named_place) left_low is
+  pub finds_left : FindsElse (table_of kept es) (table_of (set kept number k) new) id None
+  finds_left = finds_else kept es new t id number false k told (one_id kept es t id number named_position)
+      (one_index es id number named_position) left_low is
 
-  pub left_kept : Rises finder.id_in new → AreKept (set kept place k) new
-  left_kept = still_kept kept es new t id place false k told (one_id kept es t id place named_place)
-      (one_index es id place named_place) left_low is
+  pub left_kept : Rises finder.id_in new → AreKept (set kept number k) new
+  left_kept = still_kept kept es new t id number false k told (one_id kept es t id number named_position)
+      (one_index es id number named_position) left_low is
 
 -- what was found is read at its position
-module _ (kept : List Kept) (es : List Entry) (t : AreKept kept es) (id position place : ℕ) (at : place ≡ position)
+module _ (kept : List Kept) (es : List Entry) (t : AreKept kept es) (id position number : ℕ) (at : number ≡ position)
     (found : Some position ≡ option_map (λ (e : Admitted). e.position) (lookup id (table_of kept es))) where
   found_named : index_of id es ≡ Some position
   found_named = index_found kept es id ∙ sym found
 
-  pub found_low : place < length kept
-  found_low = kept_low kept place id ((t.named id place).1 (found_named ∙ ap Some (sym at)))
+  pub found_low : number < length kept
+  found_low = kept_low kept number id ((t.named id number).1 (found_named ∙ ap Some (sym at)))
 
-  pub found_read : (k : Kept) (e : Admitted) → k ≡ get_or kept place k → e ≡ read_as id position k
+  pub found_read : (k : Kept) (e : Admitted) → k ≡ get_or kept number k → e ≡ read_as id position k
       → lookup id (table_of kept es) ≡ Some e
   found_read k e read is = named_entry kept es id position found_named
       ∙ ap (λ x. Some (read_as id position x)) (ap (there kept) (sym at)
-      ∙ sym (read ∙ get_or_default kept place k nothing_kept found_low)) ∙ ap Some (sym is)
+      ∙ sym (read ∙ get_or_default kept number k nothing_kept found_low)) ∙ ap Some (sym is)
 
--- the counts of one cyclic, that is read and written at its place
-module _ (kept : List Kept) (es : List Entry) (t : AreKept kept es) (e : Admitted) (place : ℕ) (at : place ≡ e.position)
+-- the counts of one cyclic, that is read and written at its position
+module _ (kept : List Kept) (es : List Entry) (t : AreKept kept es) (e : Admitted) (number : ℕ) (at : number ≡ e.position)
     (found : lookup e.id (table_of kept es) ≡ Some e) where
-  entry_index : index_of e.id es ≡ Some place
+  entry_index : index_of e.id es ≡ Some number
   entry_index = (found_entry kept es e.id e found).0 ∙ ap Some (sym at)
 
-  kept_here : kept_id (there kept place) ≡ Some e.id
-  kept_here = (t.named e.id place).1 entry_index
+  kept_here : kept_id (there kept number) ≡ Some e.id
+  kept_here = (t.named e.id number).1 entry_index
 
-  pub place_low : place < length kept
-  place_low = kept_low kept place e.id kept_here
+  pub position_low : number < length kept
+  position_low = kept_low kept number e.id kept_here
 
-  module _ (k : Kept) (read : k ≡ get_or kept place k) where
-    pub read_there : k ≡ there kept place
-    read_there = read ∙ get_or_default kept place k nothing_kept place_low
+  module _ (k : Kept) (read : k ≡ get_or kept number k) where
+    pub read_there : k ≡ there kept number
+    read_there = read ∙ get_or_default kept number k nothing_kept position_low
 
     -- the entry has the counts that are read
     pub counts_read : e ≡ read_as e.id e.position k
@@ -282,21 +283,21 @@ module _ (kept : List Kept) (es : List Entry) (t : AreKept kept es) (e : Admitte
       new_id : kept_id new ≡ Some e.id
       new_id = (λ z. then_some (same_here z) (same_id z)) ∙ ap kept_id read_there ∙ kept_here
 
-      told_same : (q : ℕ) → index_of q es ≡ cond (eqb q e.id) (Some place) (index_of q es)
+      told_same : (q : ℕ) → index_of q es ≡ cond (eqb q e.id) (Some number) (index_of q es)
       told_same q = elim (cases_eq q e.id) [
         | inl same ↦ ap (λ n. index_of n es) same ∙ entry_index
-            ∙ sym (ap (λ c. cond c (Some place) (index_of q es)) (eq-eqb q e.id same))
-        | inr ne ↦ sym (ap (λ c. cond c (Some place) (index_of q es)) (ne_eqb q e.id ne))
+            ∙ sym (ap (λ c. cond c (Some number) (index_of q es)) (eq-eqb q e.id same))
+        | inr ne ↦ sym (ap (λ c. cond c (Some number) (index_of q es)) (ne_eqb q e.id ne))
       ]
 
-      pub counted : FindsElse (table_of kept es) (table_of (set kept place new) es) e.id (Some (read_as e.id e.position new))
-      counted = λ q. finds_else kept es es t e.id place true new told_same
-          (one_id kept es t e.id place entry_index) (one_index es e.id place entry_index) place_low new_id q
+      pub counted : FindsElse (table_of kept es) (table_of (set kept number new) es) e.id (Some (read_as e.id e.position new))
+      counted = λ q. finds_else kept es es t e.id number true new told_same
+          (one_id kept es t e.id number entry_index) (one_index es e.id number entry_index) position_low new_id q
           ∙ ap (λ n. cond (eqb q e.id) (Some (read_as e.id n new)) (lookup q (table_of kept es))) at
 
-      pub counted_kept : AreKept (set kept place new) es
-      counted_kept = still_kept kept es es t e.id place true new told_same
-          (one_id kept es t e.id place entry_index) (one_index es e.id place entry_index) place_low new_id
+      pub counted_kept : AreKept (set kept number new) es
+      counted_kept = still_kept kept es es t e.id number true new told_same
+          (one_id kept es t e.id number entry_index) (one_index es e.id number entry_index) position_low new_id
           t.ordered
 
 -- the counts of one cyclic after one more expiration, one more that was lost, and one more call that is done

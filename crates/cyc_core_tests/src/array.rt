@@ -155,9 +155,9 @@ impl ArrayHeap {
         Some((entry.moment, entry.id))
     }
 
-    /// The index of the entry at a place of the heap.
-    pub(crate) fn index_at(&self, place: usize) -> u16 {
-        entry_at(&self.entries, place).index
+    /// The index of the entry at a position of the heap.
+    pub(crate) fn index_at(&self, position: usize) -> u16 {
+        entry_at(&self.entries, position).index
     }
 
     pub(crate) fn len(&self) -> usize {

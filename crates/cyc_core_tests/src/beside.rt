@@ -56,8 +56,8 @@ impl Beside {
     /// An index in use.
     fn used(&mut self) -> u16 {
         let len = self.was.len();
-        let place = self.below(len);
-        self.was.index_at(place)
+        let position = self.below(len);
+        self.was.index_at(position)
     }
 
     fn widen(&mut self, rt: &impl Abort, widening: Widening) {

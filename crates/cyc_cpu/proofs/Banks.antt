@@ -29,33 +29,33 @@ first_wide (suc more) k n bank low high enough less = elim (cases_lt k bank) [
       (omega (arith, low, after))
 ]
 
--- what the leading zeros of one less than the places say of their bank
-pub record IsBankOf (places bank : ℕ) : Type 0 where
-  pub least : bank ≡ bank_for places
-  pub enough : places ≤ 2 ^ bank
+-- what the leading zeros of one less than the slots say of their bank
+pub record IsBankOf (slots bank : ℕ) : Type 0 where
+  pub least : bank ≡ bank_for slots
+  pub enough : slots ≤ 2 ^ bank
   pub greatest : bank ≤ greatest_bank
   pub few : 2 ^ bank ≤ cyclics
 
-pub zeros_bank : (places bank : ℕ) → places ≤ cyclics → count_leading_zeros 64 (places - 1) + bank ≡ 64 → IsBankOf places bank
-zeros_bank places bank fits zeros = by (leading_length 64 (places - 1) (omega (arith, fits)))
+pub zeros_bank : (slots bank : ℕ) → slots ≤ cyclics → count_leading_zeros 64 (slots - 1) + bank ≡ 64 → IsBankOf slots bank
+zeros_bank slots bank fits zeros = by (leading_length 64 (slots - 1) (omega (arith, fits)))
   where
-    by : (m : ℕ) × (count_leading_zeros 64 (places - 1) + m ≡ 64) × (places - 1 < 2 ^ m) × (2 ^ m ≤ 2 * (places - 1) + 1)
-        → IsBankOf places bank
+    by : (m : ℕ) × (count_leading_zeros 64 (slots - 1) + m ≡ 64) × (slots - 1 < 2 ^ m) × (2 ^ m ≤ 2 * (slots - 1) + 1)
+        → IsBankOf slots bank
     by (m, sum, above, below) =
         let same : m ≡ bank = omega (arith, sum, zeros) in
         let power : 2 ^ m ≡ 2 ^ bank = ap (λ (x : ℕ). 2 ^ x) same in
-        let wide : places ≤ 2 ^ bank = omega (arith, above, power) in
+        let wide : slots ≤ 2 ^ bank = omega (arith, above, power) in
         let most : bank ≤ greatest_bank = elim (cases_lt greatest_bank bank) [
           | inl past ↦ (let p : 2 ^ suc greatest_bank ≤ 2 ^ bank = pow_mono {i = suc greatest_bank} {j = bank} past in
               absurd (omega (arith, p, power, below, fits)))
           | inr within ↦ within
         ] in
-        let less : (j : ℕ) → 0 ≤ j → j < bank → 2 ^ j < places = (λ j from to.
+        let less : (j : ℕ) → 0 ≤ j → j < bank → 2 ^ j < slots = (λ j from to.
         let p : 2 ^ suc j ≤ 2 ^ bank = pow_mono {i = suc j} {j = bank} to in
         let q : 2 ^ suc j ≡ 2 ^ j * 2 = pow-suc 2 j in
         let r : 0 < 2 ^ j = pow_pos j in omega (arith, p, q, r, power, below)) in
         record {
-          least = sym (first_wide greatest_bank 0 places bank (omega arith) (omega (arith, most)) wide less);
+          least = sym (first_wide greatest_bank 0 slots bank (omega arith) (omega (arith, most)) wide less);
           enough = wide;
           greatest = most;
           few = pow_mono {i = bank} {j = greatest_bank} most;

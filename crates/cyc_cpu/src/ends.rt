@@ -65,18 +65,18 @@ pub(crate) fn admit_at<R: Raise>(
 }
 
 /// The least bank that has so many slots.
-pub(crate) fn least_bank(places: usize) -> u8
-    requires { places ≤ cyclics }
-    ensures least { result ≡ bank_for places }
-    ensures enough { places ≤ 2 ^ result }
+pub(crate) fn least_bank(slots: usize) -> u8
+    requires { slots ≤ cyclics }
+    ensures least { result ≡ bank_for slots }
+    ensures enough { slots ≤ 2 ^ result }
     ensures greatest { result ≤ greatest_bank }
     ensures few { 2 ^ result ≤ cyclics }
 {
-    (usize::BITS - places.saturating_sub(1).leading_zeros()) as u8
+    (usize::BITS - slots.saturating_sub(1).leading_zeros()) as u8
 }
 
 /// The slots of a bank.
-pub(crate) fn places_of(bank: u8) -> usize
+pub(crate) fn slots_of(bank: u8) -> usize
     requires { bank ≤ greatest_bank }
     ensures { result ≡ 2 ^ bank }
 {

@@ -16,7 +16,7 @@ ghost use Rattle.cyc_cpu.specs.Cpu.{running, seen_at, IsCyclic, IsFresh, HasNoCy
 ghost use Rattle.cyc_cpu.specs.Calls.{CpuChanges, CpuDoes, no_interrupts, Fire, Add, Reprogram, AskPending, AskTotals, AskRoom};
 ghost use Rattle.cyc_cpu.specs.Calls.{Reserve, Widen};
 
-use crate::ends::{both_followed, least_bank, load_pend, places_of};
+use crate::ends::{both_followed, least_bank, load_pend, slots_of};
 use cyc_timers::{FireRefused, Fired, Record, Table, fire_all};
 use cyc_types::{CYCLICS, Calls, CyclicId, Interval, Level, Moment, Raise, Refusal, Sent, When};
 use std::alloc::Global;
@@ -301,7 +301,7 @@ impl<R: Raise> Hard<R> {
         if needed <= self.table.size() {
             return Ok(());
         }
-        self.table.reserve(places_of(least_bank(needed)))
+        self.table.reserve(slots_of(least_bank(needed)))
     }
 
     /// Makes the size what so many more cyclics need, and switches both soft levels where it grows (`cyclic_expand`). Takes
@@ -313,7 +313,7 @@ impl<R: Raise> Hard<R> {
         let needed = self.table.len() + more;
         if needed > self.table.size() {
             let bank = least_bank(needed);
-            self.table.widen(places_of(bank));
+            self.table.widen(slots_of(bank));
             self.lock.expand(bank);
             self.low.expand(bank);
         }

@@ -34,7 +34,7 @@ put_first x (c ∷ cs) rising =
     shown_cyclic cs)))
     (sym (is_below x.timer.id c.timer.id (rising 0 1 c (omega arith) (omega arith))))
 
--- the place of one more, behind others
+-- the position of one more, behind others
 after_it : (cs : List Timed) (k : ℕ) (x d : Timed) → k ≤ length cs → get_or (insert cs k x) k d ≡ x
 after_it cs zero x d low = refl
 after_it [] (suc k) x d low = absurd (omega (arith, low))
@@ -67,7 +67,7 @@ not_named id c ne = ne_eqb c.timer.id id ne
 pub named : (id : ℕ) (c : Timed) → c.timer.id ≡ id → is_of id (shown_cyclic c) ≡ true
 named id c is = eq-eqb c.timer.id id is
 
--- the first, where it is at the first place
+-- the first, where it is at the first position
 first_is : (c x : Timed) (cs : List Timed) → IsCyclic (c ∷ cs) 0 x → c ≡ x
 first_is c x cs is = is.1
 

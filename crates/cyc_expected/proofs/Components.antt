@@ -165,13 +165,13 @@ module _ (indexes : ℕ → ℕ) (n id : ℕ) where
       let t = (return_of indexes n q s).state in
       let x = again q.id n e (s.ended q.id n) s.clock in
       let r = without_ended n q.id s in
-      let place = place_here n (indexes s.admissions) x in
+      let placement = place_here n (indexes s.admissions) x in
       let back : t ≡ (return_here indexes n q.id (OnAll e) s).state =
-      ap (λ place. (return_here indexes n q.id place s).state) (ap (λ (z : Placed). z.placement) mine ∙ all) in
+      ap (λ placement. (return_here indexes n q.id placement s).state) (ap (λ (z : Placed). z.placement) mine ∙ all) in
       let above = subst (λ k. Each (λ z. k < z.id) qs) same (each_above q.id high qs rise.1) in
       ap (option_map series_of) (seen_at (found_in id) t (returns indexes n qs t) (returns_others qs t above) n)
       ∙ (ap (λ u. series_on id (cpu_of n u)) back
-      ∙ (ap (series_on id) (on_there n place r within)
+      ∙ (ap (series_on id) (on_there n placement r within)
       ∙ ap (option_map series_of) (ap (found id) (placed_cyclics indexes n (indexes s.admissions) x (cpu_of n s))
       ∙ put_same id x (cpu_of n s).cyclics same none))))
       (λ far.
@@ -190,13 +190,13 @@ stays_entry id e s is shut = by (entry id s.placed) refl is
         → (p : Placed) × (entry id (staying_omni s) ≡ Some p) × (p.placement ≡ OnAll e)
     by None at h = absurd (cc)
     by (Some p) at h =
-        let place : p.placement ≡ OnAll e = some_same p.placement (OnAll e) h in
+        let placement : p.placement ≡ OnAll e = some_same p.placement (OnAll e) h in
         let one = entry_filter (λ q. not (is_being_removed q.id s)) id p s.placed at
         (ap (λ (k : ℕ). not (is_being_removed k s)) (entry_id id p s.placed at) ∙ ap not shut) in (
           p,
           entry_filter (λ q. is_on_all q.placement) id p (filter (λ q. not (is_being_removed q.id s)) s.placed) one (ap is_on_all
-              place),
-          place,
+              placement),
+          placement,
         )
 
 placed_return : (indexes : ℕ → ℕ) (n id : ℕ) (p : Placement) (s : State) → (return_here indexes n id p s).state.placed ≡ s.placed
@@ -237,8 +237,8 @@ module _ (indexes : ℕ → ℕ) (step n : ℕ) (s : State) where
   pub online_component : (id : ℕ) (e : Everywhere) → Good s → n < length s.cpus → placement_of id s ≡ Some (OnAll e)
       → is_being_removed id s ≡ false → found id (cpu_of n s).cyclics ≡ None
       → series_on id (cpu_of n (online indexes step n s).state) ≡ Some (component_begins_at n e s.clock, e.interval)
-  online_component id e g within place shut none =
-      let p = stays_entry id e s place shut in
+  online_component id e g within placement shut none =
+      let p = stays_entry id e s placement shut in
       ap (series_on id) (online_there within)
       ∙ returns_there indexes n id e p.0 0 s.last_id (staying_omni s) widens (staying_rise s g)
       (subst (λ k. n < k) (sym (on_long n (widen_here n (length (staying_omni s))) s)) within)

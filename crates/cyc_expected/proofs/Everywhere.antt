@@ -23,7 +23,7 @@ use Rattle.cyc_model.specs.Online.{staying_omni, is_online_already, no_room_for_
 use Rattle.cyc_model.specs.Omni.{everywhere}
 use Rattle.cyc_model.specs.Script.{refusal_of, does}
 use Rattle.cyc_model.proofs.Rising.{found, due_of_found}
-use Rattle.cyc_model.proofs.Placing.{entry, place_given_new, place_new}
+use Rattle.cyc_model.proofs.Placing.{entry, placement_given_new, placement_new}
 use Rattle.cyc_model.proofs.Totals.{expired_in}
 use Rattle.cyc_model.proofs.Base.{gone_away}
 use Rattle.cyc_model.proofs.Numbers.{Has, has_or_not, numbers_rise, numbers_pass, pass_numbers, not_leaving}
@@ -37,8 +37,8 @@ use Rattle.cyc_expected.specs.Course.{OnEach, component_begins_at, components_fr
 use Rattle.cyc_expected.proofs.Seen.{same_leaving, seen_at, removal_of, removal_alike, keeps_offline, keeps_online}
 use Rattle.cyc_expected.proofs.Seen.{keeps_enters}
 use Rattle.cyc_expected.proofs.Fires.{all_fired, due_at, Fired, Later}
-use Rattle.cyc_expected.proofs.Running.{found_in, place_enters}
-use Rattle.cyc_expected.proofs.Goes.{IsOther, IsFixed, IsHere, left_does, place_fires, new_shut}
+use Rattle.cyc_expected.proofs.Running.{found_in, placement_enters}
+use Rattle.cyc_expected.proofs.Goes.{IsOther, IsFixed, IsHere, left_does, placement_fires, new_shut}
 use Rattle.cyc_expected.proofs.Spread.{series_of, series_on, with_interval, Spread, spread_given, spread_left, spread_one}
 use Rattle.cyc_expected.proofs.Spread.{components_long, components_at, due_there, next_there, next_at, due_then, next_then}
 use Rattle.cyc_expected.proofs.Spread.{sum_numbers}
@@ -93,8 +93,8 @@ module _ (texts : List (List ℕ)) (f : ℕ → ℕ) (step id : ℕ) (e : Everyw
   abbrev moved : ℕ → State
   moved n = (juggled plain f n s).outcome.state
 
-  place_offline : (n : ℕ) → placement_of id (after (Offline n)) ≡ placement_of id (moved n)
-  place_offline n = by (single_ids_of n (moved n))
+  placement_offline : (n : ℕ) → placement_of id (after (Offline n)) ≡ placement_of id (moved n)
+  placement_offline n = by (single_ids_of n (moved n))
     where
       last : (b : Bool) → placement_of id (last_part b step n (juggled plain f n s).outcome).state ≡ placement_of id (moved n)
       last true = refl
@@ -112,7 +112,7 @@ module _ (texts : List (List ℕ)) (f : ℕ → ℕ) (step id : ℕ) (e : Everyw
       let left = left_juggled id f n s all in
       let one = none_first (is_no_cpu n s) (cpu_is_offline n s ∷ is_last_online n s ∷ busy (cpu_of n s).removal ∷ []) why in
       spread_one id e moments s h n None t (is_cpu n s one.0) (long (Offline n) why)
-      (same_leaving id s t (keeps_offline f step n s) ∙ h.stays) (place_offline n ∙ left.placement)
+      (same_leaving id s t (keeps_offline f step n s) ∙ h.stays) (placement_offline n ∙ left.placement)
       (λ m far. ap (λ (c : Cpu). found id c.cyclics) (offline_elsewhere f step n s m far)
       ∙ seen_at (found_in id) s (moved n) left.found_ m)
       (ap (option_map series_of) (offline_empty id n t (well_does texts f step (Offline n) s g why).1 off))
@@ -171,7 +171,7 @@ module _ (texts : List (List ℕ)) (f : ℕ → ℕ) (step id : ℕ) (e : Everyw
   spread_fired now before as_many = (
     record {
       stays = not_open id (fires now) (λ m is. not_leaving id s h.stays m (sym (fired.removal m) ∙ is));
-      placement = place_fires id now (cpus_online s) (record s { clock = now }) ∙ h.placement;
+      placement = placement_fires id now (cpus_online s) (record s { clock = now }) ∙ h.placement;
       long = length-map moments (next_then e.interval now) ∙ (h.long ∙ sym as_many);
       here = λ m. next_there e.interval now (found id (cpu_of m s).cyclics) (found id (cpu_of m (fires now)).cyclics)
           (slice_index_or moments m None) (h.here m) (later m)
@@ -245,7 +245,7 @@ module _ (texts : List (List ℕ)) (f : ℕ → ℕ) (step : ℕ) (a : OmniStep)
   begun_here m true is =
       let within = online_within m s is in
       enters_there f new (everywhere a) 0 m (cpus_online known) known (numbers_rise (λ (c : Cpu). c.online) 0 s.cpus)
-      (pass_numbers (λ (c : Cpu). c.online) m s within is) within (gone_away None s g.base new (place_new s g.base.rise) m)
+      (pass_numbers (λ (c : Cpu). c.online) m s within is) within (gone_away None s g.base new (placement_new s g.base.rise) m)
   begun_here m false is =
       let idle : Has m (cpus_online known) → ⊥ = λ has.
       let wrong : true ≡ false = sym (numbers_pass (λ (c : Cpu). c.online) m s has).1 ∙ is in absurd (cc) in
@@ -257,8 +257,8 @@ module _ (texts : List (List ℕ)) (f : ℕ → ℕ) (step : ℕ) (a : OmniStep)
   spread_begun long = record {
     stays = same_leaving new s began
         (keeps_enters removal_of removal_alike f new (everywhere a) (cpus_online known) known) ∙ new_shut s g;
-    placement = place_enters new f new (everywhere a) (cpus_online known) known
-        ∙ place_given_new a.name (OnAll (everywhere a)) s g.base.rise;
+    placement = placement_enters new f new (everywhere a) (cpus_online known) known
+        ∙ placement_given_new a.name (OnAll (everywhere a)) s g.base.rise;
     long = components_long 0 (everywhere a) s.clock ups ∙ (as_many ∙ sym long);
     here = λ m. begun_here m (cpu_of m s).online refl ∙ ap (with_interval (magnitude a.interval))
         (ap (λ b. begins_with b m) (sym (up m)) ∙ (ap (begins_with (slice_index_or ups m false)) (none_plus m)

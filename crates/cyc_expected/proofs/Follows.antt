@@ -23,7 +23,7 @@ use Rattle.cyc_model.specs.Remove.{busy_on_any}
 use Rattle.cyc_model.specs.Reprogram.{cpu_refusals, has_no_component, cpu_meant}
 use Rattle.cyc_model.specs.Script.{refusal_of, does, text_in}
 use Rattle.cyc_model.proofs.Rising.{found, any_found}
-use Rattle.cyc_model.proofs.Placing.{place_known}
+use Rattle.cyc_model.proofs.Placing.{placement_known}
 use Rattle.cyc_model.proofs.Reaching.{well_does}
 use Rattle.cyc_model.proofs.Totals.{expired_in}
 use Rattle.cyc_model.proofs.Numbers.{numbers_rise, numbers_pass}
@@ -96,7 +96,7 @@ module _ (texts : List (List ℕ)) (f : ℕ → ℕ) (step name : ℕ) (s : Stat
       by : (o : _) → placement_of (id_of j s) s ≡ o → IsSome o → ⊥
       by None is some = absurd (cc)
       by (Some p) is some =
-          let k = place_known (id_of j s) s p h.good.base.rise is in let a = k.0 in
+          let k = placement_known (id_of j s) s p h.good.base.rise is in let a = k.0 in
           let z = h.apart j name ne (sym e) in omega (arith, a, z)
 
   still_id : (t : State) → t.names ≡ s.names → id_of name t ≡ id

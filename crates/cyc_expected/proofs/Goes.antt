@@ -40,7 +40,7 @@ use Rattle.cyc_model.specs.Kept.{Kept}
 use Rattle.cyc_model.specs.Script.{refusal_of, does, text_in}
 use Rattle.cyc_model.proofs.Agreement.{moment_same}
 use Rattle.cyc_model.proofs.Rising.{found, found_map, found_id, put_same, due_of_found}
-use Rattle.cyc_model.proofs.Placing.{place_given_new, place_given_other, place_forgotten_other, place_new}
+use Rattle.cyc_model.proofs.Placing.{placement_given_new, placement_given_other, placement_forgotten_other, placement_new}
 use Rattle.cyc_model.proofs.Serves.{same_serve}
 use Rattle.cyc_model.proofs.Totals.{expired_in}
 use Rattle.cyc_model.proofs.Base.{IsAt, gone_away}
@@ -57,7 +57,7 @@ use Rattle.cyc_expected.proofs.Seen.{keeps_offline, keeps_online}
 use Rattle.cyc_expected.proofs.Counts.{cyclics_entered}
 use Rattle.cyc_expected.proofs.Fires.{all_fired, due_at, sum_one, Later}
 use Rattle.cyc_expected.proofs.Running.{Running, found_in, runs_alike, runs_there, runs_known, found_enter, found_enters}
-use Rattle.cyc_expected.proofs.Running.{place_enters, found_moment, Left, left_same, left_then, left_poll, left_begin}
+use Rattle.cyc_expected.proofs.Running.{placement_enters, found_moment, Left, left_same, left_then, left_poll, left_begin}
 use Rattle.cyc_expected.proofs.Running.{left_each}
 
 -- a step that is nothing to the cyclic of this id
@@ -85,7 +85,7 @@ IsHere x = ⊤
 module _ (texts : List (List ℕ)) (f : ℕ → ℕ) (step id : ℕ) where
   left_forgotten : (j : ℕ) (s t : State) → id ≢ j → Left id s t → Left id s (forgotten j t)
   left_forgotten j s t ne h = left_then id s t (forgotten j t) h
-      (record { found_ = refl; shut = λ no. no; placement = place_forgotten_other j id t ne })
+      (record { found_ = refl; shut = λ no. no; placement = placement_forgotten_other j id t ne })
 
   left_polled : (j : ℕ) (s : State) → id ≢ j → Left id s (poll_id plain texts step j s).state
   left_polled j s ne =
@@ -114,7 +114,7 @@ module _ (texts : List (List ℕ)) (f : ℕ → ℕ) (step id : ℕ) where
       let new : id ≢ s.last_id + 1 = λ e. absurd (omega (arith, low, e)) in record {
         found_ = found_enter id f n (added a s) u (λ e. new (sym e));
         shut = λ no. same_leaving id s t (keeps_enter removal_of removal_alike f n (added a s) u) ∙ no;
-        placement = place_given_other a.name (On n false) s id new;
+        placement = placement_given_other a.name (On n false) s id new;
       }
   left_does (Omni a) s is fixed low shut =
       let u = given a.name (OnAll (everywhere a)) s in
@@ -123,8 +123,8 @@ module _ (texts : List (List ℕ)) (f : ℕ → ℕ) (step id : ℕ) where
         found_ = found_enters id f (s.last_id + 1) (everywhere a) (cpus_online u) u (λ e. new (sym e));
         shut = λ no. same_leaving id s t
             (keeps_enters removal_of removal_alike f (s.last_id + 1) (everywhere a) (cpus_online u) u) ∙ no;
-        placement = place_enters id f (s.last_id + 1) (everywhere a) (cpus_online u) u
-            ∙ place_given_other a.name (OnAll (everywhere a)) s id new;
+        placement = placement_enters id f (s.last_id + 1) (everywhere a) (cpus_online u) u
+            ∙ placement_given_other a.name (OnAll (everywhere a)) s id new;
       }
   left_does (Bind b) s is fixed low shut = absurd fixed
   left_does (Unbind name) s is fixed low shut = absurd fixed
@@ -223,10 +223,10 @@ runs_moment id moment interval new s g r =
       interval_is = r.interval_is;
     }
 
-pub place_fires : (id now : ℕ) (ns : List ℕ) (s : State)
+pub placement_fires : (id now : ℕ) (ns : List ℕ) (s : State)
     → placement_of id (each (λ n. on_number n (fire_here n now)) ns s).state ≡ placement_of id s
-place_fires id now [] s = refl
-place_fires id now (n ∷ ns) s = place_fires id now ns (on_number n (fire_here n now) s).state
+placement_fires id now [] s = refl
+placement_fires id now (n ∷ ns) s = placement_fires id now ns (on_number n (fire_here n now) s).state
 
 same_home : (n m : ℕ) (p : Option Placement) → IsAt n p → IsAt m p → is_placed_everywhere p ≡ false → n ≡ m
 same_home n m None a b e = absurd a
@@ -250,7 +250,7 @@ runs_fired id moment interval now s g before r =
     let has = pass_numbers (λ (c : Cpu). c.online) n s (has_number s n id some) (g.spread.there n id some) in
     let at = (runs_known id moment interval s g r).0 in
     let later = subst (λ o. Later now o (found id (cpu_of n t).cyclics)) r.here (h.later n has) in
-    let place = place_fires id now ns q in
+    let placement = placement_fires id now ns q in
     let only : (m : ℕ) → m ≢ n → due_at id now before q m ≡ 0 = λ m ne. none_due m ne (found id (cpu_of m s).cyclics) refl at in
     let sum = sum_one (due_at id now before q) n 0 ns rise has only in
     let mine : due_at id now before q n ≡ due moment interval now =
@@ -258,9 +258,9 @@ runs_fired id moment interval now s g before r =
     let e = h.expired in (
       record {
         stays = not_open id t (λ m is. not_leaving id s r.stays m (sym (h.removal m) ∙ is));
-        single = ap is_placed_everywhere place ∙ r.single;
+        single = ap is_placed_everywhere placement ∙ r.single;
         it = later.0;
-        here = ap (λ o. found id (cpu_of (home_at o) t).cyclics) place ∙ later.1;
+        here = ap (λ o. found id (cpu_of (home_at o) t).cyclics) placement ∙ later.1;
         moment_is = later.2 ∙ (λ i. next (r.moment_is i) (r.interval_is i) now);
         interval_is = later.3 ∙ r.interval_is;
       },
@@ -276,7 +276,7 @@ runs_fired id moment interval now s g before r =
 -- an id that is new is nowhere, and no removal of it is open
 pub new_shut : (s : State) → Good s → is_being_removed (s.last_id + 1) s ≡ false
 new_shut s g = not_open (s.last_id + 1) s (λ m is. none_and_some ⊥ (found (s.last_id + 1) (cpu_of m s).cyclics)
-    (gone_away None s g.base (s.last_id + 1) (place_new s g.base.rise) m) ((g.base.whole m).held (s.last_id + 1) is))
+    (gone_away None s g.base (s.last_id + 1) (placement_new s g.base.rise) m) ((g.base.whole m).held (s.last_id + 1) is))
 
 pub runs_added : (texts : List (List ℕ)) (f : ℕ → ℕ) (step : ℕ) (a : AddStep) (s : State) → Good s
     → Running (s.last_id + 1) (first (magnitude a.start) (magnitude a.interval) s.clock) (magnitude a.interval)
@@ -288,16 +288,16 @@ runs_added texts f step a s g =
     let x = added a s in
     let k = f s.admissions in
     let t = (does plain texts f step (Add a) s).state in
-    let place : placement_of id t ≡ Some (On n false) = place_given_new a.name (On n false) s g.base.rise in
+    let placement : placement_of id t ≡ Some (On n false) = placement_given_new a.name (On n false) s g.base.rise in
     let dest = destination_online None s g.spread.some.0
     (pass_numbers (λ (c : Cpu). c.online) g.spread.some.0 s g.spread.some.1 g.spread.some.2) refl in
     let within = (numbers_pass (λ (c : Cpu). c.online) n s dest.0).0 in
-    let none = gone_away None s g.base id (place_new s g.base.rise) n in
+    let none = gone_away None s g.base id (placement_new s g.base.rise) n in
     record {
       stays = same_leaving id s t (keeps_enter removal_of removal_alike f n x u) ∙ new_shut s g;
-      single = ap is_placed_everywhere place;
+      single = ap is_placed_everywhere placement;
       it = x;
-      here = ap (λ o. found id (cpu_of (home_at o) t).cyclics) place
+      here = ap (λ o. found id (cpu_of (home_at o) t).cyclics) placement
           ∙ (ap (λ (d : Cpu). found id d.cyclics) (get_or-set_same s.cpus n (enter_here n k x (cpu_of n s)).cpu absent within)
           ∙ (ap (found id) (cyclics_entered n k x (cpu_of n s)) ∙ put_same id x (cpu_of n s).cyclics refl none));
       moment_is = refl;

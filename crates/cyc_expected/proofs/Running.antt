@@ -18,7 +18,7 @@ use Rattle.cyc_model.specs.Remove.{begin, poll, clear, clear_if}
 use Rattle.cyc_model.specs.Kept.{at_home}
 use Rattle.cyc_model.proofs.Agreement.{moment_same}
 use Rattle.cyc_model.proofs.Rising.{found, found_map, found_id, found_others, put_other}
-use Rattle.cyc_model.proofs.Placing.{place_known}
+use Rattle.cyc_model.proofs.Placing.{placement_known}
 use Rattle.cyc_model.proofs.Whole.{same_happen}
 use Rattle.cyc_model.proofs.Base.{IsAt}
 use Rattle.cyc_model.proofs.Refusing.{neither}
@@ -51,9 +51,9 @@ runs_alike id moment interval s t r stays single home = record {
 
 pub runs_there : (id moment interval : ℕ) (s t : State) → Running id moment interval s → is_being_removed id t ≡ false
     → placement_of id t ≡ placement_of id s → seen (found_in id) t ≡ seen (found_in id) s → Running id moment interval t
-runs_there id moment interval s t r stays place same = runs_alike id moment interval s t r stays
-    (ap is_placed_everywhere place ∙ r.single)
-    (ap (λ o. found id (cpu_of (home_at o) t).cyclics) place ∙ seen_at (found_in id) s t same (home_of id s))
+runs_there id moment interval s t r stays placement same = runs_alike id moment interval s t r stays
+    (ap is_placed_everywhere placement ∙ r.single)
+    (ap (λ o. found id (cpu_of (home_at o) t).cyclics) placement ∙ seen_at (found_in id) s t same (home_of id s))
 
 -- it is known
 pub runs_known : (id moment interval : ℕ) (s : State) → Good s → Running id moment interval s
@@ -64,7 +64,7 @@ runs_known id moment interval s g r =
     by : (o : Option Placement) → placement_of id s ≡ o → IsAt (home_of id s) (placement_of id s)
         → IsAt (home_of id s) (placement_of id s) × (0 < id) × (id ≤ s.last_id)
     by None is at = absurd (subst (λ p. IsAt (home_of id s) p) is at)
-    by (Some p) is at = let k = place_known id s p g.base.rise is in (at, k.0, k.1)
+    by (Some p) is at = let k = placement_known id s p g.base.rise is in (at, k.0, k.1)
 
 -- ---- what leaves the cyclics of another id
 
@@ -81,10 +81,10 @@ module _ (id : ℕ) where
   found_enters indexes j e ns s ne = each_same (found_in id) (λ n u. enter indexes n (component j n e u.clock) u)
       (λ n u. found_enter indexes n (component j n e u.clock) u ne) ns s
 
-  pub place_enters : (indexes : ℕ → ℕ) (j : ℕ) (e : Everywhere) (ns : List ℕ) (s : State)
+  pub placement_enters : (indexes : ℕ → ℕ) (j : ℕ) (e : Everywhere) (ns : List ℕ) (s : State)
       → placement_of id (each (λ n u. enter indexes n (component j n e u.clock) u) ns s).state ≡ placement_of id s
-  place_enters indexes j e [] s = refl
-  place_enters indexes j e (n ∷ ns) s = place_enters indexes j e ns (enter indexes n (component j n e s.clock) s).state
+  placement_enters indexes j e [] s = refl
+  placement_enters indexes j e (n ∷ ns) s = placement_enters indexes j e ns (enter indexes n (component j n e s.clock) s).state
 
   moment_other : (j moment : ℕ) (o : Option CyclicState) → ((x : CyclicState) → o ≡ Some x → x.timer.id ≢ j)
       → option_map (moment_at j moment) o ≡ o
@@ -133,7 +133,7 @@ module _ (id : ℕ) where
       → is_being_removed id (on_number n f s).state ≡ false
   shut_on n f s e shut = shut_set s.cpus n (f (cpu_of n s)).cpu shut e
 
-  -- the id's cyclics, its place, and that no removal of it is open are as they were
+  -- the id's cyclics, its placement, and that no removal of it is open are as they were
   pub record Left (s t : State) : Type 0 where
     pub found_ : seen (found_in id) t ≡ seen (found_in id) s
     pub shut : is_being_removed id s ≡ false → is_being_removed id t ≡ false

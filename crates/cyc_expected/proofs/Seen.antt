@@ -167,7 +167,7 @@ module _ {A : Type 0} (p : Cpu → A) (alike : Alike p) where
   pub keeps_retires : (n : ℕ) (ids : List ℕ) → Keeps (each (retire n) ids)
   keeps_retires n ids s = each_same p (retire n) (keeps_retire n) ids s
 
-  keeps_return : (indexes : ℕ → ℕ) (n id : ℕ) (place : Placement) → Keeps (return_here indexes n id place)
+  keeps_return : (indexes : ℕ → ℕ) (n id : ℕ) (placement : Placement) → Keeps (return_here indexes n id placement)
   keeps_return indexes n id (On m bound) s = refl
   keeps_return indexes n id (OnAll e) s = on_same p n (place_here n (indexes s.admissions) _) s
       (alike_placed n (indexes s.admissions) _ (cpu_of n s))

@@ -13,7 +13,7 @@ use Rattle.cyc_model.specs.Cpu.{CyclicState, Cpu}
 use Rattle.cyc_model.specs.State.{State, Everywhere, OnAll, absent, cpu_of, cpus_from}
 use Rattle.cyc_model.specs.Places.{placement_of, is_being_removed}
 use Rattle.cyc_model.proofs.Rising.{found, due_of_found}
-use Rattle.cyc_model.proofs.Placing.{place_known}
+use Rattle.cyc_model.proofs.Placing.{placement_known}
 use Rattle.cyc_model.proofs.Spread.{Good}
 use Rattle.cyc_expected.specs.Course.{component_begins_at, components_from}
 use Rattle.cyc_expected.proofs.Seen.{seen_at}
@@ -41,7 +41,7 @@ pub record Spread (id : ℕ) (e : Everywhere) (moments : List (Option ℕ)) (s :
 
 module _ (id : ℕ) (e : Everywhere) (moments : List (Option ℕ)) (s : State) (h : Spread id e moments s) where
   pub spread_given : Good s → id ≤ s.last_id
-  spread_given g = (place_known id s (OnAll e) g.base.rise h.placement).1
+  spread_given g = (placement_known id s (OnAll e) g.base.rise h.placement).1
 
   -- where nothing of it changes
   pub spread_left : (t : State) → length t.cpus ≡ length s.cpus → Left id s t → Spread id e moments t
@@ -58,9 +58,9 @@ module _ (id : ℕ) (e : Everywhere) (moments : List (Option ℕ)) (s : State) (
       → ((m : ℕ) → m ≢ n → found id (cpu_of m t).cyclics ≡ found id (cpu_of m s).cyclics)
       → series_on id (cpu_of n t) ≡ with_interval e.interval o
       → Spread id e (slice_set moments n o) t
-  spread_one n o t within long stays place others own = record {
+  spread_one n o t within long stays placement others own = record {
     stays = stays;
-    placement = place ∙ h.placement;
+    placement = placement ∙ h.placement;
     long = length-set moments n o ∙ (h.long ∙ sym long);
     here = λ m. dite (ℕ_discrete m n)
         (λ same. subst (λ k. series_on id (cpu_of k t) ≡ with_interval e.interval (slice_index_or (slice_set moments n o) k None))

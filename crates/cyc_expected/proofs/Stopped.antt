@@ -22,7 +22,7 @@ use Rattle.cyc_model.specs.Reprogram.{cpu_meant}
 use Rattle.cyc_model.specs.Softint.{interrupt, is_open, leaving_ids, text_of_id, polled, poll_id}
 use Rattle.cyc_model.specs.Script.{refusal_of, does, text_in}
 use Rattle.cyc_model.proofs.Rising.{found, due_of_found}
-use Rattle.cyc_model.proofs.Placing.{place_forgotten, place_known}
+use Rattle.cyc_model.proofs.Placing.{placement_forgotten, placement_known}
 use Rattle.cyc_model.proofs.Serves.{same_serve}
 use Rattle.cyc_model.proofs.Base.{IsAt, IsGone, gone_away}
 use Rattle.cyc_model.proofs.Numbers.{numbers_rise, numbers_pass, not_leaving}
@@ -74,7 +74,7 @@ leaving_given id s g leaves =
   where
     by : (n : ℕ) (o : Option Placement) → placement_of id s ≡ o → IsAt n (placement_of id s) → id ≤ s.last_id
     by n None at here = absurd (subst (λ p. IsAt n p) at here)
-    by n (Some p) at here = (place_known id s p g.base.rise at).1
+    by n (Some p) at here = (placement_known id s p g.base.rise at).1
 
 -- ---- removals
 
@@ -84,7 +84,7 @@ own_stopped j s t h low ns e (n, rest, are) =
     inr (leaving_by j n t (h.leaving n (first_with j n rest t (e ∙ are))))
 
 pub gone_stopped : (j : ℕ) (s t : State) → Removing j s t → j ≤ s.last_id → Stopped j (forgotten j t)
-gone_stopped j s t h low = inl (subst (λ k. j ≤ k) (sym h.steady.last_id) low, place_forgotten j t)
+gone_stopped j s t h low = inl (subst (λ k. j ≤ k) (sym h.steady.last_id) low, placement_forgotten j t)
 
 -- ---- the words
 

@@ -34,7 +34,7 @@ use Rattle.cyc_model.specs.Juggle.{
   single_ids_of,
 }
 use Rattle.cyc_model.proofs.Rising.{found, found_id, found_others}
-use Rattle.cyc_model.proofs.Placing.{place_put_other}
+use Rattle.cyc_model.proofs.Placing.{placement_put_other}
 use Rattle.cyc_model.proofs.Leaves.{taken_cpu}
 use Rattle.cyc_model.proofs.Numbers.{Has}
 use Rattle.cyc_model.proofs.Refusing.{none_first, not_omnipresent}
@@ -44,7 +44,7 @@ use Rattle.cyc_expected.proofs.Running.{found_in, found_enter, Left, left_same, 
 
 module _ (id : ℕ) where
   left_put : (j n : ℕ) (bound : Bool) (s : State) → id ≢ j → Left id s (put_at j (On n bound) s)
-  left_put j n bound s ne = record { found_ = refl; shut = λ no. no; placement = place_put_other j id (On n bound) s ne }
+  left_put j n bound s ne = record { found_ = refl; shut = λ no. no; placement = placement_put_other j id (On n bound) s ne }
 
   left_bring : (indexes : ℕ → ℕ) (target : ℕ) (o : Option CyclicState) (s : State) → ((x : CyclicState) → o ≡ Some x
       → x.timer.id ≢ id)

@@ -13,7 +13,7 @@ use Rattle.cyc_finder.specs.declared.slots.Slot.{Slot}
 use Rattle.cyc_finder.specs.Sorted.{Rises, IsGap}
 use Rattle.cyc_finder.specs.Indexes.{Entry, id_in}
 use Rattle.cyc_finder.specs.Slots.{slot_id, entry_of, entries_of, IsGoneSlot}
-use Rattle.cyc_finder.proofs.RisingIds.{is_at_place, rises_removed, rises_inserted}
+use Rattle.cyc_finder.proofs.RisingIds.{is_at_position, rises_removed, rises_inserted}
 use Rattle.cyc_finder.proofs.Here.{rank, some_slot, split, gap_is, come}
 
 abbrev pub IsHere : Slot → Type 0
@@ -131,7 +131,7 @@ module _ {xs : List Slot} {id gap p g : ℕ} (c : Comes xs id gap p g) where
     }
 
     rest_rises : Rises slot_id (remove xs g)
-    rest_rises = rises_removed slot_id xs c.rises (get_or xs g some_slot).id g (is_at_place slot_id xs g some_slot low)
+    rest_rises = rises_removed slot_id xs c.rises (get_or xs g some_slot).id g (is_at_position slot_id xs g some_slot low)
 
     rest_entries : entries_of (remove xs g) ≡ entries_of xs
     rest_entries = filter_map-append entry_of (take g xs) (drop (suc g) xs)

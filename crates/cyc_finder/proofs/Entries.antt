@@ -9,7 +9,7 @@ use mathlib.Core.Logic.{dite}
 use native.Mathlib.Decide.{ℕ_discrete}
 use Rattle.cyc_finder.specs.Sorted.{look_up, Rises, IsAt, IsGap}
 use Rattle.cyc_finder.specs.Indexes.{Entry, id_in, index_in, index_of, IsIndexed, stands_in}
-use Rattle.cyc_finder.proofs.RisingIds.{look_up_read, look_up_at, look_up_gap, look_up_inserted, look_up_removed, is_at_place}
+use Rattle.cyc_finder.proofs.RisingIds.{look_up_read, look_up_at, look_up_gap, look_up_inserted, look_up_removed, is_at_position}
 use Rattle.cyc_finder.proofs.Few.{times_at}
 
 -- the index beside a choice
@@ -52,7 +52,7 @@ free_is xs index rises none = dite (ℕ_discrete (stands_in index (map index_in 
     let long = length-map xs index_in in
     let low : k < length xs = omega (arith, in_range, long) in
     let d : Entry = record { id = 0; index = 0 } in
-    let found = ap (option_map index_in) (look_up_at id_in xs rises (get_or xs k d).id k (is_at_place id_in xs k d low) d) in
+    let found = ap (option_map index_in) (look_up_at id_in xs rises (get_or xs k d).id k (is_at_position id_in xs k d low) d) in
     absurd (none ((get_or xs k d).id, found ∙ ap Some (sym (get_or-map index_in xs k d 0 low) ∙ is))))
 
 pub indexes_insert : (xs : List Entry) (position : ℕ) (e : Entry)
@@ -84,5 +84,5 @@ index_found (x ∷ xs) id i e = dite (ℕ_discrete x.id id)
 pub index_missing : (xs : List Entry) → Rises id_in xs → (id : ℕ) → index_of id xs ≡ None → (k : ℕ) (d : Entry) → k < length xs
     → (get_or xs k d).id ≢ id
 index_missing xs rises id none k d low same =
-    let (i, some) = index_at xs rises (get_or xs k d).id k (is_at_place id_in xs k d low) in
+    let (i, some) = index_at xs rises (get_or xs k d).id k (is_at_position id_in xs k d low) in
     let no : None ≡ Some i = sym none ∙ ap (λ n. index_of n xs) (sym same) ∙ some in absurd (cc)

@@ -67,9 +67,9 @@ module _ {T : Type 0} (id_of : T → ℕ) where
       grind (arith, nat_tests, first, rest)
 
   -- the thing at a position is that of its id
-  pub is_at_place : (xs : List T) (position : ℕ) (d : T) → position < length xs
+  pub is_at_position : (xs : List T) (position : ℕ) (d : T) → position < length xs
       → IsAt id_of xs (id_of (get_or xs position d)) position
-  is_at_place xs position d in_range = record {
+  is_at_position xs position d in_range = record {
     in_range = in_range;
     has_id = λ e. ap id_of
         (get_or_default xs position e d in_range);
@@ -84,13 +84,13 @@ module _ {T : Type 0} (id_of : T → ℕ) where
   ]
 
   module _ (xs : List T) (rises : Rises id_of xs) (id position : ℕ) (at : IsAt id_of xs id position) where
-    no_id_before_place : NoIdBefore xs id position
-    no_id_before_place j d less same = let up = rises j position d less at.in_range in let here = at.has_id d in
+    no_id_before_position : NoIdBefore xs id position
+    no_id_before_position j d less same = let up = rises j position d less at.in_range in let here = at.has_id d in
         omega (arith, up, here, same)
 
     -- the thing of the id is found at its position
     pub look_up_at : (d : T) → look_up id_of id xs ≡ Some (get_or xs position d)
-    look_up_at d = look_up_present xs id position d at no_id_before_place
+    look_up_at d = look_up_present xs id position d at no_id_before_position
 
     -- what is read there is found
     pub look_up_read : (d : T) → d ≡ get_or xs position d → look_up id_of id xs ≡ Some d

@@ -10,7 +10,8 @@ ghost use Rattle.cyc_types.specs.Expirations.{Expiration};
 ghost use Rattle.cyc_types.specs.Series.{never};
 ghost use Rattle.cyc_heap.specs.Tournament.{key, cyclic_index, entry_at, free_entry, slots, IsPlayed};
 ghost use Rattle.cyc_heap.specs.Few.{most_few, root_position, shown, IsTree};
-ghost use Rattle.cyc_heap.specs.Heap.{HeapView, new_heap, size_of, used_count, expiration_at, slots_moved, pair_of, IsEmptyHeap, IsLeast};
+ghost use Rattle.cyc_heap.specs.Heap.{HeapView, new_heap, size_of, used_count, expiration_at, slots_moved, pair_of};
+ghost use Rattle.cyc_heap.specs.Heap.{IsEmptyHeap, IsLeast};
 
 use crate::between::{few_at_most, gather, play_few};
 use crate::changes::{add, change, change_many, lower_first, take};
@@ -170,7 +171,8 @@ impl ExpiryHeap {
     /// later than `now`, and where no index is in use: one subtraction tells both, since the entry of a free index comes after
     /// every moment.
     pub fn due_root(&self, now: Moment) -> Option<(Index, u64, CyclicId)>
-        ensures none { IfNone result (IsEmptyHeap self.now ⊎ ((i : ℕ) × (e : Expiration) × IsLeast self.now i e × (now < e.moment))) }
+        ensures none { IfNone result (IsEmptyHeap self.now
+            ⊎ ((i : ℕ) × (e : Expiration) × IsLeast self.now i e × (now < e.moment))) }
         ensures due { IfSome result (λ found. found.1 ≤ now) }
         ensures root { IfSome result (λ found. self.now.root ≡ Some found.0) }
         ensures least { IfSome result (λ found. IsLeast self.now found.0 (record { moment = now - found.1; id = found.2 })) }

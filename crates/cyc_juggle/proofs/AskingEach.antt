@@ -41,38 +41,38 @@ module _ {R : Type 0} (firing : Raise R) where
       let low = asked_lowers firing Low a.cyclic.timer.level id n j x.low y.low a.low in omega (arith, lock, low)
 
   module _ (source : ℕ) (v : CpusView R) where
-    -- those below this place were asked for, and none has a call outstanding
-    pub record Asked (place : ℕ) (w : CpusView R) : Type 0 where
-      pub works : Works firing (quiet source (take place (ids_on source v))) v w
+    -- those below this position were asked for, and none has a call outstanding
+    pub record Asked (position : ℕ) (w : CpusView R) : Type 0 where
+      pub works : Works firing (quiet source (take position (ids_on source v))) v w
       pub same : Who.SameWho v w
-      pub quiet_below : OfCpu source (λ cpu. (k : ℕ) (c : Cyclic) → k < place → IsCyclic cpu.cyclics k c
+      pub quiet_below : OfCpu source (λ cpu. (k : ℕ) (c : Cyclic) → k < position → IsCyclic cpu.cyclics k c
           → seen_at firing.view c.timer.id cpu ≡ 0) w
 
     pub asked_none : Asked 0 v
     asked_none = record { works = refl; same = Who.same_none v; quiet_below = λ cpu at k c low. absurd (omega (arith, low)) }
 
-    module _ (place id : ℕ) (w : CpusView R) (x y : CpuView R) (i : Asked place w)
-        (spot : slice_get (ids_on source w) place ≡ Some id) (at : IsCpu source x w) where
-      spot_first : slice_get (ids_on source v) place ≡ Some id
-      spot_first = ap (λ ids. slice_get ids place) (sym (i.same.ids source)) ∙ spot
+    module _ (position id : ℕ) (w : CpusView R) (x y : CpuView R) (i : Asked position w)
+        (spot : slice_get (ids_on source w) position ≡ Some id) (at : IsCpu source x w) where
+      spot_first : slice_get (ids_on source v) position ≡ Some id
+      spot_first = ap (λ ids. slice_get ids position) (sym (i.same.ids source)) ∙ spot
 
       way_more : (n : ℕ) → CpuChanges firing x (AskPending id (Some n)) y
-          → Works firing (quiet source (take place (ids_on source v)) ++ on source (AskPending id (Some n)) ∷ []) v
+          → Works firing (quiet source (take position (ids_on source v)) ++ on source (AskPending id (Some n)) ∷ []) v
           (with_cpu w source y)
-      way_more n did = folds_more (DoesAt firing) v (quiet source (take place (ids_on source v))) w
+      way_more n did = folds_more (DoesAt firing) v (quiet source (take position (ids_on source v))) w
           (on source (AskPending id (Some n))) (with_cpu w source y) i.works (changed source _ x y w at did)
 
-      pub asked_more : CpuChanges firing x (AskPending id (Some 0)) y → Asked (place + 1) (with_cpu w source y)
+      pub asked_more : CpuChanges firing x (AskPending id (Some 0)) y → Asked (position + 1) (with_cpu w source y)
       asked_more did = record {
         works = subst (λ way. Works firing way v (with_cpu w source y))
-            (sym (ap (λ ids. quiet source ids) (take_more (ids_on source v) place id spot_first)
-            ∙ map-append (λ j. on source (AskPending j (Some 0))) (take place (ids_on source v)) (id ∷ [])))
+            (sym (ap (λ ids. quiet source ids) (take_more (ids_on source v) position id spot_first)
+            ∙ map-append (λ j. on source (AskPending j (Some 0))) (take position (ids_on source v)) (id ∷ [])))
             (way_more 0 did);
         same = Who.same_then v w (with_cpu w source y) i.same
             (Who.same_at w source x y at (Who.same_asked firing x y id 0 did.0));
         quiet_below = of_cpu source _ y (with_cpu w source y) (cpu_there source x y w at) (λ k c low is.
             (let was : IsCyclic x.cyclics k c = subst (λ cs. IsCyclic cs k c) did.0.cyclics is in
-            dite (ℕ_discrete k place)
+            dite (ℕ_discrete k position)
             (λ e. (let (d, here, spot2) = cyclic_at w source x at k was.0 in
             let same_d : d ≡ c = sym here.1 ∙ by_default x.cyclics k d c was.0 ∙ was.1 in
             let own : c.timer.id ≡ id = ap (λ (z : Cyclic). z.timer.id) (sym same_d)
@@ -85,30 +85,30 @@ module _ {R : Type 0} (firing : Raise R) where
       pub finds : (n : ℕ) → 0 < n → CpuChanges firing x (AskPending id (Some n)) y → (records : RecordsView) (last : ℕ)
           → FindsPending firing source (system_of v records last) (system_of (with_cpu w source y) records last)
       finds n some did records last = (
-        take place (ids_on source v),
+        take position (ids_on source v),
         id,
         (
-          drop (place + 1) (ids_on source v),
-          sym (take-append-drop place (ids_on source v))
-              ∙ ap (λ l. take place (ids_on source v) ++ l) (drop_more (ids_on source v) place id spot_first),
+          drop (position + 1) (ids_on source v),
+          sym (take-append-drop position (ids_on source v))
+              ∙ ap (λ l. take position (ids_on source v) ++ l) (drop_more (ids_on source v) position id spot_first),
         ),
         n,
         some,
         (way_more n did, refl, refl),
       )
 
-    pub asked_all : (place : ℕ) (w : CpusView R) → length (ids_on source v) ≤ place → Asked place w
+    pub asked_all : (position : ℕ) (w : CpusView R) → length (ids_on source v) ≤ position → Asked position w
         → Works firing (quiet source (ids_on source v)) v w
-    asked_all place w all i = subst (λ ids. Works firing (quiet source ids) v w)
-        (take_whole (ids_on source v) place (none_more (ids_on source v) place all)) i.works
+    asked_all position w all i = subst (λ ids. Works firing (quiet source ids) v w)
+        (take_whole (ids_on source v) position (none_more (ids_on source v) position all)) i.works
 
-    pub all_quiet : (place : ℕ) (w : CpusView R) → length (ids_on source v) ≤ place → Asked place w
+    pub all_quiet : (position : ℕ) (w : CpusView R) → length (ids_on source v) ≤ position → Asked position w
         → OfCpu source (HaveNoCalls firing.view) w
-    all_quiet place w all i cpu at k c is =
+    all_quiet position w all i cpu at k c is =
         let l = length_is w source cpu at in let same = ap length (i.same.ids source) in let low = is.0 in
         i.quiet_below cpu at k c (omega (arith, l, same, low, all)) is
 
-  -- questions change no cyclic's place
+  -- questions change no cyclic's placement
   pub asks_then : (n : ℕ) (ids : List ℕ) (way : List CallOn) (v w : CpusView R) → Works firing (quiet n ids ++ way) v w
       → (u : CpusView R) × Who.SameWho v u × Works firing way u w
   asks_then n [] way v w works = (v, Who.same_none v, works)

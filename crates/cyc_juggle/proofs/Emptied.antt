@@ -16,17 +16,17 @@ use Rattle.cyc_agreement.specs.Destination.{destination}
 use Rattle.cyc_agreement.proofs.CpuSpots.{get_set_same, get_set_other}
 use Rattle.cyc_agreement.specs.System.{SystemView, ids_of, ids_on, has, removal_on, is_online, is_everywhere}
 use Rattle.cyc_agreement.specs.Agreement.{Agrees, Stands}
-use Rattle.cyc_agreement.proofs.Lists.{among, any_place, eq_true, false_true}
+use Rattle.cyc_agreement.proofs.Lists.{among, any_position, eq_true, false_true}
 use Rattle.cyc_agreement.proofs.Spots.{same_some, none_some, get_some}
 use Rattle.cyc_agreement.proofs.Destinations.{destination_fits}
 use Rattle.cyc_juggle.specs.Juggling.{system_of, single_ids}
 use Rattle.cyc_juggle.specs.GoingOffline.{offline_at}
 use Rattle.cyc_juggle.proofs.Retired.{Retired, SameBeside, everywhere_here}
 
--- an id of a CPU stands at a place
+-- an id of a CPU stands at a position
 pub placed_at : {R : Type 0} (v : CpusView R) (n id : ℕ) → has n id v ≡ true → (k : ℕ) × (slice_get (ids_on n v) k ≡ Some id)
 placed_at v n id h =
-    let (k, low, passes) = any_place (λ own. own == id) (ids_on n v) h in
+    let (k, low, passes) = any_position (λ own. own == id) (ids_on n v) h in
     let (x, at) = get_some (ids_on n v) k low in
     (k, at ∙ ap Some (eq_true x id (ap (λ y. y == id) (sym (get_or_from_slice_get (ids_on n v) k x 0 at)) ∙ passes 0)))
 
@@ -67,9 +67,9 @@ module _ {R : Type 0} (firing : Raise R) (source : ℕ) (v : CpusView R)
 
   -- no record speaks of the source alone
   not_home : (k : ℕ) (bound : Bool) (r : Record) → IsRecord rs.list k r → r.placement ≡ On source bound → ⊥
-  not_home k bound r is place =
-      let (p, spot) = placed_at v source r.id (a.home k source bound r is place) in
-      false_true (ap is_everywhere (sym place) ∙ everywhere_here firing source v rs components rising p k r spot is)
+  not_home k bound r is placement =
+      let (p, spot) = placed_at v source r.id (a.home k source bound r is placement) in
+      false_true (ap is_everywhere (sym placement) ∙ everywhere_here firing source v rs components rising p k r spot is)
 
   apart : (n : ℕ) (id : ℕ) → has n id t.cpus ≡ true → n ≢ source
   apart n id h e = none_there id (ap (λ m. has m id t.cpus) (sym e) ∙ h)
@@ -90,9 +90,9 @@ module _ {R : Type 0} (firing : Raise R) (source : ℕ) (v : CpusView R)
     known = λ n id h. (let ne = apart n id h in let (k, r, is, named, stands, on) = a.known n id (sym (has_same n id ne) ∙ h) in
         let (q, at, same) = i.forth k r is in
         (k, q, at, same.id ∙ named, subst (λ p. Stands n p) (sym same.placement) stands, up n ne ∙ on));
-    home = λ k n bound q is place. (let (r, at, same) = back k q is in dite (ℕ_discrete n source)
-        (λ e. absurd (not_home k bound r at (sym same.placement ∙ place ∙ ap (λ m. On m bound) e)))
-        (λ ne. has_same n q.id ne ∙ ap (λ id. has n id v) same.id ∙ a.home k n bound r at (sym same.placement ∙ place)));
+    home = λ k n bound q is placement. (let (r, at, same) = back k q is in dite (ℕ_discrete n source)
+        (λ e. absurd (not_home k bound r at (sym same.placement ∙ placement ∙ ap (λ m. On m bound) e)))
+        (λ ne. has_same n q.id ne ∙ ap (λ id. has n id v) same.id ∙ a.home k n bound r at (sym same.placement ∙ placement)));
     everywhere = λ k n q is all on. (let (r, at, same) = back k q is in
         let ne : n ≢ source = (λ e. false_true (sym off ∙ ap (λ m. is_online m t.cpus) (sym e) ∙ on)) in
         by_everywhere k n r q at same ne (a.everywhere k n r at (ap is_everywhere (sym same.placement) ∙ all) (sym (up n ne)

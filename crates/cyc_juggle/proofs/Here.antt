@@ -19,8 +19,8 @@ omni_is s id k q rising is named = ap (λ o. option_map_or (λ (r : Record). is_
 pub home_of : {R : Type 0} (s : SystemView R) (source id k n : ℕ) (bound : Bool) (q : Record) → Agrees s → HasRisingIds s.records
     → IsRecord s.records k q → q.id ≡ id
     → has source id s.cpus ≡ true → q.placement ≡ On n bound → q.placement ≡ On source bound
-home_of s source id k n bound q a rising is named here place =
+home_of s source id k n bound q a rising is named here placement =
     let (j, x, at, same, stands, on) = a.known source id here in
     let e : x ≡ q = same_some (sym at ∙ subst (λ i. IsRecord s.records i q)
     (sym (one_record s.records k j q x rising is at (same ∙ sym named))) is) in
-    place ∙ ap (λ m. On m bound) (subst (λ p. Stands source p) (ap (λ (y : Record). y.placement) e ∙ place) stands)
+    placement ∙ ap (λ m. On m bound) (subst (λ p. Stands source p) (ap (λ (y : Record). y.placement) e ∙ placement) stands)

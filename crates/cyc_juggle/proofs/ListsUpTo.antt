@@ -1,4 +1,4 @@
--- Lists of ids up to a place, and from it on.
+-- Lists of ids up to a position, and from it on.
 use Rattle.std.proofs.Common.{◌≡◌, ℕ, zero, suc, ◌+◌, ◌-◌, ◌<◌, ◌≤◌, Bool, true, false, cond, Some, List, [], ◌∷◌, ◌++◌, length}
 use Rattle.std.proofs.Common.{filter, take, drop, refl, sym, ap, ◌∙◌, arith}
 use Rattle.std.specs.Prelude.{remove}
@@ -95,9 +95,9 @@ pub length_more : {A : Type 0} (xs : List A) (x : A) → length (xs ++ x ∷ [])
 length_more [] x = refl
 length_more (y ∷ ys) x = let e = length_more ys x in omega (arith, e)
 
--- an id that rises has one place
-pub one_place : (ids : List ℕ) (i j id : ℕ) → Rise ids → slice_get ids i ≡ Some id → slice_get ids j ≡ Some id → i ≡ j
-one_place ids i j id rise a b =
+-- an id that rises has one position
+pub one_position : (ids : List ℕ) (i j id : ℕ) → Rise ids → slice_get ids i ≡ Some id → slice_get ids j ≡ Some id → i ≡ j
+one_position ids i j id rise a b =
     let x = get_or_from_slice_get ids i id 0 a in let y = get_or_from_slice_get ids j id 0 b in
     let p = slice_get_within ids i id a in let q = slice_get_within ids j id b in
     dite (ℕ_discrete i j) (λ e. e) (λ ne. dite (ℕ_discrete (j - i) 0)

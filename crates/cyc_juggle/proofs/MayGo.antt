@@ -30,9 +30,9 @@ use Rattle.cyc_agreement.proofs.Shifted.{most_same, rise_on, went, stayed}
 -- the cyclic is on the source alone, is not bound, and has this destination
 module _ {R : Type 0} (s : SystemView R) (a : Agrees s) (rising : HasRisingIds s.records) (source d k : ℕ) (r : Record)
     (is : IsRecord s.records k r)
-    (place : r.placement ≡ On source false) (chosen : destination (Some source) s.cpus ≡ Some d) where
+    (placement : r.placement ≡ On source false) (chosen : destination (Some source) s.cpus ≡ Some d) where
   pub home : has source r.id s.cpus ≡ true
-  home = a.home k source false r is place
+  home = a.home k source false r is placement
 
   pub up : is_online d s.cpus ≡ true
   up = (destination_fits (Some source) s.cpus d chosen).0
@@ -50,7 +50,7 @@ module _ {R : Type 0} (s : SystemView R) (a : Agrees s) (rising : HasRisingIds s
   here cpu at = cyclic_here s.cpus source r.id cpu home at
 
   only : (m : ℕ) → m ≢ source → has m r.id s.cpus ≡ false
-  only m ne = not_elsewhere s k source m false r a rising is place ne
+  only m ne = not_elsewhere s k source m false r a rising is placement ne
 
   pub absent : (cpu : CpuView R) → IsCpu d cpu s.cpus → HasNoCyclic r.id cpu.cyclics
   absent cpu at = none_here s.cpus d r.id cpu (λ h. false_true (sym (only d apart) ∙ h)) at
@@ -68,7 +68,7 @@ module _ {R : Type 0} (s : SystemView R) (a : Agrees s) (rising : HasRisingIds s
         let goes : GoesTo firing (move_of r.id source d) (Ok tt) s.cpus w = inr ((λ e. apart (sym e)), shifts) in
         let (but, there, gone) = went firing r.id source d s.cpus w
         (rise_on firing.view s.cpus source cpu at (lawful source cpu at)) home only goes in
-        agrees_replaced s k d false false source r w a rising is place but up there gone
+        agrees_replaced s k d false false source r w a rising is placement but up there gone
 
     pub agrees_stayed : (e : Refusal) → Shifts firing (move_of r.id source d) (Err e) s.cpus w
         → Agrees (record { cpus = w; records = s.records; last = s.last })

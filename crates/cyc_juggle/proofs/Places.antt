@@ -1,4 +1,4 @@
--- The ids of a CPU by their places.
+-- The ids of a CPU by their positions.
 use Rattle.std.proofs.Common.{◌≡◌, ℕ, ◌<◌, ◌≤◌, true, Some, length, option_map, sym, ap, ◌∙◌, arith}
 use Rattle.std.specs.Prelude.{◌==◌}
 use Rattle.std.specs.List.{slice_get}
@@ -23,7 +23,7 @@ module _ {R : Type 0} (v : CpusView R) (n : ℕ) (cpu : CpuView R) (at : IsCpu n
   pub few_ids : (view : R → FiringView) → IsLawful view cpu → length (ids_on n v) ≤ most_cyclics
   few_ids view law = let l = length_is in let a = law.few in let b = law.size in omega (arith, l, a, b)
 
-  -- a cyclic by its place
+  -- a cyclic by its position
   pub cyclic_at : (k : ℕ) → k < length cpu.cyclics → (c : Cyclic) × IsCyclic cpu.cyclics k c
       × (slice_get (ids_on n v) k ≡ Some c.timer.id)
   cyclic_at k low = let (c, is) = get_some cpu.cyclics k low in (
@@ -42,7 +42,7 @@ pub has_at : {R : Type 0} (v : CpusView R) (n k id : ℕ) → slice_get (ids_on 
 has_at v n k id at = any_at (λ own. own == id) (ids_on n v) k 0 (slice_get_within (ids_on n v) k id at)
     (true_eq _ id (get_or_from_slice_get (ids_on n v) k id 0 at))
 
--- the cyclic of the id at a place
+-- the cyclic of the id at a position
 pub cyclic_of : {R : Type 0} (v : CpusView R) (n k id : ℕ) (cpu : CpuView R) → IsCpu n cpu v → slice_get (ids_on n v) k ≡ Some id
     → HasCyclic id cpu.cyclics
 cyclic_of v n k id cpu at spot =

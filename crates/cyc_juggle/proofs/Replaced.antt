@@ -1,4 +1,4 @@
--- A system still agrees with its records after a cyclic got another place.
+-- A system still agrees with its records after a cyclic got another placement.
 use Rattle.std.proofs.Common.{◌≡◌, ◌≢◌, ℕ, ◌<◌, ◌≤◌, ◌⊎◌, inl, inr, Bool, true, false, Some, List, length, slice_set, refl, sym}
 use Rattle.std.proofs.Common.{ap, ◌∙◌, subst, arith}
 use Rattle.std.specs.List.{slice_get}
@@ -27,19 +27,20 @@ same_number {n} {m} {b} {c} e = cc
 pub not_elsewhere : {R : Type 0} (s : SystemView R) (k d m : ℕ) (bound : Bool) (r : Record) → Agrees s → HasRisingIds s.records
     → IsRecord s.records k r → r.placement ≡ On d bound
     → m ≢ d → has m r.id s.cpus ≡ false
-not_elsewhere s k d m bound r a rising is place ne = by (has m r.id s.cpus) refl
+not_elsewhere s k d m bound r a rising is placement ne = by (has m r.id s.cpus) refl
   where
     by : (b : Bool) → has m r.id s.cpus ≡ b → b ≡ false
     by false e = refl
     by true e = let (j, q, at, named, stands, on) = a.known m r.id e in
         let same : q ≡ r = same_some (sym at ∙ subst (λ i. IsRecord s.records i r)
         (sym (one_record s.records k j r q rising is at named)) is) in
-        absurd (ne (sym (subst (λ p. Stands m p) (ap (λ (x : Record). x.placement) same ∙ place) stands)))
+        absurd (ne (sym (subst (λ p. Stands m p) (ap (λ (x : Record). x.placement) same ∙ placement) stands)))
 
 -- the record's cyclic is on this one CPU now
 module _ {R : Type 0} (s : SystemView R) (k d : ℕ) (bound was : Bool) (home : ℕ) (r : Record) (w : CpusView R) (a : Agrees s)
     (rising : HasRisingIds s.records)
-    (is : IsRecord s.records k r) (place : r.placement ≡ On home was) (b : SameBut r.id s.cpus w) (on : is_online d s.cpus ≡ true)
+    (is : IsRecord s.records k r) (placement : r.placement ≡ On home was) (b : SameBut r.id s.cpus w)
+    (on : is_online d s.cpus ≡ true)
     (there : has d r.id w ≡ true) (only : (m : ℕ) → m ≢ d → has m r.id w ≡ false) where
   x : Record
   x = with_placement (On d bound) r
@@ -64,7 +65,7 @@ module _ {R : Type 0} (s : SystemView R) (k d : ℕ) (bound was : Bool) (home : 
       inr (ne, before, λ e. ne (one_record s.records k j r q rising is before e)))
 
   everywhere_not : is_everywhere r.placement ≡ false
-  everywhere_not = ap is_everywhere place
+  everywhere_not = ap is_everywhere placement
 
   by_known : (n id : ℕ) → has n id w ≡ true → (j : ℕ) × (q : Record) × IsRecord now j q × (q.id ≡ id) × Stands n q.placement
       × (is_online n w ≡ true)
@@ -158,13 +159,13 @@ pub record Standing {R : Type 0} (id k home : ℕ) (bound : Bool) (q : Record) (
 pub standing : {R : Type 0} (s : SystemView R) (id k home : ℕ) (bound : Bool) (r q : Record) → Agrees s → HasRisingIds s.records
     → IsPresent id k r s → IsRecord s.records k q
     → q.placement ≡ On home bound → Standing id k home bound q s
-standing s id k home bound r q a rising p at place =
+standing s id k home bound r q a rising p at placement =
     let same : q.id ≡ id = ap (λ (x : Record). x.id) (same_some (sym at ∙ p.here)) ∙ p.named in
-    let own = a.home k home bound q at place in record {
+    let own = a.home k home bound q at placement in record {
       named = same;
       own_here = own;
       here = ap (λ i. has home i s.cpus) (sym same) ∙ own;
-      own_only = λ m ne. not_elsewhere s k home m bound q a rising at place ne;
-      only = λ m ne. ap (λ i. has m i s.cpus) (sym same) ∙ not_elsewhere s k home m bound q a rising at place ne;
+      own_only = λ m ne. not_elsewhere s k home m bound q a rising at placement ne;
+      only = λ m ne. ap (λ i. has m i s.cpus) (sym same) ∙ not_elsewhere s k home m bound q a rising at placement ne;
       online = (let (j, x, is, named, stands, on) = a.known home q.id own in on);
     }

@@ -38,7 +38,7 @@ use Rattle.cyc_juggle.specs.Juggling.{system_of, single_ids}
 use Rattle.cyc_juggle.specs.GoingOffline.{Retires}
 use Rattle.cyc_juggle.specs.Walking.{HaveNoCalls}
 use Rattle.cyc_juggle.proofs.Here.{omni_is}
-use Rattle.cyc_juggle.proofs.ListsUpTo.{one_place, take_more, first_at, rest_after}
+use Rattle.cyc_juggle.proofs.ListsUpTo.{one_position, take_more, first_at, rest_after}
 use Rattle.cyc_juggle.proofs.Places.{has_at, cyclic_of}
 use Rattle.cyc_juggle.proofs.Stepped.{Left, beside, sized}
 
@@ -80,18 +80,18 @@ removed_was (x ∷ cs) (suc p) (suc k) c (low, is) = let (j, (less, same)) = rem
     (suc j, (omega (arith, less), same))
 
 -- the source after a component was taken
-pub taken_off : {R : Type 0} (firing : Raise R) (source place id : ℕ) (taken : Taken)
+pub taken_off : {R : Type 0} (firing : Raise R) (source position id : ℕ) (taken : Taken)
     (v w : CpusView R) → Rise (ids_on source v)
-    → slice_get (ids_on source v) place ≡ Some id → DoesAt firing v (on source (TakeNow id (Ok taken))) w
-    → Left source place v w
-taken_off firing source place id taken v w rise spot takes =
+    → slice_get (ids_on source v) position ≡ Some id → DoesAt firing v (on source (TakeNow id (Ok taken))) w
+    → Left source position v w
+taken_off firing source position id taken v w rise spot takes =
     let (c, counts, is, polled, l) = takes.change.1 in
     let before : ids_on source v ≡ ids_of takes.before = Who.ids_there v source takes.before takes.after takes.here in
     let spot2 : slice_get (ids_on source v) l.position ≡ Some id = ap (λ ids. slice_get ids l.position) before
     ∙ slice_get-map Who.id_in takes.before.cyclics l.position
     ∙ ap (option_map Who.id_in) (slice_get-get_or takes.before.cyclics l.position c l.here.0 ∙ ap Some l.here.1)
     ∙ ap Some l.named in
-    let own : l.position ≡ place = one_place (ids_on source v) l.position place id rise spot2 spot in record {
+    let own : l.position ≡ position = one_position (ids_on source v) l.position position id rise spot2 spot in record {
       ids = ap (λ u. ids_on source u) takes.rest ∙ Who.ids_now v source takes.before takes.after takes.here
           ∙ ap (λ cs. map Who.id_in cs) l.cyclics ∙ map_remove Who.id_in takes.before.cyclics l.position
           ∙ (λ i. remove (sym before i) (own i));
@@ -277,7 +277,7 @@ module _ {R : Type 0} (firing : Raise R) (source : ℕ) (v : CpusView R)
           fresh_at k r counts is named list j p q at spot2 = dite (ℕ_discrete j k)
               (λ e. (let own : with_ended source counts r ≡ q =
               same_some (sym (changed_is k r counts is list) ∙ ap (λ n. slice_get ps.list n) (sym e) ∙ at) in
-              let odd = one_place (ids_on source w) 0 (suc p) id rise spot
+              let odd = one_position (ids_on source w) 0 (suc p) id rise spot
               (spot2 ∙ ap Some (ap (λ (y : Record). y.id) (sym own) ∙ named)) in
               absurd (omega (arith, odd))))
               (λ ne. i.fresh j (suc p) q (sym (other_is k j r counts ne list) ∙ at) spot2)

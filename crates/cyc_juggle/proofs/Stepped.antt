@@ -28,18 +28,18 @@ use Rattle.cyc_agreement.proofs.Shifted.{Rise, moved, unmoved, map_remove}
 use Rattle.cyc_juggle.specs.declared.turning.Turn.{Turn}
 use Rattle.cyc_juggle.specs.declared.turning.Turn.TheVariants.{StaysBound, StaysPending, StaysRefused, Moves}
 use Rattle.cyc_juggle.specs.Walking.{Visits}
-use Rattle.cyc_juggle.proofs.ListsUpTo.{one_place}
+use Rattle.cyc_juggle.proofs.ListsUpTo.{one_position}
 
 -- the ids of the source afterwards
 abbrev pub ids_after : Option Turn → ℕ → List ℕ → List ℕ
-ids_after None place ids = ids
-ids_after (Some StaysBound) place ids = ids
-ids_after (Some StaysPending) place ids = ids
-ids_after (Some StaysRefused) place ids = ids
-ids_after (Some Moves) place ids = remove ids place
+ids_after None position ids = ids
+ids_after (Some StaysBound) position ids = ids
+ids_after (Some StaysPending) position ids = ids
+ids_after (Some StaysRefused) position ids = ids
+ids_after (Some Moves) position ids = remove ids position
 
-pub record Stepped {R : Type 0} (source place : ℕ) (turn : Option Turn) (s t : SystemView R) : Type 0 where
-  pub ids : ids_on source t.cpus ≡ ids_after turn place (ids_on source s.cpus)
+pub record Stepped {R : Type 0} (source position : ℕ) (turn : Option Turn) (s t : SystemView R) : Type 0 where
+  pub ids : ids_on source t.cpus ≡ ids_after turn position (ids_on source s.cpus)
   pub still : removal_on source t.cpus ≡ None
   pub online : t.cpus.online ≡ s.cpus.online
   pub there : length t.cpus.cpus ≡ length s.cpus.cpus
@@ -50,7 +50,7 @@ pub record Stepped {R : Type 0} (source place : ℕ) (turn : Option Turn) (s t :
   pub ended : (k : ℕ) (r : Record) → IsRecord t.records k r → (q : Record) × IsRecord s.records k q
       × ((n : ℕ) → ended_on n r ≡ ended_on n q)
 
--- who is omnipresent where a record gets another place
+-- who is omnipresent where a record gets another placement
 abbrev everywhere_of : ℕ → List Record → Bool
 everywhere_of id rs = option_map_or (λ (r : Record). is_everywhere r.placement) (find (λ (r : Record). r.id == id) rs) false
 
@@ -88,17 +88,17 @@ pub sized : {R : Type 0} (n : ℕ) (D : CpuView R → CpuView R → Type 0) (v w
 sized n D v w c = ap (λ (u : CpusView _). length u.cpus) c.rest ∙ length-set v.cpus n c.after
 
 -- the source after a cyclic has left it
-pub record Left {R : Type 0} (source place : ℕ) (v w : CpusView R) : Type 0 where
-  pub ids : ids_on source w ≡ remove (ids_on source v) place
+pub record Left {R : Type 0} (source position : ℕ) (v w : CpusView R) : Type 0 where
+  pub ids : ids_on source w ≡ remove (ids_on source v) position
   pub still : removal_on source w ≡ None
   pub online : w.online ≡ v.online
   pub there : length w.cpus ≡ length v.cpus
 
-pub left : {R : Type 0} (firing : Raise R) (id source target place : ℕ)
+pub left : {R : Type 0} (firing : Raise R) (id source target position : ℕ)
     (v w : CpusView R) (taken : Taken)
-    → target ≢ source → Rise (ids_on source v) → slice_get (ids_on source v) place ≡ Some id
-    → Works firing (moving id source target taken) v w → Left source place v w
-left firing id source target place v w taken apart rise spot
+    → target ≢ source → Rise (ids_on source v) → slice_get (ids_on source v) position ≡ Some id
+    → Works firing (moving id source target taken) v w → Left source position v w
+left firing id source target position v w taken apart rise spot
     (a, asks, (b, reserves, (d, takes, (e, widens, (f, places, last))))) =
     let same = Who.same_then v a b (Who.same_changed source _ v a asks
     (Who.same_asked firing asks.before asks.after id 0 asks.change.0))
@@ -113,13 +113,13 @@ left firing id source target place v w taken apart rise spot
     ∙ slice_get-map Who.id_in takes.before.cyclics l.position
     ∙ ap (option_map Who.id_in) (slice_get-get_or takes.before.cyclics l.position c l.here.0 ∙ ap Some l.here.1)
     ∙ ap Some l.named in
-    let own : l.position ≡ place = one_place (ids_on source v) l.position place id rise spot2 spot in
+    let own : l.position ≡ position = one_position (ids_on source v) l.position position id rise spot2 spot in
     let after : ids_on source d ≡ ids_of takes.after = ap (λ u. ids_on source u) takes.rest
     ∙ Who.ids_now b source takes.before takes.after takes.here in
-    let gone : ids_of takes.after ≡ remove (ids_on source v) place = ap (λ cs. map Who.id_in cs) l.cyclics
+    let gone : ids_of takes.after ≡ remove (ids_on source v) position = ap (λ cs. map Who.id_in cs) l.cyclics
     ∙ map_remove Who.id_in takes.before.cyclics l.position
     ∙ (λ i. remove (sym before i) (own i)) in
-    subst (λ u. Left source place v u) last (record {
+    subst (λ u. Left source position v u) last (record {
       ids = ap (λ o. option_map_or ids_of o []) kept ∙ after ∙ gone;
       still = ap (λ o. option_and_then (λ (x : CpuView _). x.removal) o) kept ∙ ap (λ u. removal_on source u) takes.rest
           ∙ Who.removal_now b source takes.before takes.after takes.here ∙ l.removal;
@@ -128,13 +128,13 @@ left firing id source target place v w taken apart rise spot
       there = sized target _ e f places ∙ sized target _ d e widens ∙ sized source _ b d takes ∙ same.long;
     })
 
-module _ {R : Type 0} (firing : Raise R) (source place id : ℕ) (s t : SystemView R)
+module _ {R : Type 0} (firing : Raise R) (source position id : ℕ) (s t : SystemView R)
     (rising : HasRisingIds s.records)
-    (rise : Rise (ids_on source s.cpus)) (spot : slice_get (ids_on source s.cpus) place ≡ Some id)
+    (rise : Rise (ids_on source s.cpus)) (spot : slice_get (ids_on source s.cpus) position ≡ Some id)
     (still : removal_on source s.cpus ≡ None)
     (low : source < length s.cpus.cpus) where
-  same : (turn : Option Turn) → ids_after turn place (ids_on source s.cpus) ≡ ids_on source s.cpus → t ≡ s
-      → Stepped source place turn s t
+  same : (turn : Option Turn) → ids_after turn position (ids_on source s.cpus) ≡ ids_on source s.cpus → t ≡ s
+      → Stepped source position turn s t
   same turn e is = record {
     ids = ap (λ (x : SystemView _). ids_on source x.cpus) is ∙ sym e;
     still = ap (λ (x : SystemView _). removal_on source x.cpus) is ∙ still;
@@ -146,8 +146,8 @@ module _ {R : Type 0} (firing : Raise R) (source place id : ℕ) (s t : SystemVi
     ended = λ k r at. (r, ap (λ (x : SystemView _). slice_get x.records k) (sym is) ∙ at, λ n. refl);
   }
 
-  who : (turn : Option Turn) → ids_after turn place (ids_on source s.cpus) ≡ ids_on source s.cpus → Who.SameWho s.cpus t.cpus
-      → t.records ≡ s.records → Stepped source place turn s t
+  who : (turn : Option Turn) → ids_after turn position (ids_on source s.cpus) ≡ ids_on source s.cpus → Who.SameWho s.cpus t.cpus
+      → t.records ≡ s.records → Stepped source position turn s t
   who turn e w records = record {
     ids = w.ids source ∙ sym e;
     still = w.removals source ∙ still;
@@ -164,7 +164,7 @@ module _ {R : Type 0} (firing : Raise R) (source place id : ℕ) (s t : SystemVi
   none_open = let (cpu, at) = get_some s.cpus.cpus source low in
       (cpu, at, sym (ap (λ o. option_and_then (λ (x : CpuView _). x.removal) o) at) ∙ still)
 
-  pub stepped : (turn : Option Turn) → Visits firing source id turn s t → Stepped source place turn s t
+  pub stepped : (turn : Option Turn) → Visits firing source id turn s t → Stepped source position turn s t
   stepped None (omni, is) = same None refl is
   stepped (Some StaysBound) (single, (home, is)) = same (Some StaysBound) refl is
   stepped (Some StaysPending) (single, (home, n, some, (works, records, last))) =
@@ -175,10 +175,10 @@ module _ {R : Type 0} (firing : Raise R) (source place id : ℕ) (s t : SystemVi
       (λ q. (destination_fits (Some source) s.cpus d chosen).1 (ap Some (sym q))) rise e (inr (inr (none_open, works))))
       records
   stepped (Some Moves) (single, (home, d, chosen, (taken, works), (k, r, is, named, records, last))) =
-      let (j, x, at, same, place_is) = home in
+      let (j, x, at, same, position_is) = home in
       let e : x ≡ r = same_some (sym at ∙ subst (λ i. IsRecord s.records i r)
       (sym (one_record s.records k j r x rising is at (same ∙ sym named))) is) in
-      let l = left firing id source d place s.cpus t.cpus taken
+      let l = left firing id source d position s.cpus t.cpus taken
       (λ q. (destination_fits (Some source) s.cpus d chosen).1 (ap Some (sym q))) rise spot works in record {
         ids = l.ids;
         still = l.still;
@@ -187,7 +187,7 @@ module _ {R : Type 0} (firing : Raise R) (source place id : ℕ) (s t : SystemVi
         omni = λ q. ap (λ (rs : List Record). option_map_or (λ (y : Record). is_everywhere y.placement)
             (find (λ (y : Record). y.id == q) rs) false) records
             ∙ replaced q k s.records r (with_placement (On d false) r) is refl
-            (sym (ap (λ (y : Record). is_everywhere y.placement) (sym e) ∙ ap is_everywhere place_is));
+            (sym (ap (λ (y : Record). is_everywhere y.placement) (sym e) ∙ ap is_everywhere position_is));
         most = (moved firing id source d s.cpus t.cpus
             (λ q. (destination_fits (Some source) s.cpus d chosen).1 (ap Some (sym q))) rise taken works).but.most;
         suspended = (moved firing id source d s.cpus t.cpus

@@ -19,62 +19,64 @@ use Rattle.cyc_juggle.proofs.Stepped.{ids_after}
 use Rattle.cyc_juggle.proofs.Places.{id_there, length_is}
 use Rattle.cyc_agreement.proofs.Who.{id_in, ids_there}
 
--- the place of the next cyclic among those that are still there
-abbrev pub next_place : Option Turn → ℕ → ℕ
-next_place None place = place + 1
-next_place (Some StaysBound) place = place + 1
-next_place (Some StaysPending) place = place + 1
-next_place (Some StaysRefused) place = place + 1
-next_place (Some Moves) place = place
+-- the position of the next cyclic among those that are still there
+abbrev pub next_position : Option Turn → ℕ → ℕ
+next_position None position = position + 1
+next_position (Some StaysBound) position = position + 1
+next_position (Some StaysPending) position = position + 1
+next_position (Some StaysRefused) position = position + 1
+next_position (Some Moves) position = position
 
 -- a walk by rising ids
 abbrev pub WalksOver : List ℕ → Option ℕ → ℕ → Type 0
-WalksOver ids passed place = IsWalk (λ (id : ℕ). id) ids passed place
+WalksOver ids passed position = IsWalk (λ (id : ℕ). id) ids passed position
 
 pub rises_too : (ids : List ℕ) → Rise ids → Rises (λ (id : ℕ). id) ids
 rises_too ids rise i j d less low =
     let a = get_or_default ids i d 0 (omega (arith, less, low)) in let b = get_or_default ids j d 0 low in
     let r = rise i j less low in omega (arith, a, b, r)
 
-at_spot : (ids : List ℕ) (place id : ℕ) → slice_get ids place ≡ Some id → IsAt (λ (own : ℕ). own) ids id place
-at_spot ids place id spot = record {
-  in_range = slice_get_within ids place id spot;
-  has_id = λ d. get_or_from_slice_get ids place id d spot;
+at_spot : (ids : List ℕ) (position id : ℕ) → slice_get ids position ≡ Some id → IsAt (λ (own : ℕ). own) ids id position
+at_spot ids position id spot = record {
+  in_range = slice_get_within ids position id spot;
+  has_id = λ d. get_or_from_slice_get ids position id d spot;
 }
 
 -- the walk goes on past an id that stays
-pub walks_past : (ids : List ℕ) (passed : Option ℕ) (place id : ℕ) → Rise ids → slice_get ids place ≡ Some id
-    → WalksOver ids passed place → WalksOver ids (Some id) (place + 1)
-walks_past ids passed place id rise spot walk =
-    walk_more (λ (own : ℕ). own) ids passed place walk (rises_too ids rise) id (place + 1) (at_spot ids place id spot) refl
+pub walks_past : (ids : List ℕ) (passed : Option ℕ) (position id : ℕ) → Rise ids → slice_get ids position ≡ Some id
+    → WalksOver ids passed position → WalksOver ids (Some id) (position + 1)
+walks_past ids passed position id rise spot walk =
+    walk_more (λ (own : ℕ). own) ids passed position walk (rises_too ids rise) id (position + 1)
+    (at_spot ids position id spot) refl
 
 -- and past one that has gone
-pub walks_without : (ids : List ℕ) (passed : Option ℕ) (place id : ℕ) → Rise ids → slice_get ids place ≡ Some id
-    → WalksOver ids passed place → WalksOver (remove ids place) (Some id) place
-walks_without ids passed place id rise spot walk =
-    let on = walks_past ids passed place id rise spot walk in
-    let low = slice_get_within ids place id spot in let l = length-remove ids place low in record {
+pub walks_without : (ids : List ℕ) (passed : Option ℕ) (position id : ℕ) → Rise ids → slice_get ids position ≡ Some id
+    → WalksOver ids passed position → WalksOver (remove ids position) (Some id) position
+walks_without ids passed position id rise spot walk =
+    let on = walks_past ids passed position id rise spot walk in
+    let low = slice_get_within ids position id spot in let l = length-remove ids position low in record {
       seen = λ k d less within.
-          subst (IsPassed (Some id)) (sym (get_or-remove_below ids place d k less low))
+          subst (IsPassed (Some id)) (sym (get_or-remove_below ids position d k less low))
           (on.seen k d (omega (arith, less)) (omega (arith, less, low)));
       left = λ k d past within.
-          subst (ComesAfter (Some id)) (sym (get_or-remove_above ids place d k past low))
+          subst (ComesAfter (Some id)) (sym (get_or-remove_above ids position d k past low))
           (on.left (k + 1) d (omega (arith, past)) (omega (arith, within, l)));
     }
 
-pub walks_on : (turn : Option Turn) (ids : List ℕ) (passed : Option ℕ) (place id : ℕ) → Rise ids → slice_get ids place ≡ Some id
-    → WalksOver ids passed place → WalksOver (ids_after turn place ids) (Some id) (next_place turn place)
-walks_on None ids passed place id rise spot walk = walks_past ids passed place id rise spot walk
-walks_on (Some StaysBound) ids passed place id rise spot walk = walks_past ids passed place id rise spot walk
-walks_on (Some StaysPending) ids passed place id rise spot walk = walks_past ids passed place id rise spot walk
-walks_on (Some StaysRefused) ids passed place id rise spot walk = walks_past ids passed place id rise spot walk
-walks_on (Some Moves) ids passed place id rise spot walk = walks_without ids passed place id rise spot walk
+pub walks_on : (turn : Option Turn) (ids : List ℕ) (passed : Option ℕ) (position id : ℕ) → Rise ids
+    → slice_get ids position ≡ Some id
+    → WalksOver ids passed position → WalksOver (ids_after turn position ids) (Some id) (next_position turn position)
+walks_on None ids passed position id rise spot walk = walks_past ids passed position id rise spot walk
+walks_on (Some StaysBound) ids passed position id rise spot walk = walks_past ids passed position id rise spot walk
+walks_on (Some StaysPending) ids passed position id rise spot walk = walks_past ids passed position id rise spot walk
+walks_on (Some StaysRefused) ids passed position id rise spot walk = walks_past ids passed position id rise spot walk
+walks_on (Some Moves) ids passed position id rise spot walk = walks_without ids passed position id rise spot walk
 
--- what a CPU answers is the id at the place of the walk
-module _ {R : Type 0} (v : CpusView R) (n : ℕ) (cpu : CpuView R) (at : IsCpu n cpu v) (passed : Option ℕ) (place : ℕ)
-    (walk : WalksOver (ids_on n v) passed place) (low : place < length (ids_on n v)) where
+-- what a CPU answers is the id at the position of the walk
+module _ {R : Type 0} (v : CpusView R) (n : ℕ) (cpu : CpuView R) (at : IsCpu n cpu v) (passed : Option ℕ) (position : ℕ)
+    (walk : WalksOver (ids_on n v) passed position) (low : position < length (ids_on n v)) where
   -- the walk over the cyclics
-  by_cyclics : IsWalk (λ (c : Cyclic). c.timer.id) cpu.cyclics passed place
+  by_cyclics : IsWalk (λ (c : Cyclic). c.timer.id) cpu.cyclics passed position
   by_cyclics = let ids = ids_there v n cpu cpu at in let l = length-map cpu.cyclics id_in in record {
     seen = λ k d less within.
         subst (IsPassed passed)
@@ -86,18 +88,18 @@ module _ {R : Type 0} (v : CpusView R) (n : ℕ) (cpu : CpuView R) (at : IsCpu n
         (walk.left k d.timer.id past (let e = ap length ids in omega (arith, within, e, l)));
   }
 
-  low_cyclics : place < length cpu.cyclics
+  low_cyclics : position < length cpu.cyclics
   low_cyclics = let l = length_is v n cpu at in omega (arith, l, low)
 
   pub some_next : ¬ All (λ c. IsPassed passed c.timer.id) cpu.cyclics
-  some_next = let (c, is) = get_some cpu.cyclics place low_cyclics in
-      walk_on (λ (x : Cyclic). x.timer.id) cpu.cyclics passed place by_cyclics c low_cyclics
+  some_next = let (c, is) = get_some cpu.cyclics position low_cyclics in
+      walk_on (λ (x : Cyclic). x.timer.id) cpu.cyclics passed position by_cyclics c low_cyclics
 
   pub next_spot : (id : ℕ) → ((k : ℕ) × (c : Cyclic) × IsCyclic cpu.cyclics k c × (c.timer.id ≡ id)
-      × IsNextAfter (λ x. x.timer.id) cpu.cyclics passed k) → slice_get (ids_on n v) place ≡ Some id
+      × IsNextAfter (λ x. x.timer.id) cpu.cyclics passed k) → slice_get (ids_on n v) position ≡ Some id
   next_spot id (k, c, is, named, next) =
-      let here = walk_next (λ (x : Cyclic). x.timer.id) cpu.cyclics passed place by_cyclics k c low_cyclics next in
-      id_there v n cpu at place id low
+      let here = walk_next (λ (x : Cyclic). x.timer.id) cpu.cyclics passed position by_cyclics k c low_cyclics next in
+      id_there v n cpu at position id low
       (λ d is_d. sym named
       ∙ ap (λ (x : Cyclic). x.timer.id) (sym is.1 ∙ get_or_default cpu.cyclics k c d is.0 ∙ ap (λ j. get_or cpu.cyclics j d) here
       ∙ is_d.1))

@@ -19,7 +19,7 @@ use Rattle.cyc_juggle.specs.Walking.{Visits, counted_if, all_turns, all_left}
 use Rattle.cyc_juggle.proofs.ListsUpTo.{drop_removed, take_removed, first_at, rest_after, none_more, take_whole, filter_same}
 use Rattle.cyc_juggle.proofs.ListsUpTo.{filter_in, filter_out, length_more}
 use Rattle.cyc_juggle.proofs.Stepped.{Stepped, stepped, ids_after}
-use Rattle.cyc_juggle.proofs.Stepping.{WalksOver, next_place, walks_on}
+use Rattle.cyc_juggle.proofs.Stepping.{WalksOver, next_position, walks_on}
 
 -- ---- turns
 
@@ -69,16 +69,16 @@ total_more Moves r = omega arith
 abbrev pub is_single : {R : Type 0} → CpusView R → RecordsView → ℕ → Bool
 is_single v rs id = not (is_omnipresent id (system_of v rs 0))
 
--- the first `done` of the source's ids had their turns, and `place` of them are still there
+-- the first `done` of the source's ids had their turns, and `position` of them are still there
 pub record Walked {R : Type 0} (firing : Raise R) (source : ℕ) (v : CpusView R)
     (rs : RecordsView)
-    (done place : ℕ) (report : JuggleReport) (w : CpusView R) (qs : RecordsView) : Type 0 where
+    (done position : ℕ) (report : JuggleReport) (w : CpusView R) (qs : RecordsView) : Type 0 where
   pub run : (last : ℕ) → Turns firing source (filter (is_single v rs) (take done (ids_on source v))) report
       (system_of v rs last) (system_of w qs last)
   pub agrees : (last : ℕ) → Agrees (system_of v rs last) → Agrees (system_of w qs last)
-  pub rest : drop place (ids_on source w) ≡ drop done (ids_on source v)
+  pub rest : drop position (ids_on source w) ≡ drop done (ids_on source v)
   pub single : (id : ℕ) → is_single w qs id ≡ is_single v rs id
-  pub stayed : length (filter (is_single v rs) (take place (ids_on source w))) ≡ all_left report
+  pub stayed : length (filter (is_single v rs) (take position (ids_on source w))) ≡ all_left report
   pub few : all_turns report ≤ done
   pub online : w.online ≡ v.online
   pub there : length w.cpus ≡ length v.cpus
@@ -101,17 +101,17 @@ module _ {R : Type 0} (firing : Raise R) (source : ℕ) (v : CpusView R)
     within = λ last h. h;
   }
 
-  module _ (done place : ℕ) (report after : JuggleReport) (w x : CpusView R) (qs ps : RecordsView)
-      (i : Walked firing source v rs done place report w qs)
+  module _ (done position : ℕ) (report after : JuggleReport) (w x : CpusView R) (qs ps : RecordsView)
+      (i : Walked firing source v rs done position report w qs)
       (rising : HasRisingIds qs.list) (rise : Rise (ids_on source w)) (low : source < length w.cpus)
       (agrees : (last : ℕ) → Agrees (system_of w qs last) → Agrees (system_of x ps last)) where
-    module _ (id : ℕ) (spot : slice_get (ids_on source w) place ≡ Some id) where
+    module _ (id : ℕ) (spot : slice_get (ids_on source w) position ≡ Some id) where
       first : slice_get (ids_on source v) done ≡ Some id
-      first = first_at (ids_on source w) (ids_on source v) place done id i.rest spot
+      first = first_at (ids_on source w) (ids_on source v) position done id i.rest spot
 
       steps : (turn : Option Turn) → ((last : ℕ) → Visits firing source id turn (system_of w qs last) (system_of x ps last))
-          → Stepped source place turn (system_of w qs 0) (system_of x ps 0)
-      steps turn visits = stepped firing source place id (system_of w qs 0)
+          → Stepped source position turn (system_of w qs 0) (system_of x ps 0)
+      steps turn visits = stepped firing source position id (system_of w qs 0)
           (system_of x ps 0) rising rise spot i.still low turn (visits 0)
 
       omni_too : (b : Bool) → is_omnipresent id (system_of w qs 0) ≡ b → is_single v rs id ≡ not b
@@ -125,18 +125,19 @@ module _ {R : Type 0} (firing : Raise R) (source : ℕ) (v : CpusView R)
           (λ k n m r is e. (let (q, at, same) = ended k r is in inl (k, q, at, same n))) h
 
       -- it stays where it is
-      stays_here : (turn : Option Turn) → Stepped source place turn (system_of w qs 0) (system_of x ps 0)
-          → ids_after turn place (ids_on source w) ≡ ids_on source w
+      stays_here : (turn : Option Turn) → Stepped source position turn (system_of w qs 0) (system_of x ps 0)
+          → ids_after turn position (ids_on source w) ≡ ids_on source w
           → (r : JuggleReport) → ((last : ℕ) → Turns firing source
           (filter (is_single v rs) (take (done + 1) (ids_on source v))) r (system_of v rs last) (system_of x ps last))
-          → length (filter (is_single v rs) (take (place + 1) (ids_on source w))) ≡ all_left r → all_turns r ≤ done + 1
-          → Walked firing source v rs (done + 1) (place + 1) r x ps
+          → length (filter (is_single v rs) (take (position + 1) (ids_on source w))) ≡ all_left r → all_turns r ≤ done + 1
+          → Walked firing source v rs (done + 1) (position + 1) r x ps
       stays_here turn p same r run stayed few = record {
         run = run;
         agrees = λ last a. agrees last (i.agrees last a);
-        rest = ap (drop (place + 1)) (p.ids ∙ same) ∙ rest_after (ids_on source w) (ids_on source v) place done id i.rest spot;
+        rest = ap (drop (position + 1)) (p.ids ∙ same) ∙ rest_after (ids_on source w)
+            (ids_on source v) position done id i.rest spot;
         single = λ q. ap not (p.omni q) ∙ i.single q;
-        stayed = ap (λ ids. length (filter (is_single v rs) (take (place + 1) ids))) (p.ids ∙ same) ∙ stayed;
+        stayed = ap (λ ids. length (filter (is_single v rs) (take (position + 1) ids))) (p.ids ∙ same) ∙ stayed;
         few = few;
         online = p.online ∙ i.online;
         there = p.there ∙ i.there;
@@ -157,16 +158,16 @@ module _ {R : Type 0} (firing : Raise R) (source : ℕ) (v : CpusView R)
       stayed_more : (turn : Turn) → ((last : ℕ)
           → Visits firing source id (Some turn) (system_of w qs last) (system_of x ps last))
           → all_left (counted turn report) ≡ all_left report + 1
-          → length (filter (is_single v rs) (take (place + 1) (ids_on source w))) ≡ all_left (counted turn report)
-      stayed_more turn visits e = ap length (filter_in (is_single v rs) (ids_on source w) place id spot
+          → length (filter (is_single v rs) (take (position + 1) (ids_on source w))) ≡ all_left (counted turn report)
+      stayed_more turn visits e = ap length (filter_in (is_single v rs) (ids_on source w) position id spot
           (omni_too false (visits 0).0))
-          ∙ length_more (filter (is_single v rs) (take place (ids_on source w))) id ∙ ap (λ n. n + 1) i.stayed ∙ sym e
+          ∙ length_more (filter (is_single v rs) (take position (ids_on source w))) id ∙ ap (λ n. n + 1) i.stayed ∙ sym e
 
       few_more : (turn : Turn) → all_turns (counted turn report) ≤ done + 1
       few_more turn = let a = total_more turn report in let b = i.few in omega (arith, a, b)
 
       by_turn : (turn : Option Turn) → ((last : ℕ) → Visits firing source id turn (system_of w qs last) (system_of x ps last))
-          → Walked firing source v rs (done + 1) (next_place turn place) (counted_if turn report) x ps
+          → Walked firing source v rs (done + 1) (next_position turn position) (counted_if turn report) x ps
       by_turn None visits =
           let out = omni_too true (visits 0).0 in
           let few = i.few in
@@ -175,7 +176,7 @@ module _ {R : Type 0} (firing : Raise R) (source : ℕ) (v : CpusView R)
           (sym (filter_out (is_single v rs) (ids_on source v) done id first out))
           (subst (λ t. Turns firing source (filter (is_single v rs) (take done (ids_on source v))) report
           (system_of v rs last) t) (sym (visits last).1) (i.run last)))
-          (ap length (filter_out (is_single v rs) (ids_on source w) place id spot out) ∙ i.stayed) (omega (arith, few))
+          (ap length (filter_out (is_single v rs) (ids_on source w) position id spot out) ∙ i.stayed) (omega (arith, few))
       by_turn (Some StaysBound) visits = stays_here (Some StaysBound) (steps (Some StaysBound) visits) refl
           (counted StaysBound report) (run_more StaysBound visits) (stayed_more StaysBound visits (omega arith))
           (few_more StaysBound)
@@ -188,11 +189,11 @@ module _ {R : Type 0} (firing : Raise R) (source : ℕ) (v : CpusView R)
       by_turn (Some Moves) visits = let p = steps (Some Moves) visits in record {
         run = run_more Moves visits;
         agrees = λ last a. agrees last (i.agrees last a);
-        rest = ap (drop place) p.ids ∙ drop_removed (ids_on source w) place id spot
-            ∙ rest_after (ids_on source w) (ids_on source v) place done id i.rest spot;
+        rest = ap (drop position) p.ids ∙ drop_removed (ids_on source w) position id spot
+            ∙ rest_after (ids_on source w) (ids_on source v) position done id i.rest spot;
         single = λ q. ap not (p.omni q) ∙ i.single q;
-        stayed = ap (λ ids. length (filter (is_single v rs) (take place ids))) p.ids
-            ∙ ap (λ ids. length (filter (is_single v rs) ids)) (take_removed (ids_on source w) place id spot) ∙ i.stayed;
+        stayed = ap (λ ids. length (filter (is_single v rs) (take position ids))) p.ids
+            ∙ ap (λ ids. length (filter (is_single v rs) ids)) (take_removed (ids_on source w) position id spot) ∙ i.stayed;
         few = few_more Moves;
         online = p.online ∙ i.online;
         there = p.there ∙ i.there;
@@ -201,21 +202,22 @@ module _ {R : Type 0} (firing : Raise R) (source : ℕ) (v : CpusView R)
       }
 
     -- one more has its turn, and the walk goes on
-    pub walked_more : (id : ℕ) → slice_get (ids_on source w) place ≡ Some id → (passed : Option ℕ)
-        → WalksOver (ids_on source w) passed place → (turn : Option Turn)
+    pub walked_more : (id : ℕ) → slice_get (ids_on source w) position ≡ Some id → (passed : Option ℕ)
+        → WalksOver (ids_on source w) passed position → (turn : Option Turn)
         → ((last : ℕ) → Visits firing source id turn (system_of w qs last) (system_of x ps last))
         → after ≡ counted_if turn report → (next : ℕ) × Walked firing source v rs (done + 1) next after x ps
         × WalksOver (ids_on source x) (Some id) next
     walked_more id spot passed walk turn visits counts = (
-      next_place turn place,
-      subst (λ r. Walked firing source v rs (done + 1) (next_place turn place) r x ps) (sym counts) (by_turn id spot turn visits),
-      subst (λ ids. WalksOver ids (Some id) (next_place turn place)) (sym (steps id spot turn visits).ids)
-          (walks_on turn (ids_on source w) passed place id rise spot walk),
+      next_position turn position,
+      subst (λ r. Walked firing source v rs (done + 1) (next_position turn position) r x ps) (sym counts)
+          (by_turn id spot turn visits),
+      subst (λ ids. WalksOver ids (Some id) (next_position turn position)) (sym (steps id spot turn visits).ids)
+          (walks_on turn (ids_on source w) passed position id rise spot walk),
     )
 
   -- all had their turns
-  module _ (done place : ℕ) (report : JuggleReport) (w : CpusView R) (qs : RecordsView)
-      (i : Walked firing source v rs done place report w qs) (all : length (ids_on source v) ≤ done) where
+  module _ (done position : ℕ) (report : JuggleReport) (w : CpusView R) (qs : RecordsView)
+      (i : Walked firing source v rs done position report w qs) (all : length (ids_on source v) ≤ done) where
     pub walked_all : (last : ℕ) → Turns firing source (single_ids source (system_of v rs last)) report (system_of v rs last)
         (system_of w qs last)
     walked_all last = subst (λ ids. Turns firing source (filter (is_single v rs) ids) report (system_of v rs last)
@@ -225,4 +227,4 @@ module _ {R : Type 0} (firing : Raise R) (source : ℕ) (v : CpusView R)
     pub walked_left : (last : ℕ) → length (single_ids source (system_of w qs last)) ≡ all_left report
     walked_left last = ap length (filter_same (is_single w qs) (is_single v rs) (ids_on source w) i.single)
         ∙ ap (λ ids. length (filter (is_single v rs) ids))
-        (sym (take_whole (ids_on source w) place (i.rest ∙ none_more (ids_on source v) done all))) ∙ i.stayed
+        (sym (take_whole (ids_on source w) position (i.rest ∙ none_more (ids_on source v) done all))) ∙ i.stayed

@@ -1,5 +1,5 @@
-//! How the cyclics of a CPU move to other CPUs, each to the one with the fewest, and how the CPU then goes offline. Each call keeps
-//! the agreement of the CPUs and the records.
+//! How the cyclics of a CPU move to other CPUs, each to the one with the fewest, and how the CPU then goes offline. Each call
+//! keeps the agreement of the CPUs and the records.
 #![tactic(auto)]
 
 mod going_offline;

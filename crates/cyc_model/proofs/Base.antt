@@ -1,4 +1,4 @@
--- A machine whose CPUs are whole, each cyclic at its place, and whose books are balanced.
+-- A machine whose CPUs are whole, each cyclic at its placement, and whose books are balanced.
 use Rattle.std.proofs.Common.{◌≡◌, ◌≢◌, ℕ, ◌+◌, ◌<◌, ◌≤◌, List, [], ◌++◌, length, sum_by, Option, Some, None, refl, ap, sym, ◌∙◌}
 use Rattle.std.proofs.Common.{subst, arith}
 use Rattle.std.specs.Prelude.{⊤, IsSome, is_some, slice_index_or}
@@ -25,7 +25,7 @@ use Rattle.cyc_model.proofs.Whole.{Whole, Done, rest_append, quiet_here}
 use Rattle.cyc_model.proofs.Totals.{sum_set, all_set, Balanced, carried, expired_of, lost_of, expired_in, lost_in, pending_in}
 use Rattle.cyc_model.proofs.Shifts.{Shift}
 
--- whether a cyclic with this place can be on the CPU
+-- whether a cyclic with this placement can be on the CPU
 abbrev pub IsAt : ℕ → Option Placement → Type 0
 IsAt n None = ⊥
 IsAt n (Some (On m bound)) = m ≡ n
@@ -77,7 +77,7 @@ goes_nothing s t cpus called gone = record {
   gone = gone;
 }
 
--- the acts go on from and to machines that have the same CPUs, calls, places and ids
+-- the acts go on from and to machines that have the same CPUs, calls, placements and ids
 pub goes_to : (acts : List Act) (s t u : State) → Goes acts s t → u.cpus ≡ t.cpus → u.called ≡ t.called
     → ((id : ℕ) → IsGone id t → IsGone id u) → Goes acts s u
 goes_to acts s t u h cpus called gone = record {

@@ -43,7 +43,7 @@ use Rattle.cyc_model.proofs.Fires.{done_fire, fired_cyclics, fired_alike}
 use Rattle.cyc_model.proofs.Serves.{done_serve, same_serve}
 use Rattle.cyc_model.proofs.Leaves.{done_reprogram}
 use Rattle.cyc_model.proofs.Shifts.{Shift, shift_fire, shift_serve, shift_reprogram}
-use Rattle.cyc_model.proofs.Placing.{place_put_same, place_put_other}
+use Rattle.cyc_model.proofs.Placing.{placement_put_same, placement_put_other}
 use Rattle.cyc_model.proofs.Base.{IsAt, IsGone, Goes, goes_append, goes_nothing, goes_from, goes_on, base_on, cpu_there}
 use Rattle.cyc_model.proofs.Base.{cpu_elsewhere}
 use Rattle.cyc_model.proofs.Numbers.{Has, numbers_pass, not_leaving}
@@ -191,11 +191,12 @@ well_reprogram step r s g why =
 
 -- ---- a cyclic that is on one CPU is put down as on it again
 
-put_gone : (id : ℕ) (place : Placement) (s : State) (j : ℕ) → IsSome (placement_of id s) → IsGone j s
-    → IsGone j (put_at id place s)
-put_gone id place s j known gone = (
+put_gone : (id : ℕ) (placement : Placement) (s : State) (j : ℕ) → IsSome (placement_of id s) → IsGone j s
+    → IsGone j (put_at id placement s)
+put_gone id placement s j known gone = (
   gone.0,
-  place_put_other id j place s (λ e. let n : IsSome (placement_of j s) = ap (λ (k : ℕ). is_some (placement_of k s)) e ∙ known in
+  placement_put_other id j placement s (λ e. let n : IsSome (placement_of j s) = ap (λ (k : ℕ). is_some (placement_of k s)) e
+      ∙ known in
       absurd (let no : true ≡ false = sym n ∙ ap is_some gone.1 in cc)) ∙ gone.1,
 )
 
@@ -209,9 +210,9 @@ well_put id n bound was s g at =
           whole = g.base.whole;
           homes = λ m j some. dite (ℕ_discrete j id)
               (λ e. subst (λ o. IsAt m o)
-              (sym (ap (λ (k : ℕ). placement_of k t) e ∙ place_put_same id (On n bound) s (On n was) at))
+              (sym (ap (λ (k : ℕ). placement_of k t) e ∙ placement_put_same id (On n bound) s (On n was) at))
               (subst (λ o. IsAt m o) (ap (λ (k : ℕ). placement_of k s) e ∙ at) (g.base.homes m j some)))
-              (λ ne. subst (λ o. IsAt m o) (sym (place_put_other id j (On n bound) s ne)) (g.base.homes m j some));
+              (λ ne. subst (λ o. IsAt m o) (sym (placement_put_other id j (On n bound) s ne)) (g.base.homes m j some));
           rise = rise_map 0 s.last_id id (On n bound) s.placed g.base.rise;
           few = g.base.few;
           books = g.base.books;
@@ -221,15 +222,15 @@ well_put id n bound was s g at =
           there = g.spread.there;
           home = λ j m b is. dite (ℕ_discrete j id)
               (λ e. let same : Some (On n bound) ≡ Some (On m b) = sym (ap (λ (k : ℕ). placement_of k t) e
-              ∙ place_put_same id (On n bound) s (On n was) at) ∙ is in
+              ∙ placement_put_same id (On n bound) s (On n was) at) ∙ is in
               let there = g.spread.home j n was (ap (λ (k : ℕ). placement_of k s) e ∙ at) in
               subst (λ k. IsSome (found j (cpu_of k s).cyclics)) (ap (λ o. home_at o) same) there)
-              (λ ne. g.spread.home j m b (sym (place_put_other id j (On n bound) s ne) ∙ is));
+              (λ ne. g.spread.home j m b (sym (placement_put_other id j (On n bound) s ne) ∙ is));
           stands = λ j e is. dite (ℕ_discrete j id)
               (λ same. absurd (let no : Some (On n bound) ≡ Some (OnAll e) =
-              sym (ap (λ (k : ℕ). placement_of k t) same ∙ place_put_same id (On n bound) s (On n was) at) ∙ is in
+              sym (ap (λ (k : ℕ). placement_of k t) same ∙ placement_put_same id (On n bound) s (On n was) at) ∙ is in
               let no2 : false ≡ true = ap is_placed_everywhere no in cc))
-              (λ ne. g.spread.stands j e (sym (place_put_other id j (On n bound) s ne) ∙ is));
+              (λ ne. g.spread.stands j e (sym (placement_put_other id j (On n bound) s ne) ∙ is));
         };
       },
     )

@@ -26,7 +26,7 @@ use Rattle.cyc_model.proofs.Moves.{CanGrow}
 use Rattle.cyc_model.proofs.Stays.{none_and_some, done_enter, entered_cyclics, entered_removal, entered_online}
 use Rattle.cyc_model.proofs.Totals.{carried, expired_of, lost_of}
 use Rattle.cyc_model.proofs.Shifts.{shift_enter}
-use Rattle.cyc_model.proofs.Placing.{place_given_new, place_given_old, place_given_other, place_new}
+use Rattle.cyc_model.proofs.Placing.{placement_given_new, placement_given_old, placement_given_other, placement_new}
 use Rattle.cyc_model.proofs.Base.{IsAt, Base, IsGone, Goes, goes_from, goes_to, goes_on, base_on, cpu_there, cpu_elsewhere}
 use Rattle.cyc_model.proofs.Base.{gone_away}
 use Rattle.cyc_model.proofs.Numbers.{Has, has_or_not, numbers_rise, numbers_pass, pass_numbers, Turned, looped}
@@ -123,37 +123,37 @@ base_fresh x s expired lost b = record {
       let h = b.books id in omega (arith, a, c, h);
 }
 
-module _ (name : ℕ) (place : Placement) (s : State) (b : Base None s) (few : s.last_id < greatest_id) where
-  pub given_base : Base None (given name place s)
+module _ (name : ℕ) (placement : Placement) (s : State) (b : Base None s) (few : s.last_id < greatest_id) where
+  pub given_base : Base None (given name placement s)
   given_base = record {
     whole = b.whole;
     homes = λ n id some. by n id (placement_of id s) refl (b.homes n id some);
-    rise = rise_append 0 s.last_id place s.placed b.rise;
+    rise = rise_append 0 s.last_id placement s.placed b.rise;
     few = omega (arith, few);
     books = b.books;
   }
     where
       by : (n id : ℕ) (o : Option Placement) → placement_of id s ≡ o → IsAt n (placement_of id s)
-          → IsAt n (placement_of id (given name place s))
+          → IsAt n (placement_of id (given name placement s))
       by n id None is at = absurd (subst (λ o. IsAt n o) is at)
-      by n id (Some p) is at = subst (λ o. IsAt n o) (is ∙ sym (place_given_old name place s id p is)) at
+      by n id (Some p) is at = subst (λ o. IsAt n o) (is ∙ sym (placement_given_old name placement s id p is)) at
 
-  pub given_gone : (id : ℕ) → IsGone id s → IsGone id (given name place s)
+  pub given_gone : (id : ℕ) → IsGone id s → IsGone id (given name placement s)
   given_gone id gone =
       let le = gone.0 in
-      (omega (arith, le), place_given_other name place s id (λ (e : id ≡ s.last_id + 1). omega (arith, le, e)) ∙ gone.1)
+      (omega (arith, le), placement_given_other name placement s id (λ (e : id ≡ s.last_id + 1). omega (arith, le, e)) ∙ gone.1)
 
   new_id : IsId (s.last_id + 1)
   new_id = (omega arith, omega (arith, few))
 
 -- the new id is on no CPU
 new_away : (s : State) → Base None s → (n : ℕ) → found (s.last_id + 1) (cpu_of n s).cyclics ≡ None
-new_away s b n = gone_away None s b (s.last_id + 1) (place_new s b.rise) n
+new_away s b n = gone_away None s b (s.last_id + 1) (placement_new s b.rise) n
 
--- a place that was there before is that of an older id
-older : (name : ℕ) (place : Placement) (s : State) (j : ℕ) (p : Placement) → Base None s → j ≢ s.last_id + 1
-    → placement_of j (given name place s) ≡ Some p → placement_of j s ≡ Some p
-older name place s j p b ne is = sym (place_given_other name place s j ne) ∙ is
+-- a placement that was there before is that of an older id
+older : (name : ℕ) (placement : Placement) (s : State) (j : ℕ) (p : Placement) → Base None s → j ≢ s.last_id + 1
+    → placement_of j (given name placement s) ≡ Some p → placement_of j s ≡ Some p
+older name placement s j p b ne is = sym (placement_given_other name placement s j ne) ∙ is
 
 pub well_add : (indexes : ℕ → ℕ) (step : ℕ) (a : AddStep) (s : State) → Good s → add_refusal plain a s ≡ None
     → Well (add indexes step a s) s
@@ -178,7 +178,7 @@ well_add indexes step a s g why =
     (pass_numbers (λ (c : Cpu). c.online) g.spread.some.0 s g.spread.some.1 g.spread.some.2) refl in
     let online = numbers_pass (λ (c : Cpu). c.online) n s dest.0 in
     let rb = base_fresh x r refl refl (given_base a.name (On n false) s b few) in
-    let here = place_given_new a.name (On n false) s b.rise in
+    let here = placement_given_new a.name (On n false) s b.rise in
     let at : IsAt n (placement_of (s.last_id + 1) r) = subst (λ o. IsAt n o) (sym here) refl in
     let can = room_grows n (s.last_id + 1) 1 (cpu_of n s) room in
     let is_id : IsId (s.last_id + 1) = new_id a.name (On n false) s b few in
@@ -274,7 +274,7 @@ well_omni indexes step a s g why =
     let few = few_ids s four.0 in
     let r = given a.name (OnAll e) s in
     let ns = cpus_online s in
-    let here = place_given_new a.name (OnAll e) s b.rise in
+    let here = placement_given_new a.name (OnAll e) s b.rise in
     let is_id = new_id a.name (OnAll e) s b few in
     let all = looped (λ n t. enter indexes n (component id n e t.clock) t) (λ n c. (found id c.cyclics ≡ None)
     × CanGrow 1 c) (Came id)
@@ -293,7 +293,7 @@ well_omni indexes step a s g why =
     let ids : (j : ℕ) → j ≢ id → (m : ℕ) → is_some (found j (cpu_of m t).cyclics) ≡ is_some (found j (cpu_of m s).cyclics) =
     λ j ne m. ⊎_elim (λ has. (came m has).others j ne) (λ away. ap (λ (c : Cpu). is_some (found j c.cyclics)) (same m away))
     (has_or_not m ns) in
-    let kept : (j : ℕ) → placement_of j t ≡ placement_of j r = place_kept indexes id e ns r in (
+    let kept : (j : ℕ) → placement_of j t ≡ placement_of j r = placement_kept indexes id e ns r in (
       goes_from _ s r t all.goes refl refl (given_gone a.name (OnAll e) s b few),
       record {
         base = all.inv.0;
@@ -327,7 +327,8 @@ well_omni indexes step a s g why =
       },
     )
   where
-    place_kept : (indexes : ℕ → ℕ) (id : ℕ) (e : Everywhere) (ns : List ℕ) (r : State) (j : ℕ)
+    placement_kept : (indexes : ℕ → ℕ) (id : ℕ) (e : Everywhere) (ns : List ℕ) (r : State) (j : ℕ)
         → placement_of j (each (λ n t. enter indexes n (component id n e t.clock) t) ns r).state ≡ placement_of j r
-    place_kept indexes id e [] r j = refl
-    place_kept indexes id e (n ∷ ns) r j = place_kept indexes id e ns (enter indexes n (component id n e r.clock) r).state j
+    placement_kept indexes id e [] r j = refl
+    placement_kept indexes id e (n ∷ ns) r j =
+        placement_kept indexes id e ns (enter indexes n (component id n e r.clock) r).state j

@@ -216,24 +216,25 @@ rise_from : (low from high : ℕ) (ps : List Placed) → low ≤ from → RiseTo
 rise_from low from high [] le h = omega (arith, le, h)
 rise_from low from high (p ∷ ps) le h = (let a = h.0 in omega (arith, a, le), h.1)
 
-pub rise_append : (low high : ℕ) (place : Placement) (ps : List Placed) → RiseTo low ps high
-    → RiseTo low (ps ++ record { id = high + 1; placement = place } ∷ []) (high + 1)
-rise_append low high place [] h = (omega (arith, h), omega arith)
-rise_append low high place (p ∷ ps) h = (h.0, rise_append p.id high place ps h.1)
+pub rise_append : (low high : ℕ) (placement : Placement) (ps : List Placed) → RiseTo low ps high
+    → RiseTo low (ps ++ record { id = high + 1; placement = placement } ∷ []) (high + 1)
+rise_append low high placement [] h = (omega (arith, h), omega arith)
+rise_append low high placement (p ∷ ps) h = (h.0, rise_append p.id high placement ps h.1)
 
-pub replaced_id : (id : ℕ) (place : Placement) (p : Placed) → (replaced id place p).id ≡ p.id
-replaced_id id place p = by (p.id == id)
+pub replaced_id : (id : ℕ) (placement : Placement) (p : Placed) → (replaced id placement p).id ≡ p.id
+replaced_id id placement p = by (p.id == id)
   where
-    by : (b : Bool) → (cond b (record p { placement = place }) p).id ≡ p.id
+    by : (b : Bool) → (cond b (record p { placement = placement }) p).id ≡ p.id
     by true = refl
     by false = refl
 
-pub rise_map : (low high id : ℕ) (place : Placement) (ps : List Placed) → RiseTo low ps high
-    → RiseTo low (map (replaced id place) ps) high
-rise_map low high id place [] h = h
-rise_map low high id place (p ∷ ps) h = (
-  subst (λ j. low < j) (sym (replaced_id id place p)) h.0,
-  subst (λ j. RiseTo j (map (replaced id place) ps) high) (sym (replaced_id id place p)) (rise_map p.id high id place ps h.1),
+pub rise_map : (low high id : ℕ) (placement : Placement) (ps : List Placed) → RiseTo low ps high
+    → RiseTo low (map (replaced id placement) ps) high
+rise_map low high id placement [] h = h
+rise_map low high id placement (p ∷ ps) h = (
+  subst (λ j. low < j) (sym (replaced_id id placement p)) h.0,
+  subst (λ j. RiseTo j (map (replaced id placement) ps) high) (sym (replaced_id id placement p))
+      (rise_map p.id high id placement ps h.1),
 )
 
 rise_if : (b : Bool) (low high : ℕ) (p : Placed) (ps : List Placed) → low < p.id → RiseTo p.id ps high
@@ -276,15 +277,19 @@ module _ (least : ℕ) where
         (enter_most s.last_id n (indexes s.admissions) x one (cpu_of n s) (at_most s.last_id s.cpus h.cyclics n)) n;
   }
 
-  keeps_given : (name : ℕ) (place : Placement) (s : State) → AreGiven least s → AreGiven least (given name place s)
-  keeps_given name place s h = record {
+  keeps_given : (name : ℕ) (placement : Placement) (s : State) → AreGiven least s → AreGiven least (given name placement s)
+  keeps_given name placement s h = record {
     many = let a = h.many in omega (arith, a);
-    rise = rise_append 0 s.last_id place s.placed h.rise;
+    rise = rise_append 0 s.last_id placement s.placed h.rise;
     cyclics = all_more s.last_id (s.last_id + 1) (omega arith) s.cpus h.cyclics;
   }
 
-  keeps_put : (id : ℕ) (place : Placement) (s : State) → AreGiven least s → AreGiven least (put_at id place s)
-  keeps_put id place s h = record { many = h.many; rise = rise_map 0 s.last_id id place s.placed h.rise; cyclics = h.cyclics }
+  keeps_put : (id : ℕ) (placement : Placement) (s : State) → AreGiven least s → AreGiven least (put_at id placement s)
+  keeps_put id placement s h = record {
+    many = h.many;
+    rise = rise_map 0 s.last_id id placement s.placed h.rise;
+    cyclics = h.cyclics;
+  }
 
   keeps_forgotten : (id : ℕ) (s : State) → AreGiven least s → AreGiven least (forgotten id s)
   keeps_forgotten id s h = record {

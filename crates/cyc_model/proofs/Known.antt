@@ -14,7 +14,7 @@ use Rattle.cyc_model.specs.Add.{enter}
 use Rattle.cyc_model.specs.Omni.{component, everywhere}
 use Rattle.cyc_model.specs.Kept.{Kept}
 use Rattle.cyc_model.specs.Script.{refusal_of, does}
-use Rattle.cyc_model.proofs.Placing.{place_given_old}
+use Rattle.cyc_model.proofs.Placing.{placement_given_old}
 use Rattle.cyc_model.proofs.Spread.{Good}
 use Rattle.cyc_model.proofs.Reaching.{safe_does}
 
@@ -62,12 +62,12 @@ module _ (id : ℕ) where
   stays_placed s t same known = ap (λ ps. is_some (option_map (λ (p : Placed). p.placement) (find (λ p. p.id == id) ps))) same
       ∙ known
 
-  stays_given : (name : ℕ) (place : Placement) (s : State) → Stays s (given name place s)
-  stays_given name place s known = by (placement_of id s) refl known
+  stays_given : (name : ℕ) (placement : Placement) (s : State) → Stays s (given name placement s)
+  stays_given name placement s known = by (placement_of id s) refl known
     where
-      by : (o : Option Placement) → placement_of id s ≡ o → IsSome o → IsSome (placement_of id (given name place s))
+      by : (o : Option Placement) → placement_of id s ≡ o → IsSome o → IsSome (placement_of id (given name placement s))
       by None is some = absurd (cc)
-      by (Some p) is some = ap is_some (place_given_old name place s id p is)
+      by (Some p) is some = ap is_some (placement_given_old name placement s id p is)
 
   stays_moved : (s t : State) → Kept s t → Stays s t
   stays_moved s t h known = same_known id s t h.ids ∙ known

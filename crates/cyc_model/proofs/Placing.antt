@@ -49,35 +49,35 @@ entry_within low high id (q ∷ qs) h p e = dite (ℕ_discrete q.id id)
 
 -- ---- one entry more, one changed, one less
 
-pub place_given_new : (name : ℕ) (place : Placement) (s : State) → RiseTo 0 s.placed s.last_id
-    → placement_of (s.last_id + 1) (given name place s) ≡ Some place
-place_given_new name place s rise =
+pub placement_given_new : (name : ℕ) (placement : Placement) (s : State) → RiseTo 0 s.placed s.last_id
+    → placement_of (s.last_id + 1) (given name placement s) ≡ Some placement
+placement_given_new name placement s rise =
     let none : entry (s.last_id + 1) s.placed ≡ None = entry_above 0 s.last_id (s.last_id + 1) s.placed rise (omega arith) in
-    let new : Placed = record { id = s.last_id + 1; placement = place } in
+    let new : Placed = record { id = s.last_id + 1; placement = placement } in
     ap (option_map (λ (p : Placed). p.placement))
     (find-append (λ (p : Placed). p.id == s.last_id + 1) s.placed (new ∷ [])
     ∙ ap (λ (o : Option Placed). option_or o (entry (s.last_id + 1) (new ∷ []))) none
     ∙ entry_first (s.last_id + 1) new [] refl)
 
-pub place_given_old : (name : ℕ) (place : Placement) (s : State) (id : ℕ) (p : Placement) → placement_of id s ≡ Some p
-    → placement_of id (given name place s) ≡ Some p
-place_given_old name place s id p is =
+pub placement_given_old : (name : ℕ) (placement : Placement) (s : State) (id : ℕ) (p : Placement) → placement_of id s ≡ Some p
+    → placement_of id (given name placement s) ≡ Some p
+placement_given_old name placement s id p is =
     ap (option_map (λ (q : Placed). q.placement)) (find-append (λ (q : Placed). q.id == id) s.placed (record {
       id = s.last_id
           + 1;
-      placement = place;
+      placement = placement;
     } ∷ []))
-    ∙ by (entry id s.placed) (entry id (record { id = s.last_id + 1; placement = place } ∷ [])) is
+    ∙ by (entry id s.placed) (entry id (record { id = s.last_id + 1; placement = placement } ∷ [])) is
   where
     by : (o r : Option Placed) → option_map (λ (q : Placed). q.placement) o ≡ Some p
         → option_map (λ (q : Placed). q.placement) (option_or o r) ≡ Some p
     by None r e = absurd (cc)
     by (Some q) r e = e
 
-pub place_given_other : (name : ℕ) (place : Placement) (s : State) (id : ℕ) → id ≢ s.last_id + 1
-    → placement_of id (given name place s) ≡ placement_of id s
-place_given_other name place s id ne =
-    let new : Placed = record { id = s.last_id + 1; placement = place } in
+pub placement_given_other : (name : ℕ) (placement : Placement) (s : State) (id : ℕ) → id ≢ s.last_id + 1
+    → placement_of id (given name placement s) ≡ placement_of id s
+placement_given_other name placement s id ne =
+    let new : Placed = record { id = s.last_id + 1; placement = placement } in
     ap (option_map (λ (q : Placed). q.placement)) (find-append (λ (q : Placed). q.id == id) s.placed (new ∷ [])
     ∙ ap (λ (o : Option Placed). option_or (entry id s.placed) o) (entry_rest id new [] (λ e. ne (sym e)))
     ∙ or_none (entry id s.placed))
@@ -86,14 +86,15 @@ place_given_other name place s id ne =
     or_none None = refl
     or_none (Some p) = refl
 
-entry_replaced : (id j : ℕ) (place : Placement) (ps : List Placed)
-    → entry j (map (replaced id place) ps) ≡ option_map (replaced id place) (entry j ps)
-entry_replaced id j place [] = refl
-entry_replaced id j place (p ∷ ps) = dite (ℕ_discrete p.id j)
-    (λ e. entry_first j (replaced id place p) (map (replaced id place) ps) (replaced_id id place p ∙ e)
-    ∙ ap (option_map (replaced id place)) (sym (entry_first j p ps e)))
-    (λ ne. entry_rest j (replaced id place p) (map (replaced id place) ps) (λ e. ne (sym (replaced_id id place p) ∙ e))
-    ∙ entry_replaced id j place ps ∙ ap (option_map (replaced id place)) (sym (entry_rest j p ps ne)))
+entry_replaced : (id j : ℕ) (placement : Placement) (ps : List Placed)
+    → entry j (map (replaced id placement) ps) ≡ option_map (replaced id placement) (entry j ps)
+entry_replaced id j placement [] = refl
+entry_replaced id j placement (p ∷ ps) = dite (ℕ_discrete p.id j)
+    (λ e. entry_first j (replaced id placement p) (map (replaced id placement) ps) (replaced_id id placement p ∙ e)
+    ∙ ap (option_map (replaced id placement)) (sym (entry_first j p ps e)))
+    (λ ne. entry_rest j (replaced id placement p) (map (replaced id placement) ps)
+    (λ e. ne (sym (replaced_id id placement p) ∙ e))
+    ∙ entry_replaced id j placement ps ∙ ap (option_map (replaced id placement)) (sym (entry_rest j p ps ne)))
 
 pub entry_id : (id : ℕ) (p : Placed) (ps : List Placed) → entry id ps ≡ Some p → p.id ≡ id
 entry_id id p [] e = absurd (cc)
@@ -101,27 +102,29 @@ entry_id id p (q ∷ qs) e = dite (ℕ_discrete q.id id)
     (λ same. subst (λ (z : Placed). z.id ≡ id) (some_same q p (sym (entry_first id q qs same) ∙ e)) same)
     (λ ne. entry_id id p qs (sym (entry_rest id q qs ne) ∙ e))
 
-pub place_put_other : (id j : ℕ) (place : Placement) (s : State) → j ≢ id → placement_of j (put_at id place s) ≡ placement_of j s
-place_put_other id j place s ne =
-    ap (option_map (λ (q : Placed). q.placement)) (entry_replaced id j place s.placed)
+pub placement_put_other : (id j : ℕ) (placement : Placement) (s : State) → j ≢ id
+    → placement_of j (put_at id placement s) ≡ placement_of j s
+placement_put_other id j placement s ne =
+    ap (option_map (λ (q : Placed). q.placement)) (entry_replaced id j placement s.placed)
     ∙ by (entry j s.placed) refl
   where
     by : (o : Option Placed) → entry j s.placed ≡ o
-        → option_map (λ (q : Placed). q.placement) (option_map (replaced id place) o) ≡ option_map (λ (q : Placed). q.placement) o
+        → option_map (λ (q : Placed). q.placement) (option_map (replaced id placement) o) ≡ option_map
+        (λ (q : Placed). q.placement) o
     by None is = refl
-    by (Some p) is = ap (λ (b : Bool). Some ((cond b (record p { placement = place }) p).placement))
+    by (Some p) is = ap (λ (b : Bool). Some ((cond b (record p { placement = placement }) p).placement))
         (ne_eqb p.id id (λ e. ne (sym (entry_id j p s.placed is) ∙ e)))
 
-pub place_put_same : (id : ℕ) (place : Placement) (s : State) (p : Placement) → placement_of id s ≡ Some p
-    → placement_of id (put_at id place s) ≡ Some place
-place_put_same id place s p known =
-    ap (option_map (λ (q : Placed). q.placement)) (entry_replaced id id place s.placed)
+pub placement_put_same : (id : ℕ) (placement : Placement) (s : State) (p : Placement) → placement_of id s ≡ Some p
+    → placement_of id (put_at id placement s) ≡ Some placement
+placement_put_same id placement s p known =
+    ap (option_map (λ (q : Placed). q.placement)) (entry_replaced id id placement s.placed)
     ∙ by (entry id s.placed) refl known
   where
     by : (o : Option Placed) → entry id s.placed ≡ o → option_map (λ (q : Placed). q.placement) o ≡ Some p
-        → option_map (λ (q : Placed). q.placement) (option_map (replaced id place) o) ≡ Some place
+        → option_map (λ (q : Placed). q.placement) (option_map (replaced id placement) o) ≡ Some placement
     by None is e = absurd (cc)
-    by (Some q) is e = ap (λ (b : Bool). Some ((cond b (record q { placement = place }) q).placement))
+    by (Some q) is e = ap (λ (b : Bool). Some ((cond b (record q { placement = placement }) q).placement))
         (eq-eqb q.id id (entry_id id q s.placed is))
 
 abbrev pub kept : Bool → Placed → List Placed → List Placed
@@ -135,8 +138,8 @@ entry_forgotten id j (p ∷ ps) ne = dite (ℕ_discrete p.id id)
     (λ far. ap (λ (b : Bool). entry j (kept (not b) p (filter (λ q. not (q.id == id)) ps))) (ne_eqb p.id id far)
     ∙ ap (with_entry (p.id == j) p) (entry_forgotten id j ps ne))
 
-pub place_forgotten_other : (id j : ℕ) (s : State) → j ≢ id → placement_of j (forgotten id s) ≡ placement_of j s
-place_forgotten_other id j s ne = ap (option_map (λ (q : Placed). q.placement)) (entry_forgotten id j s.placed ne)
+pub placement_forgotten_other : (id j : ℕ) (s : State) → j ≢ id → placement_of j (forgotten id s) ≡ placement_of j s
+placement_forgotten_other id j s ne = ap (option_map (λ (q : Placed). q.placement)) (entry_forgotten id j s.placed ne)
 
 entry_forgot : (id : ℕ) (ps : List Placed) → entry id (filter (λ p. not (p.id == id)) ps) ≡ None
 entry_forgot id [] = refl
@@ -146,19 +149,19 @@ entry_forgot id (p ∷ ps) = dite (ℕ_discrete p.id id)
     (λ far. ap (λ (b : Bool). entry id (kept (not b) p (filter (λ q. not (q.id == id)) ps))) (ne_eqb p.id id far)
     ∙ entry_rest id p (filter (λ q. not (q.id == id)) ps) far ∙ entry_forgot id ps)
 
-pub place_forgotten : (id : ℕ) (s : State) → placement_of id (forgotten id s) ≡ None
-place_forgotten id s = ap (option_map (λ (q : Placed). q.placement)) (entry_forgot id s.placed)
+pub placement_forgotten : (id : ℕ) (s : State) → placement_of id (forgotten id s) ≡ None
+placement_forgotten id s = ap (option_map (λ (q : Placed). q.placement)) (entry_forgot id s.placed)
 
--- the place of an id that isn't known stays unknown
-pub place_known : (id : ℕ) (s : State) (p : Placement) → RiseTo 0 s.placed s.last_id → placement_of id s ≡ Some p
+-- the placement of an id that isn't known stays unknown
+pub placement_known : (id : ℕ) (s : State) (p : Placement) → RiseTo 0 s.placed s.last_id → placement_of id s ≡ Some p
     → (0 < id) × (id ≤ s.last_id)
-place_known id s p rise is = by (entry id s.placed) refl is
+placement_known id s p rise is = by (entry id s.placed) refl is
   where
     by : (o : Option Placed) → entry id s.placed ≡ o → option_map (λ (q : Placed). q.placement) o ≡ Some p
         → (0 < id) × (id ≤ s.last_id)
     by None at e = absurd (cc)
     by (Some q) at e = entry_within 0 s.last_id id s.placed rise q at
 
-pub place_new : (s : State) → RiseTo 0 s.placed s.last_id → placement_of (s.last_id + 1) s ≡ None
-place_new s rise = ap (option_map (λ (q : Placed). q.placement)) (entry_above 0 s.last_id (s.last_id + 1) s.placed rise (omega
+pub placement_new : (s : State) → RiseTo 0 s.placed s.last_id → placement_of (s.last_id + 1) s ≡ None
+placement_new s rise = ap (option_map (λ (q : Placed). q.placement)) (entry_above 0 s.last_id (s.last_id + 1) s.placed rise (omega
     arith))

@@ -15,7 +15,7 @@ use Rattle.cyc_model.specs.Script.{run_on, run_of, start, names_of}
 use Rattle.cyc_model.specs.Laws.{RiseTo}
 use Rattle.cyc_model.specs.Numbers.{ReportsAddUp, answer, answer_if_gone, poll_lines, RemovesTellCalls, PollsTellCalls}
 use Rattle.cyc_model.specs.Numbers.{NothingFollowsRemoval}
-use Rattle.cyc_model.proofs.Placing.{place_forgotten, entry}
+use Rattle.cyc_model.proofs.Placing.{placement_forgotten, entry}
 use Rattle.cyc_model.proofs.Base.{IsAt, IsGone}
 use Rattle.cyc_model.proofs.Numbers.{Has, RiseFrom, has_above}
 use Rattle.cyc_model.proofs.Refusing.{none_first, not_when, not_not}
@@ -45,8 +45,8 @@ reports_add_up indexes script name =
 
 -- ---- removals
 
-known_place : (id : ℕ) (s t : State) → t.placed ≡ s.placed → placement_of id t ≡ placement_of id s
-known_place id s t same = ap (λ ps. option_map (λ (p : Placed). p.placement) (entry id ps)) same
+known_placement : (id : ℕ) (s t : State) → t.placed ≡ s.placed → placement_of id t ≡ placement_of id s
+known_placement id s t same = ap (λ ps. option_map (λ (p : Placed). p.placement) (entry id ps)) same
 
 unknown_not : (id : ℕ) (s : State) → IsSome (placement_of id s) → is_no_cyclic id s ≡ true → ⊥
 unknown_not id s known is = let a : is_no_cyclic id s ≡ false = ap not known in let no : true ≡ false = sym is ∙ a in absurd (cc)
@@ -67,7 +67,7 @@ removes_tell_calls indexes cpus ceiling texts steps step name text s some is why
         → (begun plain step text id ns o).line ≡ answer step text id (begun plain step text id ns o).state
     by id o known h g [] e gone = ap (removed step text) (calls_answered id s o h e)
     by id o known h g (n ∷ ns) e gone =
-        absurd (unknown_not id o.state (ap is_some (known_place id s o.state h.steady.placed) ∙ known) gone)
+        absurd (unknown_not id o.state (ap is_some (known_placement id s o.state h.steady.placed) ∙ known) gone)
 
 -- ---- polls
 
@@ -103,10 +103,10 @@ one_poll texts step id k s g is =
     by o h silent [] e =
         ap (removed step (text_of_id id texts s.names)) (calls_answered id s o h e)
         ∙ sym (ap (λ (b : Bool). cond b (answer step (text_of_id id texts s.names) id (forgotten id o.state)) [])
-        (ap (λ q. not (is_some q)) (place_forgotten id o.state)))
+        (ap (λ q. not (is_some q)) (placement_forgotten id o.state)))
     by o h silent (n ∷ ns) e =
         silent ∙ sym (ap (λ (b : Bool). cond b (answer step (text_of_id id texts s.names) id o.state) [])
-        (ap not (ap is_some (known_place id s o.state h.steady.placed) ∙ leaving_known s g k id is)))
+        (ap not (ap is_some (known_placement id s o.state h.steady.placed) ∙ leaving_known s g k id is)))
 
 -- a poll leaves the open removals of other ids
 pub polls_keep : (texts : List (List ℕ)) (step id j k : ℕ) (s : State) → Good s → j ≢ id → (cpu_of k s).removal ≡ Some j

@@ -20,7 +20,7 @@ use Rattle.cyc_model.proofs.Rising.{found, found_map, found_gone, found_others, 
 use Rattle.cyc_model.proofs.Stays.{none_and_some, cleared_cpu, done_clear}
 use Rattle.cyc_model.proofs.Leaves.{marked_same, done_mark}
 use Rattle.cyc_model.proofs.Shifts.{shift_mark, shift_clear}
-use Rattle.cyc_model.proofs.Placing.{entry, place_forgotten, place_forgotten_other}
+use Rattle.cyc_model.proofs.Placing.{entry, placement_forgotten, placement_forgotten_other}
 use Rattle.cyc_model.proofs.Base.{IsAt, Base, IsGone, goes_append, goes_nothing, goes_on, base_on, cpu_there, cpu_elsewhere}
 use Rattle.cyc_model.proofs.Base.{expired_on, lost_on, pending_on}
 use Rattle.cyc_model.proofs.Numbers.{Has, has_or_not, numbers_rise, numbers_pass, pass_numbers, Looped, looped}
@@ -218,8 +218,8 @@ module _ (id : ℕ) (s t : State) (g : Good s) (h : Removing id s t) where
       (h.less m (subst (λ k. IsSome (found k (cpu_of m t).cyclics)) e some)))
       (λ ne. sym (h.others j ne m) ∙ some))
 
-  place_after : (j : ℕ) → placement_of j t ≡ placement_of j s
-  place_after j = ap (λ ps. option_map (λ (p : Placed). p.placement) (entry j ps)) h.steady.placed
+  placement_after : (j : ℕ) → placement_of j t ≡ placement_of j s
+  placement_after j = ap (λ ps. option_map (λ (p : Placed). p.placement) (entry j ps)) h.steady.placed
 
   -- where a CPU still has the cyclic
   pub good_kept : (k : ℕ) → IsSome (found id (cpu_of k t).cyclics) → Good t
@@ -239,10 +239,10 @@ module _ (id : ℕ) (s t : State) (g : Good s) (h : Removing id s t) where
           let k_is : m ≡ k = subst (λ o. IsAt k o) same at in
           subst (λ i. IsSome (found i (cpu_of m t).cyclics)) (sym e)
           (subst (λ i. IsSome (found id (cpu_of i t).cyclics)) (sym k_is) some))
-          (λ ne. h.others j ne m ∙ g.spread.home j m bound (sym (place_after j) ∙ is));
+          (λ ne. h.others j ne m ∙ g.spread.home j m bound (sym (placement_after j) ∙ is));
       stands = λ j e is. dite (ℕ_discrete j id)
           (λ q. subst (λ i. Stands i t) (sym q) (inr (h.leaving, (k, some))))
-          (λ ne. stands_else j ne (g.spread.stands j e (sym (place_after j) ∙ is)));
+          (λ ne. stands_else j ne (g.spread.stands j e (sym (placement_after j) ∙ is)));
     };
   }
 
@@ -254,7 +254,7 @@ module _ (id : ℕ) (s t : State) (g : Good s) (h : Removing id s t) where
       homes = λ m j some. dite (ℕ_discrete j id)
           (λ e. none_and_some (IsAt m (placement_of j (forgotten id t))) (found j (cpu_of m t).cyclics)
           (ap (λ (k : ℕ). found k (cpu_of m t).cyclics) e ∙ away m) some)
-          (λ ne. subst (λ o. IsAt m o) (sym (place_forgotten_other id j t ne)) (h.steady.base.homes m j some));
+          (λ ne. subst (λ o. IsAt m o) (sym (placement_forgotten_other id j t ne)) (h.steady.base.homes m j some));
       rise = rise_filter (λ p. not (p.id == id)) 0 t.last_id t.placed h.steady.base.rise;
       few = h.steady.base.few;
       books = h.steady.base.books;
@@ -269,12 +269,14 @@ module _ (id : ℕ) (s t : State) (g : Good s) (h : Removing id s t) where
       there = there_after;
       home = λ j m bound is. dite (ℕ_discrete j id)
           (λ e. none_some (IsSome (found j (cpu_of m t).cyclics)) (On m bound) (placement_of j (forgotten id t))
-          (ap (λ (k : ℕ). placement_of k (forgotten id t)) e ∙ place_forgotten id t) is)
-          (λ ne. h.others j ne m ∙ g.spread.home j m bound (sym (place_after j) ∙ sym (place_forgotten_other id j t ne) ∙ is));
+          (ap (λ (k : ℕ). placement_of k (forgotten id t)) e ∙ placement_forgotten id t) is)
+          (λ ne. h.others j ne m ∙ g.spread.home j m bound (sym (placement_after j) ∙ sym (placement_forgotten_other id j t ne)
+          ∙ is));
       stands = λ j e is. dite (ℕ_discrete j id)
           (λ q. none_some (Stands j (forgotten id t)) (OnAll e) (placement_of j (forgotten id t))
-          (ap (λ (k : ℕ). placement_of k (forgotten id t)) q ∙ place_forgotten id t) is)
-          (λ ne. stands_else j ne (g.spread.stands j e (sym (place_after j) ∙ sym (place_forgotten_other id j t ne) ∙ is)));
+          (ap (λ (k : ℕ). placement_of k (forgotten id t)) q ∙ placement_forgotten id t) is)
+          (λ ne. stands_else j ne (g.spread.stands j e (sym (placement_after j) ∙ sym (placement_forgotten_other id j t ne)
+          ∙ is)));
     };
   }
 
@@ -282,8 +284,8 @@ pub forgotten_gone : (id j : ℕ) (t : State) → IsGone j t → IsGone j (forgo
 forgotten_gone id j t gone = (
   gone.0,
   dite (ℕ_discrete j id)
-      (λ e. ap (λ (k : ℕ). placement_of k (forgotten id t)) e ∙ place_forgotten id t)
-      (λ ne. place_forgotten_other id j t ne ∙ gone.1),
+      (λ e. ap (λ (k : ℕ). placement_of k (forgotten id t)) e ∙ placement_forgotten id t)
+      (λ ne. placement_forgotten_other id j t ne ∙ gone.1),
 )
 
 -- the CPUs that have the cyclic

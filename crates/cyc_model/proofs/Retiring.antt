@@ -230,8 +230,8 @@ module _ (n other : ℕ) (s : State) (g : Good s) (within : n < length s.cpus) (
   same_u : (m : ℕ) → m ≢ n → cpu_of m u ≡ cpu_of m s
   same_u m ne = switch_elsewhere false n t within_t gone_all.base m ne ∙ gone_all.elsewhere m ne
 
-  place_u : (j : ℕ) → placement_of j u ≡ placement_of j s
-  place_u j = ap (λ ps. option_map (λ (p : Placed). p.placement) (entry j ps)) gone_all.placed
+  placement_u : (j : ℕ) → placement_of j u ≡ placement_of j s
+  placement_u j = ap (λ ps. option_map (λ (p : Placed). p.placement) (entry j ps)) gone_all.placed
 
   -- a cyclic that is on one CPU isn't on this one
   not_home : (j : ℕ) (bound : Bool) → placement_of j s ≡ Some (On n bound) → ⊥
@@ -256,7 +256,7 @@ module _ (n other : ℕ) (s : State) (g : Good s) (within : n < length s.cpus) (
     there = λ m j some. dite (ℕ_discrete m n)
         (λ e. absurd (empty_u j (subst (λ k. IsSome (found j (cpu_of k u).cyclics)) e some)))
         (λ ne. ap (λ (c : Cpu). c.online) (same_u m ne) ∙ g.spread.there m j (subst (λ o. IsSome o) (view_u j m ne) some));
-    home = λ j m bound is. let was = sym (place_u j) ∙ is in
+    home = λ j m bound is. let was = sym (placement_u j) ∙ is in
         subst (λ o. IsSome o) (sym (view_u j m (home_far j m bound was))) (g.spread.home j m bound was);
     stands = λ j e is. ⊎_elim
         (λ full. inl (
@@ -278,7 +278,7 @@ module _ (n other : ℕ) (s : State) (g : Good s) (within : n < length s.cpus) (
               (sym (ap (λ (k : ℕ). (cpu_of k s).removal) q) ∙ leave.0 leave.1.0 leave.1.1))
               (λ ne. (leave.1.0, subst (λ o. IsSome o) (sym (view_u j leave.1.0 ne)) leave.1.1)),
         ))
-        (g.spread.stands j e (sym (place_u j) ∙ is));
+        (g.spread.stands j e (sym (placement_u j) ∙ is));
   }
     where
       removal_u : (cpu_of n u).removal ≡ None
@@ -288,15 +288,15 @@ module _ (n other : ℕ) (s : State) (g : Good s) (within : n < length s.cpus) (
   kept_u = record {
     ids = ap (λ ps. map (λ (p : Placed). p.id) ps) gone_all.placed;
     cyclics = λ j single. (
-      ap is_placed_everywhere (place_u j) ∙ single,
-      ap (λ o. cyclic_with_id j (cpu_of (home_at o) u)) (place_u j) ∙ by j (placement_of j s) refl single,
+      ap is_placed_everywhere (placement_u j) ∙ single,
+      ap (λ o. cyclic_with_id j (cpu_of (home_at o) u)) (placement_u j) ∙ by j (placement_of j s) refl single,
     );
     counts = λ j. switch_counts false n t within_t gone_all.base j ∙ gone_all.counts j;
   }
     where
       -- a gone id is nowhere
       nowhere : (j m : ℕ) → placement_of j s ≡ None → cyclic_with_id j (cpu_of m u) ≡ cyclic_with_id j (cpu_of m s)
-      nowhere j m none = gone_away None u (switch_base false n t within_t gone_all.base) j (place_u j ∙ none) m
+      nowhere j m none = gone_away None u (switch_base false n t within_t gone_all.base) j (placement_u j ∙ none) m
           ∙ sym (gone_away None s g.base j none m)
 
       by : (j : ℕ) (o : Option Placement) → placement_of j s ≡ o → is_placed_everywhere (placement_of j s) ≡ false

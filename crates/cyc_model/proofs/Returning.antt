@@ -38,7 +38,7 @@ use Rattle.cyc_model.proofs.Stays.{done_place, placed_cyclics, placed_removal, p
 use Rattle.cyc_model.proofs.Totals.{carried, expired_of, lost_of, expired_in, lost_in, pending_in, balanced_again, again_expired}
 use Rattle.cyc_model.proofs.Totals.{again_lost}
 use Rattle.cyc_model.proofs.Shifts.{Shift, shift_place, shift_widen}
-use Rattle.cyc_model.proofs.Placing.{entry, with_entry, place_known}
+use Rattle.cyc_model.proofs.Placing.{entry, with_entry, placement_known}
 use Rattle.cyc_model.proofs.Base.{IsAt, Base, Goes, goes_append, goes_nothing, goes_from, goes_to, goes_on, base_on, cpu_there}
 use Rattle.cyc_model.proofs.Base.{cpu_elsewhere, expired_on, lost_on, pending_on, gone_away}
 use Rattle.cyc_model.proofs.Numbers.{not_leaving}
@@ -179,12 +179,12 @@ returned indexes n low high (p ∷ ps) s within b rise fits ready =
     let all = ready.0.0 in let e = all.0 in
     let at : placement_of p.id s ≡ Some (OnAll e) = ready.0.1 ∙ ap Some all.1 in
     let new = ready.0.2 in
-    let known = place_known p.id s (OnAll e) b.rise at in
+    let known = placement_known p.id s (OnAll e) b.rise at in
     let few = b.few in let k0 = known.0 in let k1 = known.1 in
     let is_id : IsId p.id = (k0, omega (arith, k1, few)) in
     let room : length (cpu_of n s).cyclics + 1 ≤ (cpu_of n s).size = omega (arith, fits) in
     let o = return_here indexes n p.id (OnAll e) s in
-    let same : return_of indexes n p s ≡ o = ap (λ place. return_here indexes n p.id place s) all.1 in
+    let same : return_of indexes n p s ≡ o = ap (λ placement. return_here indexes n p.id placement s) all.1 in
     let t = o.state in
     let goes = back_goes indexes n p.id e s within b new is_id room at in
     let there = back_there indexes n p.id e s within b new is_id room at in
@@ -333,8 +333,8 @@ module _ (indexes : ℕ → ℕ) (n : ℕ) (s : State) (g : Good s) (within : n 
   view_v : (j m : ℕ) → m ≢ n → found j (cpu_of m v).cyclics ≡ found j (cpu_of m s).cyclics
   view_v j m ne = ap (λ (c : Cpu). found j c.cyclics) (same_v m ne)
 
-  place_v : (j : ℕ) → placement_of j v ≡ placement_of j s
-  place_v j = ap (λ ps. option_map (λ (p : Placed). p.placement) (entry j ps)) all_back.1.placed
+  placement_v : (j : ℕ) → placement_of j v ≡ placement_of j s
+  placement_v j = ap (λ ps. option_map (λ (p : Placed). p.placement) (entry j ps)) all_back.1.placed
 
   removal_v : (cpu_of n v).removal ≡ None
   removal_v = ap (λ (c : Cpu). c.removal) there_v ∙ all_back.1.removal ∙ ap (λ (c : Cpu). c.removal) there_t
@@ -362,9 +362,9 @@ module _ (indexes : ℕ → ℕ) (n : ℕ) (s : State) (g : Good s) (within : n 
     there = λ m j some. dite (ℕ_discrete m n)
         (λ q. ap (λ (k : ℕ). (cpu_of k v).online) q ∙ ap (λ (c : Cpu). c.online) there_v)
         (λ ne. ap (λ (c : Cpu). c.online) (same_v m ne) ∙ g.spread.there m j (subst (λ o. IsSome o) (view_v j m ne) some));
-    home = λ j m bound is. let was = sym (place_v j) ∙ is in
+    home = λ j m bound is. let was = sym (placement_v j) ∙ is in
         subst (λ o. IsSome o) (sym (view_v j m (home_far j m bound was))) (g.spread.home j m bound was);
-    stands = λ j e is. let was = sym (place_v j) ∙ is in ⊎_elim
+    stands = λ j e is. let was = sym (placement_v j) ∙ is in ⊎_elim
         (λ full. inl (
           (λ m on_m. dite (ℕ_discrete m n)
               (λ q. subst (λ k. IsSome (found j (cpu_of k v).cyclics)) (sym q)
@@ -394,14 +394,14 @@ module _ (indexes : ℕ → ℕ) (n : ℕ) (s : State) (g : Good s) (within : n 
   kept_v = record {
     ids = ap (λ ps. map (λ (p : Placed). p.id) ps) all_back.1.placed;
     cyclics = λ j single. (
-      ap is_placed_everywhere (place_v j) ∙ single,
-      ap (λ o. cyclic_with_id j (cpu_of (home_at o) v)) (place_v j) ∙ by j (placement_of j s) refl single,
+      ap is_placed_everywhere (placement_v j) ∙ single,
+      ap (λ o. cyclic_with_id j (cpu_of (home_at o) v)) (placement_v j) ∙ by j (placement_of j s) refl single,
     );
     counts = λ j. switch_counts true n u within_u all_back.1.base j ∙ all_back.1.counts j ∙ counts_t j;
   }
     where
       nowhere : (j m : ℕ) → placement_of j s ≡ None → cyclic_with_id j (cpu_of m v) ≡ cyclic_with_id j (cpu_of m s)
-      nowhere j m none = gone_away None v (switch_base true n u within_u all_back.1.base) j (place_v j ∙ none) m
+      nowhere j m none = gone_away None v (switch_base true n u within_u all_back.1.base) j (placement_v j ∙ none) m
           ∙ sym (gone_away None s g.base j none m)
 
       by : (j : ℕ) (o : Option Placement) → placement_of j s ≡ o → is_placed_everywhere (placement_of j s) ≡ false

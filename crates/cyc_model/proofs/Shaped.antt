@@ -190,8 +190,8 @@ module _ (indexes : ℕ → ℕ) (P : List Act → ℕ → ℕ → Type 0) (calm
   shaped_return : (n : ℕ) (p : Placed) → Shaped (return_of indexes n p)
   shaped_return n p s = by p.placement
     where
-      by : (place : Placement) → P (return_here indexes n p.id place s).acts s.admissions
-          (return_here indexes n p.id place s).state.admissions
+      by : (placement : Placement) → P (return_here indexes n p.id placement s).acts s.admissions
+          (return_here indexes n p.id placement s).state.admissions
       by (On m bound) = none s.admissions
       by (OnAll e) = admit n p.id s.admissions e.level
 

@@ -1,4 +1,4 @@
--- A CPU with fewer cyclics than places has an index to spare at each soft level.
+-- A CPU with fewer cyclics than slots has an index to spare at each soft level.
 use Rattle.std.proofs.Common.{◌≡◌, ◌≢◌, ℕ, zero, suc, ◌+◌, ◌<◌, ◌==◌, eq-eqb, ne_eqb, Bool, true, false, cond, List, [], ◌∷◌}
 use Rattle.std.proofs.Common.{length, map, Option, Some, None, refl, ap, sym, ◌∙◌, arith}
 use Rattle.std.specs.Prelude.{IsSome, is_some}

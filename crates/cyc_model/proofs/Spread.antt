@@ -65,13 +65,13 @@ stands_still j s t h = ⊎_elim
 
 pub spread_view : (s t : State) → length t.cpus ≡ length s.cpus → ((j : ℕ) → placement_of j t ≡ placement_of j s)
     → ((m : ℕ) → SameView (cpu_of m s) (cpu_of m t)) → Spread s → Spread t
-spread_view s t len place view h = record {
+spread_view s t len placement view h = record {
   some = (h.some.0, subst (λ k. h.some.0 < k) (sym len) h.some.1, (view h.some.0).online ∙ h.some.2);
   there = λ n j some. (view n).online ∙ h.there n j (sym ((view n).ids j) ∙ some);
-  home = λ j n bound is. (view n).ids j ∙ h.home j n bound (sym (place j) ∙ is);
+  home = λ j n bound is. (view n).ids j ∙ h.home j n bound (sym (placement j) ∙ is);
   stands = λ j e is. stands_still j s t
       (record { ids = λ m. (view m).ids j; removal = λ m. (view m).removal; online = λ m. (view m).online })
-      (h.stands j e (sym (place j) ∙ is));
+      (h.stands j e (sym (placement j) ∙ is));
 }
 
 -- a CPU with a cyclic is there

@@ -177,11 +177,11 @@ does_stay j e s is closed = by (entry j s.placed) refl is
         → IsSome (entry j (staying_omni s))
     by None at h = absurd (cc)
     by (Some p) at h =
-        let place : p.placement ≡ OnAll e = some_same p.placement (OnAll e) h in
+        let placement : p.placement ≡ OnAll e = some_same p.placement (OnAll e) h in
         let one = entry_filter (λ q. not (is_being_removed q.id s)) j p s.placed at
         (ap (λ (k : ℕ). not (is_being_removed k s)) (entry_id j p s.placed at) ∙ ap not closed) in
         ap is_some (entry_filter (λ q. is_on_all q.placement) j p (filter (λ q. not (is_being_removed q.id s)) s.placed) one
-        (ap is_on_all place))
+        (ap is_on_all placement))
 
 each_found : (P : Placed → Type 0) (j : ℕ) (p : Placed) (ps : List Placed) → Each P ps → entry j ps ≡ Some p → P p
 each_found P j p [] h is = absurd (cc)

@@ -159,7 +159,7 @@ offline_still q indexes step n s = by (single_ids_of n j.outcome.state)
 pub still_offline : (indexes : ℕ → ℕ) (step n : ℕ) → IsStill (offline plain indexes step n)
 still_offline = offline_still plain
 
-still_return : (indexes : ℕ → ℕ) (n id : ℕ) (place : Placement) → IsStill (return_here indexes n id place)
+still_return : (indexes : ℕ → ℕ) (n id : ℕ) (placement : Placement) → IsStill (return_here indexes n id placement)
 still_return indexes n id (On m bound) s = still_same s
 still_return indexes n id (OnAll e) s = record { clock = refl; suspended = refl; names = refl; last = refl }
 

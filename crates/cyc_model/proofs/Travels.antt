@@ -27,7 +27,7 @@ use Rattle.cyc_model.proofs.Stays.{none_and_some}
 use Rattle.cyc_model.proofs.Leaves.{marked_cpu, done_take, taken_cpu}
 use Rattle.cyc_model.proofs.Totals.{carried, expired_of, lost_of, expired_in, lost_in, pending_in}
 use Rattle.cyc_model.proofs.Shifts.{Shift, shift_take, shift_enter, take_losses, enter_losses}
-use Rattle.cyc_model.proofs.Placing.{place_put_same, place_put_other, place_known}
+use Rattle.cyc_model.proofs.Placing.{placement_put_same, placement_put_other, placement_known}
 use Rattle.cyc_model.proofs.Base.{IsAt, Base, IsGone, Goes, goes_append, goes_from, goes_on, base_on, cpu_there, cpu_elsewhere}
 use Rattle.cyc_model.proofs.Base.{expired_on, lost_on, pending_on}
 use Rattle.cyc_model.proofs.Spread.{Spread, Good, stands_still, is_there}
@@ -57,11 +57,12 @@ kept_then s t u one two = record {
   counts = λ id. two.counts id ∙ one.counts id;
 }
 
-replaced_ids : (id : ℕ) (place : Placement) (ps : List Placed) → map (λ p. p.id) (map (replaced id place) ps) ≡ map (λ p. p.id) ps
-replaced_ids id place [] = refl
-replaced_ids id place (p ∷ ps) =
-    ap (λ (k : ℕ). k ∷ map (λ (q : Placed). q.id) (map (replaced id place) ps)) (replaced_id id place p)
-    ∙ ap (λ ns. p.id ∷ ns) (replaced_ids id place ps)
+replaced_ids : (id : ℕ) (placement : Placement) (ps : List Placed)
+    → map (λ p. p.id) (map (replaced id placement) ps) ≡ map (λ p. p.id) ps
+replaced_ids id placement [] = refl
+replaced_ids id placement (p ∷ ps) =
+    ap (λ (k : ℕ). k ∷ map (λ (q : Placed). q.id) (map (replaced id placement) ps)) (replaced_id id placement p)
+    ∙ ap (λ ns. p.id ∷ ns) (replaced_ids id placement ps)
 
 -- it is put down as on the CPU where it is already
 pub kept_put : (id n : ℕ) (bound was : Bool) (s : State) → placement_of id s ≡ Some (On n was) → Kept s (put_at id (On n bound) s)
@@ -69,13 +70,13 @@ kept_put id n bound was s at = record {
   ids = replaced_ids id (On n bound) s.placed;
   cyclics = λ j single. dite (ℕ_discrete j id)
       (λ e. let here = ap (λ (k : ℕ). placement_of k (put_at id (On n bound) s)) e
-      ∙ place_put_same id (On n bound) s (On n was) at in
+      ∙ placement_put_same id (On n bound) s (On n was) at in
       let there = ap (λ (k : ℕ). placement_of k s) e ∙ at in (
         ap is_placed_everywhere here,
         ap (λ o. cyclic_with_id j (cpu_of (home_at o) s)) (here ∙ by)
             ∙ sym (ap (λ o. cyclic_with_id j (cpu_of (home_at o) s)) there),
       ))
-      (λ ne. let same = place_put_other id j (On n bound) s ne in
+      (λ ne. let same = placement_put_other id j (On n bound) s ne in
       (ap is_placed_everywhere same ∙ single, ap (λ o. cyclic_with_id j (cpu_of (home_at o) s)) same));
   counts = λ j. refl;
 }
@@ -155,13 +156,13 @@ module _ (indexes : ℕ → ℕ) (id source target : ℕ) (s : State) (g : Good 
   goes1 : Goes (on_number source (take_here source id) s).acts s t1
   goes1 = goes_on source (take_here source id) (λ j. 0) s here taken None g.base (local_take source id) (λ j no. refl)
 
-  place1 : placement_of id t2 ≡ Some (On target (is_bound id t1))
-  place1 = place_put_same id (On target (is_bound id t1)) t1 (On source bound) at
+  placement1 : placement_of id t2 ≡ Some (On target (is_bound id t1))
+  placement1 = placement_put_same id (On target (is_bound id t1)) t1 (On source bound) at
 
   gone1 : (j : ℕ) → IsGone j t1 → IsGone j t2
   gone1 j gone = (
     gone.0,
-    place_put_other id j (On target (is_bound id t1)) t1
+    placement_put_other id j (On target (is_bound id t1)) t1
         (λ e. none_some ⊥ (On source bound) (placement_of j t1) gone.1 (ap (λ (k : ℕ). placement_of k t1) e ∙ at)) ∙ gone.1,
   )
 
@@ -188,7 +189,8 @@ module _ (indexes : ℕ → ℕ) (id source target : ℕ) (s : State) (g : Good 
       homes = λ m j some. dite (ℕ_discrete j id)
           (λ e. none_and_some (IsAt m (placement_of j t2)) (found j (cpu_of m t1).cyclics)
           (ap (λ (k : ℕ). found k (cpu_of m t1).cyclics) e ∙ away1 m) some)
-          (λ ne. subst (λ o. IsAt m o) (sym (place_put_other id j (On target (is_bound id t1)) t1 ne)) (base1.homes m j some));
+          (λ ne. subst (λ o. IsAt m o) (sym (placement_put_other id j (On target (is_bound id t1)) t1 ne))
+          (base1.homes m j some));
       rise = rise_map 0 s.last_id id (On target (is_bound id t1)) s.placed g.base.rise;
       few = g.base.few;
       books = base1.books;
@@ -201,14 +203,14 @@ module _ (indexes : ℕ → ℕ) (id source target : ℕ) (s : State) (g : Good 
     new2 = ap (λ (k : ℕ). found k (cpu_of target t1).cyclics) x_id ∙ away1 target
 
     is_id2 : IsId x.timer.id
-    is_id2 = let k = place_known id s (On source bound) g.base.rise at in let few = g.base.few in
+    is_id2 = let k = placement_known id s (On source bound) g.base.rise at in let few = g.base.few in
         let a = k.0 in let b = k.1 in let e = x_id in (omega (arith, a, e), omega (arith, b, few, e))
 
     can2 : CanGrow 1 (cpu_of target t2)
     can2 = subst (λ c. CanGrow 1 c) (sym (other1 target apart)) can
 
     at2 : IsAt target (placement_of x.timer.id t2)
-    at2 = subst (λ o. IsAt target o) (sym (ap (λ (k : ℕ). placement_of k t2) x_id ∙ place1)) refl
+    at2 = subst (λ o. IsAt target o) (sym (ap (λ (k : ℕ). placement_of k t2) x_id ∙ placement1)) refl
 
     abbrev t3 : State
     t3 = (enter indexes target x t2).state
@@ -226,7 +228,7 @@ module _ (indexes : ℕ → ℕ) (id source target : ℕ) (s : State) (g : Good 
     online3 m = enter_online indexes target x t2 within2 base2 new2 is_id2 can2 at2 m ∙ online1 m
 
     places3 : (j : ℕ) → j ≢ id → placement_of j t3 ≡ placement_of j s
-    places3 j ne = place_put_other id j (On target (is_bound id t1)) t1 ne
+    places3 j ne = placement_put_other id j (On target (is_bound id t1)) t1 ne
 
     found3 : found id (cpu_of target t3).cyclics ≡ Some x
     found3 = ap (λ cs. found id cs) (enter_there indexes target x t2 within2 base2 new2 is_id2 can2 at2).0
@@ -251,14 +253,15 @@ module _ (indexes : ℕ → ℕ) (id source target : ℕ) (s : State) (g : Good 
           (ap (λ (k : ℕ). found k (cpu_of m t3).cyclics) e ∙ only3 m ne) some))
           (λ ne. online3 m ∙ g.spread.there m j (subst (λ o. IsSome o) (others3 j ne m) some));
       home = λ j m b is_on. dite (ℕ_discrete j id)
-          (λ e. let same : Some (On target (is_bound id t1)) ≡ Some (On m b) = sym (ap (λ (k : ℕ). placement_of k t2) e ∙ place1)
+          (λ e. let same : Some (On target (is_bound id t1)) ≡ Some (On m b) = sym
+          (ap (λ (k : ℕ). placement_of k t2) e ∙ placement1)
           ∙ is_on in
           subst (λ k. IsSome (found j (cpu_of k t3).cyclics)) (ap (λ o. home_at o) same)
           (ap is_some (ap (λ (k : ℕ). found k (cpu_of target t3).cyclics) e ∙ found3)))
           (λ ne. subst (λ o. IsSome o) (sym (others3 j ne m)) (g.spread.home j m b (sym (places3 j ne) ∙ is_on)));
       stands = λ j e is_all. dite (ℕ_discrete j id)
           (λ q. absurd (let no : Some (On target (is_bound id t1))
-          ≡ Some (OnAll e) = sym (ap (λ (k : ℕ). placement_of k t2) q ∙ place1) ∙ is_all in
+          ≡ Some (OnAll e) = sym (ap (λ (k : ℕ). placement_of k t2) q ∙ placement1) ∙ is_all in
           let no2 : false ≡ true = ap is_placed_everywhere no in cc))
           (λ ne. stands_still j s t3 (record { ids = λ m. ap is_some (others3 j ne m); removal = removal3; online = online3 })
           (g.spread.stands j e (sym (places3 j ne) ∙ is_all)));
@@ -271,7 +274,7 @@ module _ (indexes : ℕ → ℕ) (id source target : ℕ) (s : State) (g : Good 
         in record {
           ids = replaced_ids id (On target (is_bound id t1)) s.placed;
           cyclics = λ j single. dite (ℕ_discrete j id)
-              (λ e. let now = ap (λ (k : ℕ). placement_of k t2) e ∙ place1 in let was = ap (λ (k : ℕ). placement_of k s) e
+              (λ e. let now = ap (λ (k : ℕ). placement_of k t2) e ∙ placement1 in let was = ap (λ (k : ℕ). placement_of k s) e
               ∙ at in (
                 ap is_placed_everywhere now,
                 ap (λ o. found j (cpu_of (home_at o) t3).cyclics) now ∙ ap (λ (k : ℕ). found k (cpu_of target t3).cyclics) e
@@ -347,7 +350,7 @@ module _ (indexes : ℕ → ℕ) (id source target : ℕ) (s : State) (g : Good 
       removal = removal3;
       online = online3;
       others = others3;
-      placement = (is_bound id t1, place1);
+      placement = (is_bound id t1, placement1);
       places = places3;
     }
 

@@ -1,4 +1,4 @@
--- Why the step of a script is refused, by the CPUs and the places, and what a refused step does.
+-- Why the step of a script is refused, by the CPUs and the placements, and what a refused step does.
 use Rattle.std.specs.Prelude.{ℕ, ◌+◌, nat_lt, nat_le, not, List, [], ◌∷◌, length, int_lt, ℤ, pos, negsuc, Option, Some, None}
 use Rattle.cyc_types.specs.Limits.{cyclics as most_cyclics, last_id as greatest_id}
 use Rattle.cyc_types.specs.Reasons.{when, first_refusal, busy, only_if}

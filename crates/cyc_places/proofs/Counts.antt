@@ -35,14 +35,14 @@ none_counted zero k d low = absurd (omega (arith, low))
 none_counted (suc n) zero d low = omega arith
 none_counted (suc n) (suc k) d low = none_counted n k d (omega (arith, low))
 
-module _ (rs : List Record) (id : ℕ) (level : Level) (place : Placement) (last : (k : ℕ) (d : Record) → k < length rs
+module _ (rs : List Record) (id : ℕ) (level : Level) (placement : Placement) (last : (k : ℕ) (d : Record) → k < length rs
     → (get_or rs k d).id < id) where
-  pub rises_pushed : HasRisingIds rs → HasRisingIds (rs ++ new_record id level place ∷ [])
-  rises_pushed h i j r s less a b = by (get_either rs (new_record id level place) i r a)
-      (get_either rs (new_record id level place) j s b)
+  pub rises_pushed : HasRisingIds rs → HasRisingIds (rs ++ new_record id level placement ∷ [])
+  rises_pushed h i j r s less a b = by (get_either rs (new_record id level placement) i r a)
+      (get_either rs (new_record id level placement) j s b)
     where
-      by : (slice_get rs i ≡ Some r) ⊎ ((i ≡ length rs) × (r ≡ new_record id level place)) → (slice_get rs j ≡ Some s)
-          ⊎ ((j ≡ length rs) × (s ≡ new_record id level place)) → r.id < s.id
+      by : (slice_get rs i ≡ Some r) ⊎ ((i ≡ length rs) × (r ≡ new_record id level placement)) → (slice_get rs j ≡ Some s)
+          ⊎ ((j ≡ length rs) × (s ≡ new_record id level placement)) → r.id < s.id
       by (inl p) (inl q) = h i j r s less p q
       by (inl p) (inr (e, f)) =
           let l = last i r (slice_get_within rs i r p) in let at = ap (λ (x : Record). x.id) (get_or_from_slice_get rs i r r p) in
@@ -50,17 +50,17 @@ module _ (rs : List Record) (id : ℕ) (level : Level) (place : Placement) (last
       by (inr (e, f)) (inl q) = let l = slice_get_within rs j s q in absurd (omega (arith, l, e, less))
       by (inr (e, f)) (inr (g, h)) = absurd (omega (arith, e, g, less))
 
-  pub counts_pushed : HaveCounts rs → HaveCounts (rs ++ new_record id level place ∷ [])
-  counts_pushed h k r a = by (get_either rs (new_record id level place) k r a)
+  pub counts_pushed : HaveCounts rs → HaveCounts (rs ++ new_record id level placement ∷ [])
+  counts_pushed h k r a = by (get_either rs (new_record id level placement) k r a)
     where
-      by : (slice_get rs k ≡ Some r) ⊎ ((k ≡ length rs) × (r ≡ new_record id level place)) → AreCounts r.ended
+      by : (slice_get rs k ≡ Some r) ⊎ ((k ≡ length rs) × (r ≡ new_record id level placement)) → AreCounts r.ended
       by (inl p) = h k r p
       by (inr (e, f)) = subst (λ (x : Record). AreCounts x.ended) (sym f) (none_counted 16)
 
-  pub all_pushed : HaveAllCounts rs → HaveAllCounts (rs ++ new_record id level place ∷ [])
-  all_pushed h k r a = by (get_either rs (new_record id level place) k r a)
+  pub all_pushed : HaveAllCounts rs → HaveAllCounts (rs ++ new_record id level placement ∷ [])
+  all_pushed h k r a = by (get_either rs (new_record id level placement) k r a)
     where
-      by : (slice_get rs k ≡ Some r) ⊎ ((k ≡ length rs) × (r ≡ new_record id level place)) → length r.ended ≡ 16
+      by : (slice_get rs k ≡ Some r) ⊎ ((k ≡ length rs) × (r ≡ new_record id level placement)) → length r.ended ≡ 16
       by (inl p) = h k r p
       by (inr (e, f)) = ap (λ (x : Record). length x.ended) f
 

@@ -24,22 +24,22 @@ id_in kept = record { id = kept.value.id }
 abbrev pub id_of : RecordId → ℕ
 id_of kept = kept.id
 
-module _ (kept : List (Box Record Global)) (place : ℕ) where
-  -- it is that at the box's place
-  pub at_place : (x : Box Record Global) → place < length (map value kept) → x ≡ get_or kept place x
-      → IsRecord (map value kept) place x.value
-  at_place x here at =
-      let l = length-map kept value in let low : place < length kept = omega (arith, l, here) in
-      slice_get-map value kept place ∙ ap (option_map value) (slice_get_read kept (length kept) place x refl low at)
+module _ (kept : List (Box Record Global)) (position : ℕ) where
+  -- it is that at the box's position
+  pub at_position : (x : Box Record Global) → position < length (map value kept) → x ≡ get_or kept position x
+      → IsRecord (map value kept) position x.value
+  at_position x here at =
+      let l = length-map kept value in let low : position < length kept = omega (arith, l, here) in
+      slice_get-map value kept position ∙ ap (option_map value) (slice_get_read kept (length kept) position x refl low at)
 
 -- what is read of the boxes after one was taken out
-pub map_removed : {A : Type 0} (f : Box Record Global → A) (kept : List (Box Record Global)) (place : ℕ)
-    → map f (remove kept place) ≡ remove (map f kept) place
-map_removed f kept place = map-append f (take place kept) (drop (suc place) kept)
-    ∙ ap (λ xs. xs ++ map f (drop (suc place) kept)) (sym (take-map f place kept))
-    ∙ ap (λ xs. take place (map f kept) ++ xs) (sym (drop-map f (suc place) kept))
+pub map_removed : {A : Type 0} (f : Box Record Global → A) (kept : List (Box Record Global)) (position : ℕ)
+    → map f (remove kept position) ≡ remove (map f kept) position
+map_removed f kept position = map-append f (take position kept) (drop (suc position) kept)
+    ∙ ap (λ xs. xs ++ map f (drop (suc position) kept)) (sym (take-map f position kept))
+    ∙ ap (λ xs. take position (map f kept) ++ xs) (sym (drop-map f (suc position) kept))
 
--- an id that is read is that of the record at its place
+-- an id that is read is that of the record at its position
 module _ (kept : List (Box Record Global)) where
   pub read : (k : ℕ) (d : RecordId) → k < length (map id_in kept)
       → (r : Record) × IsRecord (map value kept) k r × (r.id ≡ (get_or (map id_in kept) k d).id)
@@ -146,30 +146,33 @@ module _ (rs : List Record) (k : ℕ) where
       by (inr (l, p)) = h (suc i) r p
 
 -- a box whose record is written over by another of its id
-module _ (kept : List (Box Record Global)) (place : ℕ) (x y : Box Record Global) (at : IsRecord (map value kept) place x.value)
+module _ (kept : List (Box Record Global)) (position : ℕ) (x y : Box Record Global)
+    (at : IsRecord (map value kept) position x.value)
     (same : y.value.id ≡ x.value.id) where
-  pub box_rises : HasRisingIds (map value kept) → HasRisingIds (map value (set kept place y))
+  pub box_rises : HasRisingIds (map value kept) → HasRisingIds (map value (set kept position y))
   box_rises h =
-      subst HasRisingIds (sym (map-set value kept place y)) (rises_written (map value kept) place x.value y.value at same h)
+      subst HasRisingIds (sym (map-set value kept position y)) (rises_written (map value kept) position x.value y.value at same h)
 
-  pub box_counts : AreCounts y.value.ended → HaveCounts (map value kept) → HaveCounts (map value (set kept place y))
+  pub box_counts : AreCounts y.value.ended → HaveCounts (map value kept) → HaveCounts (map value (set kept position y))
   box_counts fit h =
-      subst HaveCounts (sym (map-set value kept place y)) (counts_written (map value kept) place x.value y.value at same fit h)
+      subst HaveCounts (sym (map-set value kept position y))
+      (counts_written (map value kept) position x.value y.value at same fit h)
 
-  pub box_all : length y.value.ended ≡ 16 → HaveAllCounts (map value kept) → HaveAllCounts (map value (set kept place y))
+  pub box_all : length y.value.ended ≡ 16 → HaveAllCounts (map value kept) → HaveAllCounts (map value (set kept position y))
   box_all long h =
-      subst HaveAllCounts (sym (map-set value kept place y)) (all_written (map value kept) place x.value y.value at same long h)
+      subst HaveAllCounts (sym (map-set value kept position y))
+      (all_written (map value kept) position x.value y.value at same long h)
 
   -- the ids stay
-  pub box_ids : (ids : List RecordId) → ids ≡ map id_in kept → ids ≡ map id_in (set kept place y)
+  pub box_ids : (ids : List RecordId) → ids ≡ map id_in kept → ids ≡ map id_in (set kept position y)
   box_ids ids e =
       let l = length-map kept value in let m = length-map kept id_in in
-      let n = slice_get_within (map value kept) place x.value at in
-      let (r, is, g) = read kept place (id_in y) (omega (arith, l, m, n)) in
-      let it : y.value.id ≡ (get_or (map id_in kept) place (id_in y)).id
+      let n = slice_get_within (map value kept) position x.value at in
+      let (r, is, g) = read kept position (id_in y) (omega (arith, l, m, n)) in
+      let it : y.value.id ≡ (get_or (map id_in kept) position (id_in y)).id
       = same ∙ ap (λ (q : Record). q.id) (same_Some x.value r (sym at ∙ is)) ∙ g in
-      e ∙ sym (set-get_or (map id_in kept) place (id_in y))
-      ∙ ap (λ (n : ℕ). set (map id_in kept) place (record { id = n })) (sym it) ∙ sym (map-set id_in kept place y)
+      e ∙ sym (set-get_or (map id_in kept) position (id_in y))
+      ∙ ap (λ (n : ℕ). set (map id_in kept) position (record { id = n })) (sym it) ∙ sym (map-set id_in kept position y)
 
 -- a look-up among the ids by halves
 module _ (kept : List (Box Record Global)) where
@@ -178,10 +181,10 @@ module _ (kept : List (Box Record Global)) where
       let (r, a, e) = read kept i d (omega (arith, less, low)) in let (s, b, f) = read kept j d low in
       let l = h i j r s less a b in omega (arith, l, e, f)
 
-  pub found_record : (id place : ℕ) → IsAt id_of (map id_in kept) id place
-      → (r : Record) × IsRecord (map value kept) place r × (r.id ≡ id)
-  found_record id place at =
-      let d : RecordId = record { id = id } in let (r, is, e) = read kept place d at.in_range in (r, is, e ∙ at.has_id d)
+  pub found_record : (id position : ℕ) → IsAt id_of (map id_in kept) id position
+      → (r : Record) × IsRecord (map value kept) position r × (r.id ≡ id)
+  found_record id position at =
+      let d : RecordId = record { id = id } in let (r, is, e) = read kept position d at.in_range in (r, is, e ∙ at.has_id d)
 
   pub no_record : (id : ℕ) → All (λ (n : RecordId). n.id ≢ id) (map id_in kept) → HasNoRecord id (map value kept)
   no_record id none k d low same =

@@ -6,7 +6,7 @@ use Rattle.cyc_finder.specs.Sorted.{Rises, IsAt, IsGap}
 use Rattle.cyc_places.specs.declared.records.RecordId.{RecordId}
 use Rattle.cyc_places.proofs.Edits.{id_of}
 
--- the ids of this run stand from that place on, and no other can be this one
+-- the ids of this run stand from that position on, and no other can be this one
 pub record IsRunOf (ids run : List RecordId) (wanted before : ℕ) : Type 0 where
   pub fits : before + length run ≤ length ids
   pub here : (j k : ℕ) (d : RecordId) → k ≡ before + j → j < length run → get_or ids k d ≡ get_or run j d
@@ -48,14 +48,14 @@ module _ (ids run : List RecordId) (wanted before : ℕ) (is : IsRunOf ids run w
       let b = ap id_of (is.here j (before + j) d refl low) in
       let up = rises (before + i) (before + j) d (omega (arith, less)) (omega (arith, fit, low)) in omega (arith, a, b, up)
 
-  pub found_in_run : (place : ℕ) → IsAt id_of run wanted place → IsAt id_of ids wanted (before + place)
-  found_in_run place at = let fit = is.fits in let low = at.in_range in record {
+  pub found_in_run : (position : ℕ) → IsAt id_of run wanted position → IsAt id_of ids wanted (before + position)
+  found_in_run position at = let fit = is.fits in let low = at.in_range in record {
     in_range = omega (arith, fit, low);
-    has_id = λ d. ap id_of (is.here place (before + place) d refl low) ∙ at.has_id d;
+    has_id = λ d. ap id_of (is.here position (before + position) d refl low) ∙ at.has_id d;
   }
 
-  pub absent_in_run : (place : ℕ) → IsGap id_of run wanted place → All (λ (n : RecordId). n.id ≢ wanted) ids
-  absent_in_run place gap k d low same =
+  pub absent_in_run : (position : ℕ) → IsGap id_of run wanted position → All (λ (n : RecordId). n.id ≢ wanted) ids
+  absent_in_run position gap k d low same =
       let under = is.below k d in let over = is.above k d in let j = k - before in
       let here : before ≤ k → k < before + length run → (get_or ids k d).id ≡ (get_or run j d).id
       = λ le less. ap id_of (is.here j k d (omega (arith, le)) (omega (arith, le, less))) in

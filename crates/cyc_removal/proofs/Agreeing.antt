@@ -22,7 +22,7 @@ use Rattle.cyc_removal.specs.Withdrawing.{system, Owns, Withdraws}
 use Rattle.cyc_removal.proofs.Removed.{either, stands_still, left_one, other_left}
 use Rattle.cyc_removal.proofs.Withdrawing.{now_here}
 
--- a place that is not everywhere is one CPU
+-- a placement that is not everywhere is one CPU
 one_home : (p : Placement) (n m : ℕ) → is_everywhere p ≡ false → Stands n p → Stands m p → n ≡ m
 one_home (On k bound) n m e a b = sym a ∙ b
 one_home (Everywhere first skew) n m e a b = absurd (false_true (sym e))
@@ -35,16 +35,16 @@ stands_at (On k own) n m bound e a = sym a ∙ same e
 stands_at (Everywhere first skew) n m bound e a = absurd (let odd : Everywhere first skew ≡ On n bound = e in cc)
 
 -- where a removal is open, it still is wherever its cyclic is
-pub whole_still : {R : Type 0} (id place : ℕ) (v w : CpusView R) (rs rs' : List Record) → LeaveWhole v
-    → Withdraws id place v w rs rs'
+pub whole_still : {R : Type 0} (id position : ℕ) (v w : CpusView R) (rs rs' : List Record) → LeaveWhole v
+    → Withdraws id position v w rs rs'
     → ((n : ℕ) → has n id w ≡ true → removal_on n w ≡ Some id) → LeaveWhole w
-whole_still id place v w rs rs' whole d leaving m n q is h = dite (ℕ_discrete q id)
+whole_still id position v w rs rs' whole d leaving m n q is h = dite (ℕ_discrete q id)
     (λ e. leaving n (ap (λ i. has n i w) (sym e) ∙ h) ∙ ap Some (sym e))
     (λ ne. d.stay_open n q ne (whole m n q (d.were_open m q ne is) (sym (d.others n q ne) ∙ h)))
 
-module _ {R : Type 0} (v w : CpusView R) (rs rs' : List Record) (last id place : ℕ) (a : Agrees (system v rs last))
+module _ {R : Type 0} (v w : CpusView R) (rs rs' : List Record) (last id position : ℕ) (a : Agrees (system v rs last))
     (rising : HasRisingIds rs)
-    (o : Owns id place v rs) (d : Withdraws id place v w rs rs') where
+    (o : Owns id position v rs) (d : Withdraws id position v w rs rs') where
   named : d.before.id ≡ id
   named = ap (λ (r : Record). r.id) (same_some (sym d.was ∙ o.here)) ∙ o.named
 
@@ -55,7 +55,7 @@ module _ {R : Type 0} (v w : CpusView R) (rs rs' : List Record) (last id place :
   stood : (n : ℕ) → has n id w ≡ true → Stands n d.after.placement × (is_online n w ≡ true)
   stood n h = let (k, r, is, own, stands, on) = a.known n id (d.fewer n h) in
       let same : r ≡ d.before = same_some (sym is
-      ∙ subst (λ i. IsRecord rs i d.before) (sym (one_record rs place k d.before r rising d.was is (own ∙ sym named))) d.was)
+      ∙ subst (λ i. IsRecord rs i d.before) (sym (one_record rs position k d.before r rising d.was is (own ∙ sym named))) d.was)
       in (
         subst (λ p. Stands n p) (ap (λ (q : Record). q.placement) same
             ∙ sym d.same_placement) stands,
@@ -65,7 +65,7 @@ module _ {R : Type 0} (v w : CpusView R) (rs rs' : List Record) (last id place :
   was_stood : (n : ℕ) → has n id v ≡ true → Stands n d.after.placement
   was_stood n h = let (k, r, is, own, stands, on) = a.known n id h in
       let same : r ≡ d.before = same_some (sym is
-      ∙ subst (λ i. IsRecord rs i d.before) (sym (one_record rs place k d.before r rising d.was is (own ∙ sym named))) d.was)
+      ∙ subst (λ i. IsRecord rs i d.before) (sym (one_record rs position k d.before r rising d.was is (own ∙ sym named))) d.was)
       in
       subst (λ p. Stands n p) (ap (λ (q : Record). q.placement) same ∙ sym d.same_placement) stands
 
@@ -84,11 +84,12 @@ module _ {R : Type 0} (v w : CpusView R) (rs rs' : List Record) (last id place :
   -- what stays of its counts is bounded
   pub within_still : EndedWithin (system v rs last) → EndedWithin (system w rs' last)
   within_still within k n most q at m = by
-      (either rs place d.before d.after rising d.was k q (subst (λ l. IsRecord l k q) d.records at))
+      (either rs position d.before d.after rising d.was k q (subst (λ l. IsRecord l k q) d.records at))
     where
-      by : ((k ≡ place) × (q ≡ d.after)) ⊎ ((k ≢ place) × IsRecord rs k q × (q.id ≢ d.before.id)) → (ended_on n q).sent ≤ most
+      by : ((k ≡ position) × (q ≡ d.after)) ⊎ ((k ≢ position) × IsRecord rs k q × (q.id ≢ d.before.id))
+          → (ended_on n q).sent ≤ most
       by (inl (e, f)) = subst (λ (r : Record). (ended_on n r).sent ≤ most) (sym f)
-          (d.bounded n most (sym (d.most n) ∙ m) (within place n most d.before d.was (sym (d.most n) ∙ m)))
+          (d.bounded n most (sym (d.most n) ∙ m) (within position n most d.before d.was (sym (d.most n) ∙ m)))
       by (inr (ne, before, other)) = within k n most q before (sym (d.most n) ∙ m)
 
   -- ---- it has not left all of its CPUs
@@ -97,13 +98,13 @@ module _ {R : Type 0} (v w : CpusView R) (rs rs' : List Record) (last id place :
     same_home : (n : ℕ) → is_everywhere d.after.placement ≡ false → has n id v ≡ true → has n id w ≡ true
     same_home n single h = ap (λ i. has i id w) (one_home d.after.placement n m single (was_stood n h) (stood m still).0) ∙ still
 
-    here_known : (n q : ℕ) → has n q w ≡ true → (j : ℕ) × (r : Record) × IsRecord (slice_set rs place d.after) j r × (r.id ≡ q)
+    here_known : (n q : ℕ) → has n q w ≡ true → (j : ℕ) × (r : Record) × IsRecord (slice_set rs position d.after) j r × (r.id ≡ q)
         × Stands n r.placement × (is_online n w ≡ true)
     here_known n q h = dite (ℕ_discrete q id)
         (λ e. let (stands, on) = stood n (ap (λ i. has n i w) (sym e) ∙ h) in (
-          place,
+          position,
           d.after,
-          subst (λ l. IsRecord l place d.after) d.records (now_here id place v w rs rs' d),
+          subst (λ l. IsRecord l position d.after) d.records (now_here id position v w rs rs' d),
           id_now
               ∙ sym e,
           stands,
@@ -112,14 +113,14 @@ module _ {R : Type 0} (v w : CpusView R) (rs rs' : List Record) (last id place :
         (λ ne. let (j, r, at, own, stands, on) = a.known n q (sym (d.others n q ne) ∙ h) in (
           j,
           r,
-          stands_still rs place d.before d.after rising d.was j r at (λ f. ne (sym own ∙ f ∙ named)),
+          stands_still rs position d.before d.after rising d.was j r at (λ f. ne (sym own ∙ f ∙ named)),
           own,
           stands,
           online_same v w n d.online ∙ on,
         ))
 
     Old : ℕ → Record → Type 0
-    Old j q = ((j ≡ place) × (q ≡ d.after)) ⊎ ((j ≢ place) × IsRecord rs j q × (q.id ≢ d.before.id))
+    Old j q = ((j ≡ position) × (q ≡ d.after)) ⊎ ((j ≢ position) × IsRecord rs j q × (q.id ≢ d.before.id))
 
     by_home : (j n : ℕ) (bound : Bool) (q : Record) → Old j q → q.placement ≡ On n bound → has n q.id w ≡ true
     unfolding Old
@@ -143,7 +144,7 @@ module _ {R : Type 0} (v w : CpusView R) (rs rs' : List Record) (last id place :
         here = ap (λ i. has n i w) (sym (ap (λ (y : Record). y.id) f ∙ id_now)) ∙ h
 
         kept : ended_on n d.after ≡ no_counts
-        kept = d.kept n here ∙ a.ended place n d.before d.was (ap (λ i. has n i v) named ∙ d.fewer n here)
+        kept = d.kept n here ∙ a.ended position n d.before d.was (ap (λ i. has n i v) named ∙ d.fewer n here)
     by_ended j n q (inr (ne, at, other)) h = a.ended j n q at (sym (d.others n q.id (apart q other)) ∙ h)
 
     none_ended : (n : ℕ) → is_everywhere d.after.placement ≡ false → ended_on n d.after ≡ no_counts
@@ -153,8 +154,8 @@ module _ {R : Type 0} (v w : CpusView R) (rs rs' : List Record) (last id place :
         was_single = ap (λ p. is_everywhere p) (sym d.same_placement) ∙ single
 
         by : (b : Bool) → has n id v ≡ b → ended_on n d.after ≡ no_counts
-        by true h = d.kept n (same_home n single h) ∙ a.single place n d.before d.was was_single
-        by false h = d.beside n h ∙ a.single place n d.before d.was was_single
+        by true h = d.kept n (same_home n single h) ∙ a.single position n d.before d.was was_single
+        by false h = d.beside n h ∙ a.single position n d.before d.was was_single
 
     by_single : (j n : ℕ) (q : Record) → Old j q → is_everywhere q.placement ≡ false → ended_on n q ≡ no_counts
     unfolding Old
@@ -165,18 +166,18 @@ module _ {R : Type 0} (v w : CpusView R) (rs rs' : List Record) (last id place :
     by_given : (j : ℕ) (q : Record) → Old j q → q.id ≤ last
     unfolding Old
     by_given j q (inl (e, f)) = let g : q.id ≡ d.before.id = ap (λ (y : Record). y.id) f
-        ∙ d.same_id in let l = a.given place d.before d.was in omega (arith, g, l)
+        ∙ d.same_id in let l = a.given position d.before d.was in omega (arith, g, l)
     by_given j q (inr (ne, at, other)) = a.given j q at
 
     pub agrees_leaving : Agrees (system w rs' last)
     unfolding Old
     agrees_leaving = subst (λ l. Agrees (system w l last)) (sym d.records) (record {
       known = here_known;
-      home = λ j n bound q at. by_home j n bound q (either rs place d.before d.after rising d.was j q at);
-      everywhere = λ j n q at. by_everywhere j n q (either rs place d.before d.after rising d.was j q at);
-      ended = λ j n q at. by_ended j n q (either rs place d.before d.after rising d.was j q at);
-      single = λ j n q at. by_single j n q (either rs place d.before d.after rising d.was j q at);
-      given = λ j q at. by_given j q (either rs place d.before d.after rising d.was j q at);
+      home = λ j n bound q at. by_home j n bound q (either rs position d.before d.after rising d.was j q at);
+      everywhere = λ j n q at. by_everywhere j n q (either rs position d.before d.after rising d.was j q at);
+      ended = λ j n q at. by_ended j n q (either rs position d.before d.after rising d.was j q at);
+      single = λ j n q at. by_single j n q (either rs position d.before d.after rising d.was j q at);
+      given = λ j q at. by_given j q (either rs position d.before d.after rising d.was j q at);
       few = subst (λ n. n ≤ 16) (sym d.long) a.few;
       long = ap (λ (l : List Bool). length l) d.online ∙ a.long ∙ sym d.long;
       some = (a.some.0, online_same v w a.some.0 d.online ∙ a.some.1);
@@ -186,25 +187,27 @@ module _ {R : Type 0} (v w : CpusView R) (rs rs' : List Record) (last id place :
 
   -- ---- it has left all of its CPUs, and its record went
   module _ (none : (n : ℕ) → has n id w ≡ false) where
-    left_known : (n q : ℕ) → has n q w ≡ true → (j : ℕ) × (r : Record) × IsRecord (remove (slice_set rs place d.after) place) j r
+    left_known : (n q : ℕ) → has n q w ≡ true → (j : ℕ) × (r : Record)
+        × IsRecord (remove (slice_set rs position d.after) position) j r
         × (r.id ≡ q) × Stands n r.placement × (is_online n w ≡ true)
     left_known n q h = dite (ℕ_discrete q id)
         (λ e. absurd (false_true (sym (none n) ∙ ap (λ i. has n i w) (sym e) ∙ h)))
         (λ ne. let (j, r, at, own, stands, on) = a.known n q (sym (d.others n q ne) ∙ h) in
-        let (i, is) = other_left rs place d.before d.after rising d.was j r at (λ f. ne (sym own ∙ f ∙ named)) in
+        let (i, is) = other_left rs position d.before d.after rising d.was j r at (λ f. ne (sym own ∙ f ∙ named)) in
         (i, r, is, own, stands, online_same v w n d.online ∙ on))
 
-    pub agrees_left : Agrees (system w (remove rs' place) last)
-    agrees_left = subst (λ l. Agrees (system w (remove l place) last)) (sym d.records) (record {
+    pub agrees_left : Agrees (system w (remove rs' position) last)
+    agrees_left = subst (λ l. Agrees (system w (remove l position) last)) (sym d.records) (record {
       known = left_known;
-      home = λ j n bound q at p. (let (i, was, other) = left_one rs place d.before d.after rising d.was j q at in
+      home = λ j n bound q at p. (let (i, was, other) = left_one rs position d.before d.after rising d.was j q at in
           d.others n q.id (apart q other) ∙ a.home i n bound q was p);
-      everywhere = λ j n q at. (let (i, was, other) = left_one rs place d.before d.after rising d.was j q at in
+      everywhere = λ j n q at. (let (i, was, other) = left_one rs position d.before d.after rising d.was j q at in
           others_stay i n q was (apart q other));
-      ended = λ j n q at h. (let (i, was, other) = left_one rs place d.before d.after rising d.was j q at in
+      ended = λ j n q at h. (let (i, was, other) = left_one rs position d.before d.after rising d.was j q at in
           a.ended i n q was (sym (d.others n q.id (apart q other)) ∙ h));
-      single = λ j n q at. (let (i, was, other) = left_one rs place d.before d.after rising d.was j q at in a.single i n q was);
-      given = λ j q at. (let (i, was, other) = left_one rs place d.before d.after rising d.was j q at in a.given i q was);
+      single = λ j n q at. (let (i, was, other) = left_one rs position d.before d.after rising d.was j q at in
+          a.single i n q was);
+      given = λ j q at. (let (i, was, other) = left_one rs position d.before d.after rising d.was j q at in a.given i q was);
       few = subst (λ n. n ≤ 16) (sym d.long) a.few;
       long = ap (λ (l : List Bool). length l) d.online ∙ a.long ∙ sym d.long;
       some = (a.some.0, online_same v w a.some.0 d.online ∙ a.some.1);
@@ -212,20 +215,20 @@ module _ {R : Type 0} (v w : CpusView R) (rs rs' : List Record) (last id place :
       suspended = λ n k p q e f. a.suspended n k p q (sym (d.suspended n) ∙ e) (sym (d.suspended k) ∙ f);
     })
 
-  pub within_left : EndedWithin (system v rs last) → EndedWithin (system w (remove rs' place) last)
+  pub within_left : EndedWithin (system v rs last) → EndedWithin (system w (remove rs' position) last)
   within_left within k n most q at m =
-      let (i, was, other) = left_one rs place d.before d.after rising d.was k q
-      (subst (λ l. IsRecord (remove l place) k q) d.records at) in
+      let (i, was, other) = left_one rs position d.before d.after rising d.was k q
+      (subst (λ l. IsRecord (remove l position) k q) d.records at) in
       within i n most q was (sym (d.most n) ∙ m)
 
 -- the record of a cyclic
-pub owned : {R : Type 0} (v : CpusView R) (rs : List Record) (last id place : ℕ) → Agrees (system v rs last)
-    → ((r : Record) × IsRecord rs place r × (r.id ≡ id)) → Owns id place v rs
-owned v rs last id place a (r, is, own) = record {
+pub owned : {R : Type 0} (v : CpusView R) (rs : List Record) (last id position : ℕ) → Agrees (system v rs last)
+    → ((r : Record) × IsRecord rs position r × (r.id ≡ id)) → Owns id position v rs
+owned v rs last id position a (r, is, own) = record {
   own = r;
   here = is;
   named = own;
-  fresh = λ n h. a.ended place n r is (ap (λ i. has n i v) own ∙ h);
+  fresh = λ n h. a.ended position n r is (ap (λ i. has n i v) own ∙ h);
 }
 
 -- a cyclic on a CPU has a record
@@ -235,20 +238,20 @@ has_record v rs last id n a h none = let (k, r, is, own, stands, on) = a.known n
     none k r (slice_get_within rs k r is) (ap (λ (q : Record). q.id) (get_or_from_slice_get rs k r r is) ∙ own)
 
 -- what holds of every system
-module _ {R : Type 0} (v w : CpusView R) (rs rs' : List Record) (last id place : ℕ) (h : Holds (system v rs last))
+module _ {R : Type 0} (v w : CpusView R) (rs rs' : List Record) (last id position : ℕ) (h : Holds (system v rs last))
     (rising : HasRisingIds rs)
-    (o : Owns id place v rs) (d : Withdraws id place v w rs rs') (leaving : (n : ℕ) → has n id w ≡ true
+    (o : Owns id position v rs) (d : Withdraws id position v w rs rs') (leaving : (n : ℕ) → has n id w ≡ true
     → removal_on n w ≡ Some id) where
   pub holds_leaving : (m : ℕ) → has m id w ≡ true → removal_on m w ≡ Some id → Holds (system w rs' last)
   holds_leaving m here is = record {
-    agrees = agrees_leaving v w rs rs' last id place h.agrees rising o d m here is;
-    whole = whole_still id place v w rs rs' h.whole d leaving;
-    within = within_still v w rs rs' last id place h.agrees rising o d h.within;
+    agrees = agrees_leaving v w rs rs' last id position h.agrees rising o d m here is;
+    whole = whole_still id position v w rs rs' h.whole d leaving;
+    within = within_still v w rs rs' last id position h.agrees rising o d h.within;
   }
 
-  pub holds_left : ((n : ℕ) → has n id w ≡ false) → Holds (system w (remove rs' place) last)
+  pub holds_left : ((n : ℕ) → has n id w ≡ false) → Holds (system w (remove rs' position) last)
   holds_left none = record {
-    agrees = agrees_left v w rs rs' last id place h.agrees rising o d none;
-    whole = whole_still id place v w rs rs' h.whole d leaving;
-    within = within_left v w rs rs' last id place h.agrees rising o d h.within;
+    agrees = agrees_left v w rs rs' last id position h.agrees rising o d none;
+    whole = whole_still id position v w rs rs' h.whole d leaving;
+    within = within_left v w rs rs' last id position h.agrees rising o d h.within;
   }

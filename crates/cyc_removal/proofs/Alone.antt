@@ -31,21 +31,21 @@ use Rattle.cyc_removal.proofs.Agreeing.{owned, has_record, holds_leaving, holds_
 use Rattle.cyc_removal.proofs.Where.{alone, leaving_somewhere, leaving_alone, shut_alone}
 use Rattle.cyc_removal.proofs.Telling.{removal_done, removal_kept, poll_answered, poll_waits}
 
--- the record at this place is of this cyclic, and says that it is on this CPU
-abbrev pub IsAlone : (id place n : ℕ) → List Record → Type 0
-IsAlone id place n rs = (r : Record) × (bound : Bool) × IsRecord rs place r × (r.id ≡ id) × (r.placement ≡ On n bound)
+-- the record at this position is of this cyclic, and says that it is on this CPU
+abbrev pub IsAlone : (id position n : ℕ) → List Record → Type 0
+IsAlone id position n rs = (r : Record) × (bound : Bool) × IsRecord rs position r × (r.id ≡ id) × (r.placement ≡ On n bound)
 
-module _ {R : Type 0} (v : CpusView R) (rs : List Record) (last id place n : ℕ) (a : Agrees (system v rs last))
-    (rising : HasRisingIds rs) (own : IsAlone id place n rs) where
+module _ {R : Type 0} (v : CpusView R) (rs : List Record) (last id position n : ℕ) (a : Agrees (system v rs last))
+    (rising : HasRisingIds rs) (own : IsAlone id position n rs) where
   -- it is there
   pub home_has : has n id v ≡ true
-  home_has = let (r, bound, is, named, home) = own in ap (λ i. has n i v) (sym named) ∙ a.home place n bound r is home
+  home_has = let (r, bound, is, named, home) = own in ap (λ i. has n i v) (sym named) ∙ a.home position n bound r is home
 
   -- and nowhere else
   pub home_only : (m : ℕ) → has m id v ≡ true → m ≡ n
   home_only m there = let (r, bound, is, named, home) = own in let (j, x, at, same, stands, on) = a.known m id there in
       let e : x ≡ r = same_some (sym at
-      ∙ subst (λ i. IsRecord rs i r) (sym (one_record rs place j r x rising is at (same ∙ sym named))) is) in
+      ∙ subst (λ i. IsRecord rs i r) (sym (one_record rs position j r x rising is at (same ∙ sym named))) is) in
       sym (subst (λ p. Stands m p) (ap (λ (y : Record). y.placement) e ∙ home) stands)
 
   pub home_low : n < length v.cpus
@@ -54,15 +54,15 @@ module _ {R : Type 0} (v : CpusView R) (rs : List Record) (last id place n : ℕ
   pub home_few : n < 16
   home_few = let low = home_low in let few = a.few in omega (arith, low, few)
 
-  pub home_owned : Owns id place v rs
-  home_owned = let (r, bound, is, named, home) = own in owned v rs last id place a (r, is, named)
+  pub home_owned : Owns id position v rs
+  home_owned = let (r, bound, is, named, home) = own in owned v rs last id position a (r, is, named)
 
   -- a removal that is open there refuses, and no other does
   pub home_busy : first_refusal (busy_on_each id (system v rs last)) ≡ or_else (busy (removal_on n v)) None
   home_busy = ap (λ ns. first_refusal (map (λ m. busy (removal_on m v)) ns)) (alone id v n home_only home_has)
 
-module _ {R : Type 0} (v w : CpusView R) (rs ss : List Record) (id place n : ℕ) (only : (m : ℕ) → has m id v ≡ true → m ≡ n)
-    (d : Withdraws id place v w rs ss × LeavesAt n id v w) where
+module _ {R : Type 0} (v w : CpusView R) (rs ss : List Record) (id position n : ℕ) (only : (m : ℕ) → has m id v ≡ true → m ≡ n)
+    (d : Withdraws id position v w rs ss × LeavesAt n id v w) where
   -- where it still is, its removal is open
   pub open_alone : (m : ℕ) → has m id w ≡ true → removal_on m w ≡ Some id
   open_alone m h = let e = only m (d.0.fewer m h) in ap (λ k. removal_on k w) e
@@ -88,41 +88,41 @@ unknown_shut view v rs last id a law none = by (list_any (is_leaving_here id) v.
     by true e = let (m, here, is) = leaving_somewhere id v view law e in absurd (has_record v rs last id m a here none)
 
 -- what is asked there about its removal tells of all CPUs
-module _ {R : Type 0} (view : R → FiringView) (v : CpusView R) (rs : List Record) (last id place n : ℕ)
-    (a : Agrees (system v rs last)) (rising : HasRisingIds rs) (own : IsAlone id place n rs)
+module _ {R : Type 0} (view : R → FiringView) (v : CpusView R) (rs : List Record) (last id position n : ℕ)
+    (a : Agrees (system v rs last)) (rising : HasRisingIds rs) (own : IsAlone id position n rs)
     (law : (m : ℕ) (x : CpuView R) → IsCpu m x v → IsLawful view x) (b : Bool)
     (tested : OfCpu n (λ cpu. b ≡ is_leaving_here id cpu) v) where
   spot : (x : CpuView R) × IsCpu n x v
-  spot = get_some v.cpus n (home_low v rs last id place n a rising own)
+  spot = get_some v.cpus n (home_low v rs last id position n a rising own)
 
   pub home_leaving : b ≡ true → (list_any (is_leaving_here id) v.cpus ≡ true) × (leaving_cpus id v ≡ n ∷ [])
   home_leaving is = let (x, at) = spot in let e = sym (tested x at) ∙ is in (
     any_at (is_leaving_here id) v.cpus n x (slice_get_within v.cpus n x at)
         (ap (is_leaving_here id) (get_or_from_slice_get v.cpus n x x at) ∙ e),
-    leaving_alone id v n (home_only v rs last id place n a rising own) view law x at e,
+    leaving_alone id v n (home_only v rs last id position n a rising own) view law x at e,
   )
 
   pub home_shut : b ≡ false → list_any (is_leaving_here id) v.cpus ≡ false
   home_shut is = let (x, at) = spot in
-      shut_alone id v n (home_only v rs last id place n a rising own) view law x at (sym (tested x at) ∙ is)
+      shut_alone id v n (home_only v rs last id position n a rising own) view law x at (sym (tested x at) ∙ is)
 
-module _ {R : Type 0} (firing : Raise R) (v w : CpusView R) (rs ss : List Record) (first id place n : ℕ)
-    (h : Holds (system v rs first)) (rising : HasRisingIds rs) (own : IsAlone id place n rs)
-    (d : Withdraws id place v w rs ss × LeavesAt n id v w) where
+module _ {R : Type 0} (firing : Raise R) (v w : CpusView R) (rs ss : List Record) (first id position n : ℕ)
+    (h : Holds (system v rs first)) (rising : HasRisingIds rs) (own : IsAlone id position n rs)
+    (d : Withdraws id position v w rs ss × LeavesAt n id v w) where
   only : (m : ℕ) → has m id v ≡ true → m ≡ n
-  only = home_only v rs first id place n h.agrees rising own
+  only = home_only v rs first id position n h.agrees rising own
 
-  owns : Owns id place v rs
-  owns = home_owned v rs first id place n h.agrees rising own
+  owns : Owns id position v rs
+  owns = home_owned v rs first id position n h.agrees rising own
 
   low_still : n < length w.cpus
-  low_still = subst (λ k. n < k) (sym d.0.long) (home_low v rs first id place n h.agrees rising own)
+  low_still = subst (λ k. n < k) (sym d.0.long) (home_low v rs first id position n h.agrees rising own)
 
   module _ (law : (m : ℕ) (x : CpuView R) → IsCpu m x w → IsLawful firing.view x) (b : Bool)
       (tested : OfCpu n (λ cpu. b ≡ is_leaving_here id cpu) w) where
     left : b ≡ false → (m : ℕ) → has m id w ≡ false
     left is = let (x, at) = get_some w.cpus n low_still in
-        left_alone v w rs ss id place n only d x at (sym (tested x at) ∙ is)
+        left_alone v w rs ss id position n only d x at (sym (tested x at) ∙ is)
 
     still_here : b ≡ true → (has n id w ≡ true) × (removal_on n w ≡ Some id)
     still_here is = let (x, at) = get_some w.cpus n low_still in let e = is_leaving_open id x (sym (tested x at) ∙ is) in
@@ -132,11 +132,11 @@ module _ {R : Type 0} (firing : Raise R) (v w : CpusView R) (rs ss : List Record
 
     pub holds_open : b ≡ true → Holds (system w ss first)
     holds_open is = let (here, own_removal) = still_here is in
-        holds_leaving v w rs ss first id place h rising owns d.0 (open_alone v w rs ss id place n only d) n here
+        holds_leaving v w rs ss first id position h rising owns d.0 (open_alone v w rs ss id position n only d) n here
         own_removal
 
-    pub holds_gone : b ≡ false → Holds (system w (remove ss place) first)
-    holds_gone is = holds_left v w rs ss first id place h rising owns d.0 (open_alone v w rs ss id place n only d)
+    pub holds_gone : b ≡ false → Holds (system w (remove ss position) first)
+    holds_gone is = holds_left v w rs ss first id position h rising owns d.0 (open_alone v w rs ss id position n only d)
         (left is)
 
     -- ---- what its beginning answers
@@ -144,13 +144,13 @@ module _ {R : Type 0} (firing : Raise R) (v w : CpusView R) (rs ss : List Record
         (did : (found : Removal) × (kept ≡ kept_in found)
         × BeginsOn firing id n found (system v rs last) (system w ss last)) where
       clear : first_refusal (busy_on_each id (system v rs last)) ≡ None
-      clear = home_busy v rs first id place n h.agrees rising own ∙ ap (λ o. or_else (busy o) None) still
+      clear = home_busy v rs first id position n h.agrees rising own ∙ ap (λ o. or_else (busy o) None) still
 
       way : (way : List Begun) × (map (λ b. b.cpu) way ≡ cpus_with id v)
           × BeginsEach firing id way (system v rs last) (system w ss last) × (kept ≡ sum_by (λ b. kept_in b.found) way)
       way = (
         record { cpu = n; found = did.0 } ∷ [],
-        sym (alone id v n only (home_has v rs first id place n h.agrees rising own)),
+        sym (alone id v n only (home_has v rs first id position n h.agrees rising own)),
         (system w ss last, did.2, refl),
         (let e : 0 + kept_in did.0 ≡ kept_in did.0 = omega arith in did.1 ∙ sym e),
       )
@@ -158,13 +158,13 @@ module _ {R : Type 0} (firing : Raise R) (v w : CpusView R) (rs ss : List Record
       pub begun_kept : b ≡ true
           → BeginsRemoval firing id (Ok (system_removal.Kept kept)) (system v rs last) (system w ss last)
       begun_kept is = let (steps, cpus, works, sum) = way in
-          removal_kept firing id place v w rs ss last owns d.0 rising clear (steps, cpus, works) n kept
+          removal_kept firing id position v w rs ss last owns d.0 rising clear (steps, cpus, works) n kept
           (still_here is).0 sum
 
-      pub begun_done : b ≡ false → (receipt : Receipt) → ((r : Record) → IsRecord ss place r → IsReceiptOf receipt r)
-          → BeginsRemoval firing id (Ok (system_removal.Done receipt)) (system v rs last) (system w (remove ss place) last)
+      pub begun_done : b ≡ false → (receipt : Receipt) → ((r : Record) → IsRecord ss position r → IsReceiptOf receipt r)
+          → BeginsRemoval firing id (Ok (system_removal.Done receipt)) (system v rs last) (system w (remove ss position) last)
       begun_done is receipt counts = let (steps, cpus, works, sum) = way in
-          removal_done firing id place v w rs ss last owns d.0 rising clear (steps, cpus, works) receipt (left is) counts
+          removal_done firing id position v w rs ss last owns d.0 rising clear (steps, cpus, works) receipt (left is) counts
 
     -- ---- what a poll answers
     module _ (last : ℕ) (was : (list_any (is_leaving_here id) v.cpus ≡ true) × (leaving_cpus id v ≡ n ∷ []))
@@ -174,9 +174,9 @@ module _ {R : Type 0} (firing : Raise R) (v w : CpusView R) (rs ss : List Record
       polled_way = (record { cpu = n; answer = did.0 } ∷ [], sym was.1, (system w ss last, did.1, refl))
 
       pub polled_waits : b ≡ true → PollsRemoval firing id (Ok None) (system v rs last) (system w ss last)
-      polled_waits is = poll_waits firing id place v w rs ss last owns d.0 was.0 polled_way n (still_here is).0
+      polled_waits is = poll_waits firing id position v w rs ss last owns d.0 was.0 polled_way n (still_here is).0
 
-      pub polled_done : b ≡ false → (receipt : Receipt) → ((r : Record) → IsRecord ss place r → IsReceiptOf receipt r)
-          → PollsRemoval firing id (Ok (Some receipt)) (system v rs last) (system w (remove ss place) last)
-      polled_done is receipt counts = poll_answered firing id place v w rs ss last owns d.0 was.0 polled_way receipt
+      pub polled_done : b ≡ false → (receipt : Receipt) → ((r : Record) → IsRecord ss position r → IsReceiptOf receipt r)
+          → PollsRemoval firing id (Ok (Some receipt)) (system v rs last) (system w (remove ss position) last)
+      polled_done is receipt counts = poll_answered firing id position v w rs ss last owns d.0 was.0 polled_way receipt
           (left is) counts

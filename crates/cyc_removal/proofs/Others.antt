@@ -43,15 +43,15 @@ record Beside {R : Type 0} (q : ℕ) (x y : CpuView R) : Type 0 where
   pub stay : x.removal ≡ Some q → y.removal ≡ Some q
   pub was : y.removal ≡ Some q → x.removal ≡ Some q
 
--- a cyclic at its place
-pub at_place : (cs : List Cyclic) (k : ℕ) (c : Cyclic) → IsCyclic cs k c → slice_get cs k ≡ Some c
-at_place cs k c (low, is) = slice_get-get_or cs k c low ∙ ap Some is
+-- a cyclic at its position
+pub at_position : (cs : List Cyclic) (k : ℕ) (c : Cyclic) → IsCyclic cs k c → slice_get cs k ≡ Some c
+at_position cs k c (low, is) = slice_get-get_or cs k c low ∙ ap Some is
 
 module _ {R : Type 0} (firing : Raise R) (id q : ℕ) (x y : CpuView R)
     (other : q ≢ id) where
   leaves_beside : (way : List FiringCall) (c : Cyclic) → Leaves firing id way c x y → cyclic_in q y ≡ cyclic_in q x
   leaves_beside way c l = ap (λ cs. find (λ (e : Cyclic). e.timer.id == q) cs) l.cyclics
-      ∙ find_remove (λ (e : Cyclic). e.timer.id == q) x.cyclics l.position c (at_place x.cyclics l.position c l.here)
+      ∙ find_remove (λ (e : Cyclic). e.timer.id == q) x.cyclics l.position c (at_position x.cyclics l.position c l.here)
       (false_ne c.timer.id q (λ e. other (sym e ∙ l.named)))
 
   begun_beside : (found : Removal) → CpuChanges firing x (BeginRemove id (Ok found)) y → Beside q x y
@@ -63,7 +63,7 @@ module _ {R : Type 0} (firing : Raise R) (id q : ℕ) (x y : CpuView R)
   begun_beside (Kept kept) (still, o) = record {
     cyclics = ap (λ cs. find (λ (e : Cyclic). e.timer.id == q) cs) o.cyclics
         ∙ find_set (λ (e : Cyclic). e.timer.id == q) x.cyclics o.position o.cyclic (with_moment never o.cyclic)
-        (at_place x.cyclics o.position o.cyclic o.here)
+        (at_position x.cyclics o.position o.cyclic o.here)
         (false_ne o.cyclic.timer.id q (λ e. other (sym e ∙ o.named)))
         (false_ne o.cyclic.timer.id q (λ e. other (sym e ∙ o.named)));
     stay = λ e. absurd (none_some (sym still ∙ e));

@@ -12,7 +12,7 @@ use Rattle.cyc_agreement.proofs.CpuSpots.{get_set_same, get_set_other}
 use Rattle.cyc_agreement.proofs.Spots.{same_some, none_some}
 use Rattle.cyc_agreement.proofs.Recording.{one_record}
 
--- what is left stood at another place
+-- what is left stood at another position
 pub left_was : {A : Type 0} (xs : List A) (k j : ℕ) (x : A) → slice_get (remove xs k) j ≡ Some x → (i : ℕ) × (i ≢ k)
     × (slice_get xs i ≡ Some x)
 left_was [] zero j x is = absurd (none_some is)
@@ -21,7 +21,7 @@ left_was (y ∷ xs) zero j x is = (suc j, (λ e. omega (arith, e)), is)
 left_was (y ∷ xs) (suc k) zero x is = (0, (λ e. omega (arith, e)), is)
 left_was (y ∷ xs) (suc k) (suc j) x is = let (i, ne, at) = left_was xs k j x is in (suc i, (λ e. ne (omega (arith, e))), at)
 
--- what stood at another place is left
+-- what stood at another position is left
 pub others_left : {A : Type 0} (xs : List A) (k i : ℕ) (x : A) → i ≢ k → slice_get xs i ≡ Some x → (j : ℕ)
     × (slice_get (remove xs k) j ≡ Some x)
 others_left [] k i x ne is = absurd (none_some is)

@@ -35,7 +35,7 @@ use Rattle.cyc_removal.specs.Polling.{PollsOn}
 use Rattle.cyc_removal.specs.RemovalLaws.{cyclic_in}
 use Rattle.cyc_removal.specs.Counts.{IsFit}
 use Rattle.cyc_removal.proofs.One.{less_done, less_ended}
-use Rattle.cyc_removal.proofs.Others.{at_place}
+use Rattle.cyc_removal.proofs.Others.{at_position}
 use Rattle.cyc_removal.proofs.Forgetting.{rising_set}
 
 -- ---- lists
@@ -202,7 +202,7 @@ module _ {R : Type 0} (firing : Raise R) (g : Sent → ℕ) (id : ℕ) (adds : (
         stays_all n x y s t does.here cpus records
             (ap (λ cs. option_map_or of_cyclic (find (λ (e : Cyclic). e.timer.id == id) cs) 0) o.cyclics
             ∙ found_set (λ (e : Cyclic). e.timer.id == id) of_cyclic x.cyclics o.position o.cyclic (with_moment never o.cyclic)
-            (at_place x.cyclics o.position o.cyclic o.here) refl refl),
+            (at_position x.cyclics o.position o.cyclic o.here) refl refl),
       )
 
   pub poll_keeps : (n : ℕ) (answer : Option Receipt) (s t : SystemView R) → PollsOn firing id n answer s t

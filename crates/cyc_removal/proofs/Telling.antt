@@ -36,20 +36,20 @@ pub is_known_cyclic : {R : Type 0} (s : SystemView R) (id k : ℕ) → HasRising
 is_known_cyclic s id k rising (r, is, named) =
     not_when (is_unknown id s) NoCyclic (ap (λ o. not (is_some o)) (record_here id k r s.records rising is named))
 
-module _ {R : Type 0} (firing : Raise R) (id place : ℕ) (v w : CpusView R)
+module _ {R : Type 0} (firing : Raise R) (id position : ℕ) (v w : CpusView R)
     (rs rs' : List Record) (last : ℕ)
-    (o : Owns id place v rs) (d : Withdraws id place v w rs rs') where
+    (o : Owns id position v rs) (d : Withdraws id position v w rs rs') where
   -- the record went, and the receipt is of it
   pub answered : (receipt : Receipt) → ((n : ℕ) → has n id w ≡ false)
-      → ((r : Record) → IsRecord rs' place r → IsReceiptOf receipt r)
-      → AnswersRemoval id receipt (system w rs' last) (system w (remove rs' place) last)
+      → ((r : Record) → IsRecord rs' position r → IsReceiptOf receipt r)
+      → AnswersRemoval id receipt (system w rs' last) (system w (remove rs' position) last)
   answered receipt none counts = record {
     nowhere = nowhere id w none;
-    position = place;
+    position = position;
     own = d.after;
-    here = now_here id place v w rs rs' d;
+    here = now_here id position v w rs rs' d;
     named = d.same_id ∙ ap (λ (r : Record). r.id) (same_some (sym d.was ∙ o.here)) ∙ o.named;
-    counts = counts d.after (now_here id place v w rs rs' d);
+    counts = counts d.after (now_here id position v w rs rs' d);
     cpus = refl;
     records = refl;
     last = refl;
@@ -60,11 +60,11 @@ module _ {R : Type 0} (firing : Raise R) (id place : ℕ) (v w : CpusView R)
       × BeginsEach firing id way (system v rs last) (system w rs' last)) where
     none_refuses : first_refusal (unknown_cyclic id (system v rs last) ∷ busy_on_each id (system v rs last)) ≡ None
     none_refuses = passes (unknown_cyclic id (system v rs last)) (busy_on_each id (system v rs last)) None
-        (is_known_cyclic (system v rs last) id place rising (o.own, o.here, o.named)) clear
+        (is_known_cyclic (system v rs last) id position rising (o.own, o.here, o.named)) clear
 
     pub removal_done : (receipt : Receipt) → ((n : ℕ) → has n id w ≡ false)
-        → ((r : Record) → IsRecord rs' place r → IsReceiptOf receipt r)
-        → BeginsRemoval firing id (Ok (removal.Done receipt)) (system v rs last) (system w (remove rs' place) last)
+        → ((r : Record) → IsRecord rs' position r → IsReceiptOf receipt r)
+        → BeginsRemoval firing id (Ok (removal.Done receipt)) (system v rs last) (system w (remove rs' position) last)
     removal_done receipt none counts = inr (none_refuses, (did.0, system w rs' last, did.1, did.2, answered receipt none counts))
 
     pub removal_kept : (n kept : ℕ) → has n id w ≡ true → kept ≡ sum_by (λ b. kept_in b.found) did.0
@@ -79,8 +79,8 @@ module _ {R : Type 0} (firing : Raise R) (id place : ℕ) (v w : CpusView R)
         (not_when (not (is_leaving id (system v rs last))) NoCyclic (ap not leaving)) refl
 
     pub poll_answered : (receipt : Receipt) → ((n : ℕ) → has n id w ≡ false)
-        → ((r : Record) → IsRecord rs' place r → IsReceiptOf receipt r)
-        → PollsRemoval firing id (Ok (Some receipt)) (system v rs last) (system w (remove rs' place) last)
+        → ((r : Record) → IsRecord rs' position r → IsReceiptOf receipt r)
+        → PollsRemoval firing id (Ok (Some receipt)) (system v rs last) (system w (remove rs' position) last)
     poll_answered receipt none counts = inr (is_open, (did.0, system w rs' last, did.1, did.2, answered receipt none counts))
 
     pub poll_waits : (n : ℕ) → has n id w ≡ true → PollsRemoval firing id (Ok None) (system v rs last) (system w rs' last)

@@ -42,20 +42,20 @@ grows test cpu_of v n x way a at is e = ap (λ ns. map cpu_of way ++ ns) (number
     ∙ ap (λ ns. ns ++ numbers_from (n + 1) (drop (n + 1) (map test v.cpus))) (sym (map-append cpu_of way (a ∷ [])))
 
 module _ {R A : Type 0} (On : A → SystemView R → SystemView R → Type 0) (cpu_of worth : A → ℕ) (test : CpuView R → Bool)
-    (id place : ℕ) where
+    (id position : ℕ) where
   -- so many CPUs were passed; what was done is worth so much
   pub record Walk (n total : ℕ) (v w : CpusView R) (rs rs' : List Record) : Type 0 where
     pub did : (last : ℕ) → (way : List A) × (numbers_from 0 (map test v.cpus) ≡ map cpu_of way ++ numbers_from n
         (drop n (map test v.cpus)))
         × FoldsTo (λ s a t. On a s t) (system v rs last) way (system w rs' last) × (total ≡ sum_by worth way)
-    pub withdraws : Withdraws id place v w rs rs'
+    pub withdraws : Withdraws id position v w rs rs'
     pub passed : (m : ℕ) → m < n → has m id w ≡ true → removal_on m w ≡ Some id
     pub ahead : (m : ℕ) → n ≤ m → slice_get w.cpus m ≡ slice_get v.cpus m
 
-  pub walk_start : (v : CpusView R) (rs : List Record) (r : Record) → IsRecord rs place r → Walk 0 0 v v rs rs
+  pub walk_start : (v : CpusView R) (rs : List Record) (r : Record) → IsRecord rs position r → Walk 0 0 v v rs rs
   walk_start v rs r is = record {
     did = λ last. ([], refl, refl, refl);
-    withdraws = withdraws_none id place v rs r is;
+    withdraws = withdraws_none id position v rs r is;
     passed = λ m low. absurd (omega (arith, low));
     ahead = λ m low. refl;
   }
@@ -70,10 +70,10 @@ module _ {R A : Type 0} (On : A → SystemView R → SystemView R → Type 0) (c
 
     pub walk_one : (more : ℕ) (x : CpuView R) (u : CpusView R) (ts : List Record) → IsCpu n x w → test x ≡ true
         → ((last : ℕ) → (a : A) × (cpu_of a ≡ n) × (worth a ≡ more) × On a (system w rs' last) (system u ts last))
-        → Withdraws id place w u rs' ts × LeavesAt n id w u → Walk (n + 1) (total + more) v u rs ts
+        → Withdraws id position w u rs' ts × LeavesAt n id w u → Walk (n + 1) (total + more) v u rs ts
     walk_one more x u ts at is does l = record {
       did = λ last. by last (k.did last) (does last);
-      withdraws = withdraws_then id place v w u rs rs' ts k.withdraws l.0;
+      withdraws = withdraws_then id position v w u rs rs' ts k.withdraws l.0;
       passed = λ m low h. dite (ℕ_discrete m n)
           (λ e. ap (λ i. removal_on i u) e ∙ l.1.leaving (ap (λ i. has i id u) (sym e) ∙ h))
           (λ ne. ap (λ o. option_and_then (λ cpu. cpu.removal) o) (l.1.elsewhere m ne)
@@ -127,17 +127,17 @@ module _ {R A : Type 0} (On : A → SystemView R → SystemView R → Type 0) (c
     walk_left all m h = k.passed m (let low = has_low w m id h in omega (arith, low, all)) h
 
 -- the walk on which a removal begins
-abbrev pub BeginWalk : {R : Type 0} → Raise R → (id place n total : ℕ)
+abbrev pub BeginWalk : {R : Type 0} → Raise R → (id position n total : ℕ)
     → (v w : CpusView R) → (rs rs' : List Record) → Type 0
-BeginWalk firing id place = Walk (λ (b : Begun) s t. BeginsOn firing id b.cpu b.found s t) (λ b. b.cpu)
+BeginWalk firing id position = Walk (λ (b : Begun) s t. BeginsOn firing id b.cpu b.found s t) (λ b. b.cpu)
     (λ b. kept_in b.found)
-    (λ cpu. list_any (λ own. own == id) (ids_of cpu)) id place
+    (λ cpu. list_any (λ own. own == id) (ids_of cpu)) id position
 
 -- the walk on which it is polled
-abbrev pub PollWalk : {R : Type 0} → Raise R → (id place n : ℕ) → (v w : CpusView R)
+abbrev pub PollWalk : {R : Type 0} → Raise R → (id position n : ℕ) → (v w : CpusView R)
     → (rs rs' : List Record) → Type 0
-PollWalk firing id place n = Walk (λ (p : Polled) s t. PollsOn firing id p.cpu p.answer s t) (λ p. p.cpu) (λ p. 0)
-    (is_leaving_here id) id place n 0
+PollWalk firing id position n = Walk (λ (p : Polled) s t. PollsOn firing id p.cpu p.answer s t) (λ p. p.cpu) (λ p. 0)
+    (is_leaving_here id) id position n 0
 
 -- the same of equal values
 pub along : {A B C : Type 0} (P : A → B → C → Type 0) (a b : A) (c d : B) (e f : C) → b ≡ a → d ≡ c → f ≡ e → P a c e → P b d f

@@ -10,7 +10,7 @@ use Rattle.cyc_cpu.specs.Laws.{IsLawful}
 use Rattle.cyc_agreement.specs.Cpus.{CpusView, IsCpu, numbers_from}
 use Rattle.cyc_agreement.specs.System.{ids_of, has, removal_on, is_leaving_here}
 use Rattle.cyc_agreement.proofs.Spots.{get_some, same_some, none_some}
-use Rattle.cyc_agreement.proofs.Lists.{among, any_place, false_true}
+use Rattle.cyc_agreement.proofs.Lists.{among, any_position, false_true}
 use Rattle.cyc_agreement.proofs.Presence.{has_low, not_leaving}
 use Rattle.cyc_removal.specs.Removing.{cpus_with}
 use Rattle.cyc_removal.specs.Polling.{leaving_cpus}
@@ -63,7 +63,7 @@ module _ {R : Type 0} (id : ℕ) (v : CpusView R) where
   -- a CPU on which the removal is open
   pub open_somewhere : list_any (is_leaving_here id) v.cpus ≡ true → (n : ℕ) × (x : CpuView R) × IsCpu n x v
       × (removal_on n v ≡ Some id) × (x.removal ≡ Some id)
-  open_somewhere some = let (n, low, passes) = any_place (is_leaving_here id) v.cpus some in let (x, at) =
+  open_somewhere some = let (n, low, passes) = any_position (is_leaving_here id) v.cpus some in let (x, at) =
       get_some v.cpus n low in
       let own = is_leaving_open id x (sym (ap (is_leaving_here id) (get_or_from_slice_get v.cpus n x x at)) ∙ passes x) in
       (n, x, at, removal_there v n x at ∙ own, own)

@@ -29,7 +29,7 @@ set_here [] k x is = absurd (none_some is)
 set_here (y ∷ xs) zero x is = ap (λ z. z ∷ xs) (sym (same_some is))
 set_here (y ∷ xs) (suc k) x is = ap (λ l. y ∷ l) (set_here xs k x is)
 
--- the later of two puts at one place stands
+-- the later of two puts at one position stands
 pub set_twice : {A : Type 0} (xs : List A) (k : ℕ) (x y : A) → slice_set (slice_set xs k x) k y ≡ slice_set xs k y
 set_twice [] k x y = refl
 set_twice (z ∷ xs) zero x y = refl
@@ -65,19 +65,19 @@ module _ {R : Type 0} (v : CpusView R) (n : ℕ) (x y : CpuView R) (at : IsCpu n
       (subst (λ o. P o (Some y)) (sym (ap (λ k. slice_get v.cpus k) e ∙ at)) here))
       (λ ne. subst (λ o. P (slice_get v.cpus m) o) (sym (get_set_other v.cpus n m y ne)) (there (slice_get v.cpus m)))
 
-module _ {R : Type 0} (v : CpusView R) (n id place : ℕ) (x y : CpuView R) (at : IsCpu n x v) (l : LeavesCpu id x y)
+module _ {R : Type 0} (v : CpusView R) (n id position : ℕ) (x y : CpuView R) (at : IsCpu n x v) (l : LeavesCpu id x y)
     (rs : List Record) (r : Record)
-    (is : IsRecord rs place r) where
+    (is : IsRecord rs position r) where
   here_is : has n id (with_cpu v n y) ≡ among id (ids_of y)
   here_is = ap (λ o. among id (option_map_or ids_of o [])) (get_set_same v.cpus n y (slice_get_within v.cpus n x at))
 
   -- the record afterwards
-  pub withdrawn : (rs' : List Record) (after : Record) → rs' ≡ slice_set rs place after → after.id ≡ r.id
+  pub withdrawn : (rs' : List Record) (after : Record) → rs' ≡ slice_set rs position after → after.id ≡ r.id
       → after.placement ≡ r.placement
       → ((m : ℕ) → has m id (with_cpu v n y) ≡ true → ended_on m after ≡ ended_on m r)
       → ((m : ℕ) → has m id v ≡ false → ended_on m after ≡ ended_on m r)
       → ((m most : ℕ) → most_on m v ≡ Some most → (ended_on m r).sent ≤ most → (ended_on m after).sent ≤ most)
-      → Withdraws id place v (with_cpu v n y) rs rs' × LeavesAt n id v (with_cpu v n y)
+      → Withdraws id position v (with_cpu v n y) rs rs' × LeavesAt n id v (with_cpu v n y)
   withdrawn rs' after records same_id same_placement kept beside bounded = (
     record {
       others = λ m q ne. at_each v n x y at (λ a b. among q (option_map_or ids_of b []) ≡ among q (option_map_or ids_of a []))
@@ -115,14 +115,15 @@ module _ {R : Type 0} (v : CpusView R) (n id place : ℕ) (x y : CpuView R) (at 
   )
 
   -- its removal is open there, or goes on
-  pub at_open : (rs' : List Record) → rs' ≡ rs → Withdraws id place v (with_cpu v n y) rs rs' × LeavesAt n id v (with_cpu v n y)
-  at_open rs' same = withdrawn rs' r (same ∙ sym (set_here rs place r is)) refl refl (λ m h. refl) (λ m h. refl)
+  pub at_open : (rs' : List Record) → rs' ≡ rs → Withdraws id position v (with_cpu v n y) rs rs'
+      × LeavesAt n id v (with_cpu v n y)
+  at_open rs' same = withdrawn rs' r (same ∙ sym (set_here rs position r is)) refl refl (λ m h. refl) (λ m h. refl)
       (λ m most h low. low)
 
   -- it has left
   pub at_end : (rs' : List Record) (counts : Sent) → has n id v ≡ true → among id (ids_of y) ≡ false → counts.sent ≤ x.most
-      → rs' ≡ slice_set rs place (with_ended n counts r)
-      → Withdraws id place v (with_cpu v n y) rs rs' × LeavesAt n id v (with_cpu v n y)
+      → rs' ≡ slice_set rs position (with_ended n counts r)
+      → Withdraws id position v (with_cpu v n y) rs rs' × LeavesAt n id v (with_cpu v n y)
   at_end rs' counts was gone few records = withdrawn rs' (with_ended n counts r) records refl refl
       (λ m h. ended_beside r n m counts (λ e. false_true (sym gone ∙ sym here_is ∙ ap (λ k. has k id (with_cpu v n y)) (sym e)
       ∙ h)))
@@ -134,9 +135,9 @@ module _ {R : Type 0} (v : CpusView R) (n id place : ℕ) (x y : CpuView R) (at 
 
 -- ---- several CPUs
 
-pub withdraws_none : {R : Type 0} (id place : ℕ) (v : CpusView R) (rs : List Record) (r : Record) → IsRecord rs place r
-    → Withdraws id place v v rs rs
-withdraws_none id place v rs r is = record {
+pub withdraws_none : {R : Type 0} (id position : ℕ) (v : CpusView R) (rs : List Record) (r : Record) → IsRecord rs position r
+    → Withdraws id position v v rs rs
+withdraws_none id position v rs r is = record {
   others = λ n q ne. refl;
   fewer = λ n h. h;
   stay_open = λ n q ne h. h;
@@ -148,7 +149,7 @@ withdraws_none id place v rs r is = record {
   before = r;
   after = r;
   was = is;
-  records = sym (set_here rs place r is);
+  records = sym (set_here rs position r is);
   same_id = refl;
   same_placement = refl;
   kept = λ n h. refl;
@@ -156,23 +157,25 @@ withdraws_none id place v rs r is = record {
   bounded = λ n most h low. low;
 }
 
-pub none_before : {R : Type 0} (id place : ℕ) (v w : CpusView R) (rs rs' : List Record) → Withdraws id place v w rs rs' → (n : ℕ)
+pub none_before : {R : Type 0} (id position : ℕ) (v w : CpusView R) (rs rs' : List Record) → Withdraws id position v w rs rs'
+    → (n : ℕ)
     → has n id v ≡ false → has n id w ≡ false
-none_before id place v w rs rs' a n none = by (has n id w) (a.fewer n)
+none_before id position v w rs rs' a n none = by (has n id w) (a.fewer n)
   where
     by : (b : Bool) → (b ≡ true → has n id v ≡ true) → b ≡ false
     by false h = refl
     by true h = absurd (false_true (sym none ∙ h refl))
 
 -- the record after it
-pub now_here : {R : Type 0} (id place : ℕ) (v w : CpusView R) (rs rs' : List Record) (a : Withdraws id place v w rs rs')
-    → IsRecord rs' place a.after
-now_here id place v w rs rs' a = ap (λ l. slice_get l place) a.records
-    ∙ get_set_same rs place a.after (slice_get_within rs place a.before a.was)
+pub now_here : {R : Type 0} (id position : ℕ) (v w : CpusView R) (rs rs' : List Record) (a : Withdraws id position v w rs rs')
+    → IsRecord rs' position a.after
+now_here id position v w rs rs' a = ap (λ l. slice_get l position) a.records
+    ∙ get_set_same rs position a.after (slice_get_within rs position a.before a.was)
 
-pub withdraws_then : {R : Type 0} (id place : ℕ) (u v w : CpusView R) (rs ss ts : List Record) → Withdraws id place u v rs ss
-    → Withdraws id place v w ss ts → Withdraws id place u w rs ts
-withdraws_then id place u v w rs ss ts a b = record {
+pub withdraws_then : {R : Type 0} (id position : ℕ) (u v w : CpusView R) (rs ss ts : List Record)
+    → Withdraws id position u v rs ss
+    → Withdraws id position v w ss ts → Withdraws id position u w rs ts
+withdraws_then id position u v w rs ss ts a b = record {
   others = λ n q ne. b.others n q ne ∙ a.others n q ne;
   fewer = λ n h. a.fewer n (b.fewer n h);
   stay_open = λ n q ne h. b.stay_open n q ne (a.stay_open n q ne h);
@@ -184,24 +187,24 @@ withdraws_then id place u v w rs ss ts a b = record {
   before = a.before;
   after = b.after;
   was = a.was;
-  records = b.records ∙ ap (λ l. slice_set l place b.after) a.records ∙ set_twice rs place a.after b.after;
+  records = b.records ∙ ap (λ l. slice_set l position b.after) a.records ∙ set_twice rs position a.after b.after;
   same_id = b.same_id ∙ ap (λ (r : Record). r.id) middle ∙ a.same_id;
   same_placement = b.same_placement ∙ ap (λ (r : Record). r.placement) middle ∙ a.same_placement;
   kept = λ n h. b.kept n h ∙ ap (λ (r : Record). ended_on n r) middle ∙ a.kept n (b.fewer n h);
-  beside = λ n h. b.beside n (none_before id place u v rs ss a n h) ∙ ap (λ (r : Record). ended_on n r) middle ∙ a.beside n h;
+  beside = λ n h. b.beside n (none_before id position u v rs ss a n h) ∙ ap (λ (r : Record). ended_on n r) middle ∙ a.beside n h;
   bounded = λ n most h low. b.bounded n most (a.most n ∙ h)
       (subst (λ (r : Record). (ended_on n r).sent ≤ most) (sym middle) (a.bounded n most h low));
 }
   where
     middle : b.before ≡ a.after
-    middle = same_some (sym b.was ∙ now_here id place u v rs ss a)
+    middle = same_some (sym b.was ∙ now_here id position u v rs ss a)
 
 -- the record is still its own
-pub owns_still : {R : Type 0} (id place : ℕ) (v w : CpusView R) (rs rs' : List Record) → Owns id place v rs
-    → Withdraws id place v w rs rs' → Owns id place w rs'
-owns_still id place v w rs rs' o a = record {
+pub owns_still : {R : Type 0} (id position : ℕ) (v w : CpusView R) (rs rs' : List Record) → Owns id position v rs
+    → Withdraws id position v w rs rs' → Owns id position w rs'
+owns_still id position v w rs rs' o a = record {
   own = a.after;
-  here = now_here id place v w rs rs' a;
+  here = now_here id position v w rs rs' a;
   named = a.same_id ∙ ap (λ (r : Record). r.id) same ∙ o.named;
   fresh = λ n h. a.kept n h ∙ ap (λ (r : Record). ended_on n r) same ∙ o.fresh n (a.fewer n h);
 }

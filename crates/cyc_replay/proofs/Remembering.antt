@@ -11,7 +11,7 @@ use Rattle.cyc_script.specs.declared.step.Step.{Step}
 use Rattle.cyc_model.specs.Questions.{plain}
 use Rattle.cyc_model.specs.State.{State, Placement, Placed}
 use Rattle.cyc_model.specs.Places.{is_no_cyclic, given}
-use Rattle.cyc_model.proofs.Placing.{place_given_new}
+use Rattle.cyc_model.proofs.Placing.{placement_given_new}
 use Rattle.std.specs.Prelude.{not, is_some, find}
 use Rattle.std.specs.Option.{option_map}
 use Rattle.cyc_model.specs.Softint.{text_if, text_of_id}
@@ -169,20 +169,21 @@ remembers_given s t m n name id r few is last names named before known gone told
     cases : (j k : ℕ) → id_at n.names j ≡ Some k → ((j ≡ name) × (k ≡ id)) ⊎ ((j ≢ name) × (id_at m.names j ≡ Some k))
     cases j k at = given_or_other m.names name (Cyclic id) id j k refl (sym (ap (λ xs. id_at xs j) names) ∙ at)
 
--- the word adds a cyclic with this place
+-- the word adds a cyclic with this placement
 pub remembers_added : (texts : List (List ℕ)) (indexes : ℕ → ℕ) (step : ℕ) (x : Step) (s : State) (m n : Machine)
-    (name id : ℕ) (place : Placement)
+    (name id : ℕ) (placement : Placement)
     → IsLasting x → Good s → refusal_of plain x s ≡ None
-    → (does plain texts indexes step x s).state.placed ≡ (given name place s).placed
+    → (does plain texts indexes step x s).state.placed ≡ (given name placement s).placed
     → (does plain texts indexes step x s).state.last_id ≡ s.last_id + 1 → Remembers s m → s.last_id < 65536 → id ≡ s.last_id + 1
     → n.names ≡ slice_set m.names name (Cyclic id) → n.named.items ≡ slice_set m.named.items (id - 1) name
     → Remembers (does plain texts indexes step x s).state n
-remembers_added texts indexes step x s m n name id place lasts g why placed last r few is names named =
+remembers_added texts indexes step x s m n name id placement lasts g why placed last r few is names named =
     let t = (does plain texts indexes step x s).state in
     remembers_given s t m n name id r few is last names named
     (λ j gone. unknown_before j texts indexes step x s lasts g why gone)
     (ap (λ ps. not (is_some (option_map (λ (p : Placed). p.placement) (find (λ p. p.id == id) ps)))) placed
-    ∙ ap (λ k. is_no_cyclic k (given name place s)) is ∙ ap (λ o. not (is_some o)) (place_given_new name place s g.base.rise))
+    ∙ ap (λ k. is_no_cyclic k (given name placement s)) is ∙ ap (λ o. not (is_some o))
+    (placement_given_new name placement s g.base.rise))
     (λ j low gone. stays_unknown texts indexes step x s g why j low gone)
     (λ j low gone. gone_does texts indexes step j s g (low, unknown_gone j s gone) x why)
 

@@ -18,7 +18,7 @@ use Rattle.cyc_model.specs.State.{State, Outcome, Placed, cpu_of, numbers, on_nu
 use Rattle.cyc_model.specs.Places.{id_of, is_no_cyclic, keep_counts, forgotten}
 use Rattle.cyc_model.specs.Remove.{clear_if, poll, begin, begun, remove}
 use Rattle.cyc_model.specs.Softint.{is_open, text_of_id, polled, poll_id}
-use Rattle.cyc_model.proofs.Placing.{place_forgotten_other}
+use Rattle.cyc_model.proofs.Placing.{placement_forgotten_other}
 use Rattle.cyc_system_model.specs.Shown.{ShowsSystem, shown_record}
 
 -- ---- begins and polls leave where cyclics are
@@ -51,7 +51,7 @@ unknown_same j s t same = ap (λ ps. not (is_some (option_map (λ (p : Placed). 
     same
 
 unknown_forgotten : (id j : ℕ) (t : State) → j ≢ id → is_no_cyclic j (forgotten id t) ≡ is_no_cyclic j t
-unknown_forgotten id j t ne = ap (λ o. not (is_some o)) (place_forgotten_other id j t ne)
+unknown_forgotten id j t ne = ap (λ o. not (is_some o)) (placement_forgotten_other id j t ne)
 
 pub unknown_polled : (texts : List (List ℕ)) (step id j : ℕ) (s : State) → j ≢ id
     → is_no_cyclic j (poll_id plain texts step id s).state ≡ is_no_cyclic j s

@@ -11,7 +11,7 @@ pub record IsEmptyCpu (v : CpuView Tables) : Type 0 where
   pub size : v.size ≡ 1
   pub followed : HasFollowed firing_at v
 
--- memory for so many cyclics was taken, that of the least bank which has a place for each, and nothing else of it changed
+-- memory for so many cyclics was taken, that of the least bank which has a slot for each, and nothing else of it changed
 pub record HasReserved (wanted : ℕ) (v w : CpuView Tables) : Type 0 where
   pub room : w.room ≡ max v.room (2 ^ bank_for wanted)
   pub cyclics : w.cyclics ≡ v.cyclics

@@ -63,7 +63,7 @@ pub record Remembers (s : State) (m : Machine) : Type 0 where
   pub removed : (name : ℕ) (receipt : Receipt) → named_at m.names name ≡ Removed receipt → is_no_cyclic receipt.id s ≡ true
   pub counted : (name id : ℕ) → id_at m.names name ≡ Some id → is_no_cyclic id s ≡ true
       → (receipt : Receipt) × (named_at m.names name ≡ Removed receipt) × (counts_of id s ≡ told_by_receipt receipt (s.called id))
-  -- there is a place for the id of each step
+  -- there is room for the id of each step
   pub ids : length m.named.items ≡ most_steps
 
 -- the definition's machine shows this one: its clock, whether it is suspended, its CPUs with their cyclics, the calls of each

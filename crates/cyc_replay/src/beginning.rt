@@ -96,7 +96,7 @@ fn with_room(system: System<LevelCore>, names: usize) -> Result<System<LevelCore
     Ok(desk.unite(hards))
 }
 
-/// A place for the name of each id.
+/// Room for the name of each id.
 fn no_names(alloc: Global) -> Result<Vec<usize>, Refusal>
     ensures long { IfOk result (λ named. length named.items ≡ most_steps) }
     ensures err { IfErr result (λ refusal. refusal ≡ Memory) }

@@ -3,7 +3,8 @@
 //! Its machine is a system over plain levels, a clock, what each name has, and a tally that counts the handlers' calls. The
 //! definitions here say when the definition's machine (`cyc_model`) shows it, and what it is that a word of a script was taken;
 //! the laws of `cyc_system_model` say what the calls of the system are in that definition. Each word but `advance` and `softint`
-//! makes its call in `cyc_words`. The contract of a step says that its line, and the machine after it, are those of the definition.
+//! makes its call in `cyc_words`. The contract of a step says that its line, and the machine after it, are those of the
+//! definition.
 //!
 //! `run_script` is `begin`, `put_steps` and `put_reports`, one after another: the contract of each names the machine, so what
 //! stands of the text, and what stands of the machine's levels, is said of one and the same run. It gives back the machine that

@@ -58,7 +58,8 @@ fn counts_left(named: Named, called: u128) -> Counts
 /// The counts of a name's cyclic over all CPUs and all of its stays, with the calls of its handler, also once its removal has
 /// answered. All are 0 where no add of the name was accepted.
 fn name_counts(machine: &mut Machine, name: usize) -> Counts
-    ensures counts { (step : ℕ) (s : State) → IsReached step s → ShowsMachine s machine.old → result ≡ counts_of (id_of name s) s }
+    ensures counts { (step : ℕ) (s : State) → IsReached step s → ShowsMachine s machine.old
+        → result ≡ counts_of (id_of name s) s }
     ensures holds { (s : State) → ShowsMachine s machine.old → ShowsMachine s machine.new }
 {
     report_law();

@@ -16,8 +16,8 @@ use Rattle.std.proofs.Common.{[], replicate}
 use Rattle.std.proofs.lemmas.List.{get_or-replicate}
 
 module _ (ids sent lost : List ℕ) (t : List RaiseStep) (F : HoldsStays ids sent lost t) where
-  pub same_place : (i j : ℕ) → i < cyclics → j < cyclics → ¬ (get_or ids i 0 ≡ 0) → get_or ids j 0 ≡ get_or ids i 0 → j ≡ i
-  same_place i j li lj used e = let a = F.used i li used in let b = F.used j lj (λ z. used (sym e ∙ z)) in
+  pub same_position : (i j : ℕ) → i < cyclics → j < cyclics → ¬ (get_or ids i 0 ≡ 0) → get_or ids j 0 ≡ get_or ids i 0 → j ≡ i
+  same_position i j li lj used e = let a = F.used i li used in let b = F.used j lj (λ z. used (sym e ∙ z)) in
       ap (λ (s : StayCounts). s.index) (some_same _ _ (sym b ∙ (ap (λ (id : ℕ). open_stay id t) e ∙ a)))
 
   pub id_is : (i id : ℕ) (st : StayCounts) → open_stay id t ≡ Some st → st.index ≡ i → id ≡ get_or ids i 0
@@ -60,7 +60,7 @@ module _ (ids sent lost : List ℕ) (t : List RaiseStep) (F : HoldsStays ids sen
                 sym here z;
           }))))
           (λ ne. ap (λ b. cond b (one_more by (open_stay (get_or ids j 0) t)) (open_stay (get_or ids j 0) t))
-          (ne_eqb (get_or ids j 0) a (λ e. ne (same_place i j low lj used_i (e ∙ sym named))))
+          (ne_eqb (get_or ids j 0) a (λ e. ne (same_position i j low lj used_i (e ∙ sym named))))
           ∙ (F.used j lj uj ∙ (λ z. Some record {
             index = j;
             sent =
@@ -90,7 +90,7 @@ module _ (ids sent lost : List ℕ) (t : List RaiseStep) (F : HoldsStays ids sen
           subst (λ (x : ℕ). open_stay x (Cleared id ∷ t)
           ≡ Some record { index = j; sent = get_or sent j 0; lost = get_or lost j 0 }) (sym o)
           (ap (λ b. cond b None (open_stay (get_or ids j 0) t))
-          (ne_eqb (get_or ids j 0) id (λ e. ne (same_place i j low lj (λ z. real (sym named ∙ z)) (e ∙ sym named))))
+          (ne_eqb (get_or ids j 0) id (λ e. ne (same_position i j low lj (λ z. real (sym named ∙ z)) (e ∙ sym named))))
           ∙ F.used j lj u);
       only = λ j st e. let x = left (eqb j id) j st refl e in let o = F.only j st x.1 in
           (o.0, get_or-set_other ids i st.index 0 0 (λ e. x.0 (sym o.1 ∙ (ap (λ (y : ℕ). get_or ids y 0) e ∙ named))) ∙ o.1, o.2);

@@ -1,6 +1,7 @@
 //! What runs of calls at the ends add up to, and what a moment says of a removal that has answered. The functions here do
 //! nothing: each one's contract is a law.
-ghost use Rattle.cyc_ring.specs.Laws.{RaiseWaysAddUp, DrainWaysAddUp, IdleIsFound, NoFinishFollowsRemoval, QuietCallsRaiseNothing};
+ghost use Rattle.cyc_ring.specs.Laws.{RaiseWaysAddUp, DrainWaysAddUp, IdleIsFound, NoFinishFollowsRemoval};
+ghost use Rattle.cyc_ring.specs.Laws.{QuietCallsRaiseNothing};
 ghost use Rattle.cyc_ring.specs.Laws.{EndsKeepTheirCeiling};
 
 /// A run of calls at a raise end leaves it an end of the same ring, and its trail gains the raises and losses of the run.

@@ -53,7 +53,7 @@ number_of_introduced q t names none = by_test (bytes_eq t q) refl where
       (λ y. absurd (grind (arith, (bytes_eq-Decides q t).0 y, (bytes_eq-Decides t q).1))) in
       number_of_push q t names ∙ rw other refl
 
--- ---- each name has its own place as its number
+-- ---- each name has its own position as its number
 
 pub none_numbered : IsNumbered []
 none_numbered i below = absurd (omega (arith, below))

@@ -6,7 +6,7 @@ use Rattle.cyc_script.specs.declared.cause.Cause.{Cause}
 use Rattle.cyc_script.specs.declared.cause.Cause.TheVariants.{NameTwice, NoName}
 use Rattle.cyc_script.specs.Parameters.{is_name}
 
--- the number of a name, if it was introduced: its place in the order of introduction
+-- the number of a name, if it was introduced: its position in the order of introduction
 abbrev pub number_of_name : List ℕ → List (List ℕ) → Option ℕ
 number_of_name text names = position (bytes_eq text) names
 
@@ -18,7 +18,7 @@ introduced text names = if is_some (number_of_name text names) then Err NameTwic
 abbrev pub referred : List ℕ → List (List ℕ) → Result ℕ Cause
 referred text names = ok_or (number_of_name text names) NoName
 
--- each name has its own place as its number, so no two are equal
+-- each name has its own position as its number, so no two are equal
 abbrev pub IsNumbered : List (List ℕ) → Type 0
 IsNumbered names = (i : ℕ) → i < length names → number_of_name (get_or names i []) names ≡ Some i
 

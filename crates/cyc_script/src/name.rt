@@ -4,7 +4,7 @@ ghost use Rattle.std.specs.Prelude.{◌≡◌, ℕ, ◌<◌, ◌^◌};
 
 use std::marker::Model;
 
-/// A name of a script, as its number: its place among the script's names, counted from 0.
+/// A name of a script, as its number: its position among the script's names, counted from 0.
 #[derive(Clone, Copy, Debug, PartialEq, Eq, PartialOrd, Ord)]
 pub struct Name {
     number: u32,
@@ -28,7 +28,7 @@ impl Name {
         Name { number }
     }
 
-    /// The name's place among the script's names.
+    /// The name's position among the script's names.
     pub fn number(self) -> usize
         ensures value { result ≡ self }
         ensures valid { result < 2 ^ 32 }

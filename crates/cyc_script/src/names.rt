@@ -12,7 +12,7 @@ use std::marker::Model;
 const PLACES: usize = 1024;
 
 /// The names introduced so far, in order, and the number of each. A name that was introduced of late is most often found
-/// by one comparison, at the place of its text in `recent`; what stands there may be any number.
+/// by one comparison, at the position of its text in `recent`; what stands there may be any number.
 #[derive(Drop)]
 pub(crate) struct Names<'a> {
     texts: Vec<String>,
@@ -20,7 +20,7 @@ pub(crate) struct Names<'a> {
     recent: [u32; PLACES],
 }
 
-/// The place of a text among the recent names.
+/// The position of a text among the recent names.
 fn place_of(text: &str) -> usize
     ensures { result < 1024 }
 {
@@ -69,7 +69,7 @@ impl<'a> Names<'a> {
         self.numbers = BTreeMap::new(alloc);
     }
 
-    /// The number of a name, where it stands at the place of its text.
+    /// The number of a name, where it stands at the position of its text.
     fn recent_number(&self, text: &str) -> Option<u32>
         ensures { IfSome result (λ number. number_of_name text.now self.now ≡ Some number) }
     {

@@ -30,25 +30,25 @@ fn has_name(script: &Script, number: usize, name: &str) -> bool {
     }
 }
 
-/// The number of the name, the level, the start and the interval of the step at this place, where it adds a cyclic.
-fn added(script: &Script, place: usize) -> Option<(usize, Level, i64, i64)> {
-    match script.steps.get(place) {
+/// The number of the name, the level, the start and the interval of the step at this position, where it adds a cyclic.
+fn added(script: &Script, position: usize) -> Option<(usize, Level, i64, i64)> {
+    match script.steps.get(position) {
         Some(Step::Add(add)) => Some((add.name.number(), add.level, add.start, add.interval)),
         _ => None,
     }
 }
 
-/// The moment of the step at this place, where it advances the clock.
-fn advanced(script: &Script, place: usize) -> Option<u64> {
-    match script.steps.get(place) {
+/// The moment of the step at this position, where it advances the clock.
+fn advanced(script: &Script, position: usize) -> Option<u64> {
+    match script.steps.get(position) {
         Some(Step::Advance(moment)) => Some(*moment),
         _ => None,
     }
 }
 
-/// The CPU, the level and the budget of the step at this place, where it runs a soft interrupt.
-fn served(script: &Script, place: usize) -> Option<(u32, Soft, u32)> {
-    match script.steps.get(place) {
+/// The CPU, the level and the budget of the step at this position, where it runs a soft interrupt.
+fn served(script: &Script, position: usize) -> Option<(u32, Soft, u32)> {
+    match script.steps.get(position) {
         Some(Step::Softint(softint)) => Some((softint.cpu, softint.level, softint.budget)),
         _ => None,
     }
@@ -60,14 +60,14 @@ fn words_without_parameters_are_read(rt: HostRuntime) {
         "{\"cpus\":1,\"steps\":[[\"resume\"],[\"suspend\"],[\"advance\",5],[\"suspend\"],[\"resume\"]]}";
     let script = read(&rt, text);
     assert_eq!(rt; sizes(&script), (1, u32::MAX, 0, 5));
-    for (place, step) in [
+    for (position, step) in [
         (0, Step::Resume),
         (1, Step::Suspend),
         (2, Step::Advance(5)),
         (3, Step::Suspend),
         (4, Step::Resume),
     ] {
-        assert_eq!(rt; script.steps.get(place), Some(&step), "at {place}");
+        assert_eq!(rt; script.steps.get(position), Some(&step), "at {position}");
     }
 }
 
@@ -109,13 +109,14 @@ fn a_start_and_an_interval_are_any_whole_numbers(rt: HostRuntime) {
 #[test]
 fn names_have_the_numbers_of_their_introduction(rt: HostRuntime) {
     let text =
-        "{\"cpus\":1,\"steps\":[[\"add\",\"b\",\"low\",1,1],[\"advance\",0],[\"add\",\"a\",\"low\",1,1],[\"add\",\"\\u0063\",\"low\",1,1]]}";
+        "{\"cpus\":1,\"steps\":[[\"add\",\"b\",\"low\",1,1],[\"advance\",0],[\"add\",\"a\",\"low\",1,1],\
+         [\"add\",\"\\u0063\",\"low\",1,1]]}";
     let script = read(&rt, text);
     assert_eq!(rt; sizes(&script), (1, u32::MAX, 3, 4));
     assert_eq!(rt; advanced(&script, 1), Some(0));
-    for (place, number, name) in [(0, 0, "b"), (2, 1, "a"), (3, 2, "c")] {
+    for (position, number, name) in [(0, 0, "b"), (2, 1, "a"), (3, 2, "c")] {
         assert_eq!(rt;
-            added(&script, place),
+            added(&script, position),
             Some((number, Level::Low, 1, 1)),
             "{name}"
         );

@@ -199,13 +199,13 @@ module _ {R : Type 0} (firing : Raise R) (n : ℕ) where
 
   pub fits_turn : (id : ℕ) (turn : Turn) (s t : SystemView R) → TakesTurn firing n id turn s t → StillHolds firing s t
       → Fits s → Fits t
-  fits_turn id StaysBound s t (place, same) still f = subst Fits (sym same) f
-  fits_turn id StaysPending s t (place, found, some, only) still f =
+  fits_turn id StaysBound s t (placement, same) still f = subst Fits (sym same) f
+  fits_turn id StaysPending s t (placement, found, some, only) still f =
       fits_calls s t (on n (AskPending id (Some found)) ∷ []) (λ e q. refl, tt) only still.most f
-  fits_turn id StaysRefused s t (place, d, chosen, e, only) still f =
+  fits_turn id StaysRefused s t (placement, d, chosen, e, only) still f =
       fits_calls s t (on n (AskPending id (Some 0)) ∷ on d (Reserve 1 (Err e)) ∷ [])
       (λ e q. refl, (λ e q. refl, tt)) only still.most f
-  fits_turn id Moves s t (place, d, chosen, (taken, works), (k, r, here, named, records, last)) still f =
+  fits_turn id Moves s t (placement, d, chosen, (taken, works), (k, r, here, named, records, last)) still f =
       fits_on s t (moving id n d taken) (λ e q. refl, (λ e q. refl, (λ e q. refl, (λ e q. refl, (λ e. absurd (apart e), tt)))))
       works still.most
       (λ j q is. by j q (was firing s.records k j r (with_placement (stands.On d false) r) q here refl

@@ -106,10 +106,10 @@ module _ {R : Type 0} (firing : Raise R) where
   polls id (Err e) s t d = absurd d
 
   takes_turn : (n id : ℕ) (turn : Turn) (s t : SystemView R) → TakesTurn firing n id turn s t → t.last ≡ s.last
-  takes_turn n id StaysBound s t (place, same) = ap (λ (x : SystemView R). x.last) same
-  takes_turn n id StaysPending s t (place, found, some, (works, records, last)) = last
-  takes_turn n id StaysRefused s t (place, d, chosen, e, (works, records, last)) = last
-  takes_turn n id Moves s t (place, d, chosen, shifts, (k, r, here, named, records, last)) = last
+  takes_turn n id StaysBound s t (placement, same) = ap (λ (x : SystemView R). x.last) same
+  takes_turn n id StaysPending s t (placement, found, some, (works, records, last)) = last
+  takes_turn n id StaysRefused s t (placement, d, chosen, e, (works, records, last)) = last
+  takes_turn n id Moves s t (placement, d, chosen, shifts, (k, r, here, named, records, last)) = last
 
   turns : (n : ℕ) (ids : List ℕ) (report : JuggleReport) (s t : SystemView R) → Turns firing n ids report s t → t.last ≡ s.last
   turns n [] report s t (none, same) = ap (λ (x : SystemView R). x.last) same

@@ -17,7 +17,7 @@ each_long P [] (y ∷ ys) h = absurd h
 each_long P (x ∷ xs) [] h = absurd h
 each_long P (x ∷ xs) (y ∷ ys) h = ap suc (each_long P xs ys h.1)
 
--- what two elements at one place share, both lists have at each place
+-- what two elements at one position share, both lists have at each position
 pub each_kept : {A X : Type 0} (P : A → A → Type 0) (f : Option A → X) → ((x y : A) → P x y → f (Some y) ≡ f (Some x))
     → (xs ys : List A) → EachTwo P xs ys → (n : ℕ) → f (slice_get ys n) ≡ f (slice_get xs n)
 each_kept P f same [] [] h n = refl

@@ -245,12 +245,12 @@ module _ {R : Type 0} (firing : Raise R) where
           )
 
   pub still_turn : (n id : ℕ) (turn : Turn) (s t : SystemView R) → TakesTurn firing n id turn s t → StillHolds s t
-  still_turn n id StaysBound s t (place, same) = still_same s t same
-  still_turn n id StaysPending s t (place, found, some, only) =
+  still_turn n id StaysBound s t (placement, same) = still_same s t same
+  still_turn n id StaysPending s t (placement, found, some, only) =
       still_calls s t (on n (AskPending id (Some found)) ∷ []) (tt, tt) (λ q. (tt, tt)) only
-  still_turn n id StaysRefused s t (place, d, chosen, e, only) =
+  still_turn n id StaysRefused s t (placement, d, chosen, e, only) =
       still_calls s t (on n (AskPending id (Some 0)) ∷ on d (Reserve 1 (Err e)) ∷ []) (tt, (tt, tt)) (λ q. (tt, (tt, tt))) only
-  still_turn n id Moves s t (place, d, chosen, (taken, works), records) = still_moved s t id d n taken works records
+  still_turn n id Moves s t (placement, d, chosen, (taken, works), records) = still_moved s t id d n taken works records
 
   pub still_turns : (n : ℕ) (ids : List ℕ) (report : JuggleReport) (s t : SystemView R) → Turns firing n ids report s t
       → StillHolds s t
@@ -269,7 +269,7 @@ module _ {R : Type 0} (firing : Raise R) where
       same_placement a b r q p x same single = alike r.placement p (subst (λ (z : Record). Stands b z.placement) (sym same) x)
           single
         where
-          alike : (place : _) → Stands a place → Stands b place → is_everywhere place ≡ false → a ≡ b
+          alike : (placement : _) → Stands a placement → Stands b placement → is_everywhere placement ≡ false → a ≡ b
           alike (stands.On c bound) p x single = sym p ∙ x
           alike (stands.Everywhere first skew) p x single = absurd (false_true (sym single))
 
@@ -282,8 +282,8 @@ module _ {R : Type 0} (firing : Raise R) where
           ∙ back n (ap (λ i. has n i t.cpus) named ∙ here))
       by k r is named there false single =
           let (j, q, at, known, stands_m, up) = agrees.known m id (leaving_here firing.view t.cpus m id lawful e) in
-          let place = one_record t.records k j r q now is at (known ∙ sym named) in
-          let same : r ≡ q = same_some (sym (subst (λ i. IsRecord t.records i r) (sym place) is) ∙ at) in
+          let position = one_record t.records k j r q now is at (known ∙ sym named) in
+          let same : r ≡ q = same_some (sym (subst (λ i. IsRecord t.records i r) (sym position) is) ∙ at) in
           ap (λ i. removal_on i t.cpus) (same_placement n m r q there stands_m same single) ∙ e
 
   pub still_retired : (n id : ℕ) (s t : SystemView R) → Retires firing n s id t → StillHolds s t

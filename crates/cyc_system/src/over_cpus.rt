@@ -1,5 +1,5 @@
-//! The calls that go over several CPUs or over all cyclics of one: what each of them does stands in `cyc_agreement`, `cyc_removal`
-//! and `cyc_juggle`.
+//! The calls that go over several CPUs or over all cyclics of one: what each of them does stands in `cyc_agreement`,
+//! `cyc_removal` and `cyc_juggle`.
 
 use crate::system::System;
 use cyc_removal::SystemRemoval;

@@ -26,7 +26,7 @@ module _ {R : Type 0} (source : Option ℕ) (v : CpusView R) where
   IsBest n xs None = (k : ℕ) → Fits n xs k → ⊥
   IsBest n xs (Some d) = ((k : ℕ) × (d ≡ n + k) × Fits n xs k) × ((k : ℕ) → Fits n xs k → Precedes d (n + k))
 
-  -- what fits in the rest fits at its place of the whole
+  -- what fits in the rest fits at its position of the whole
   later : (n k : ℕ) (x : Bool) (xs : List Bool) → Fits (n + 1) xs k → Fits n (x ∷ xs) (suc k)
   later n k x xs (here, fit) = (here, subst (λ m. is_not source m ≡ true) (let e : n + 1 + k ≡ n + suc k = omega arith in e) fit)
 

@@ -28,7 +28,7 @@ use Rattle.cyc_system.proofs.Lists.{false_ne}
 use Rattle.cyc_system.proofs.Spots.{none_some, same_some}
 use Rattle.cyc_system.proofs.Who.{kept_at}
 use Rattle.cyc_system.proofs.Folds.{find_remove}
-use Rattle.cyc_system.proofs.Others.{at_place}
+use Rattle.cyc_system.proofs.Others.{at_position}
 
 -- ---- lists
 
@@ -78,7 +78,7 @@ module _ {R : Type 0} (firing : Raise R) (m id : ℕ) where
       (cyclic_with own level interval moment carried.sent carried.lost) (false_ne own id ne)
   other_kept x y (TakeNow own (Ok taken)) ne (still, (c, counts, is, polled, l)) =
       ap (λ cs. find (λ (c : Cyclic). c.timer.id == id) cs) l.cyclics
-      ∙ find_remove (λ (c : Cyclic). c.timer.id == id) x.cyclics l.position c (at_place x.cyclics l.position c l.here)
+      ∙ find_remove (λ (c : Cyclic). c.timer.id == id) x.cyclics l.position c (at_position x.cyclics l.position c l.here)
       (false_ne c.timer.id id (λ e. ne (sym l.named ∙ e)))
   other_kept x y (AskPending own (Some n)) ne d = same_list x y d.0.cyclics
   other_kept x y (AskPending own None) ne d = same_list x y (ap (λ (z : CpuView R). z.cyclics) d.1)
@@ -112,12 +112,12 @@ module _ {R : Type 0} (firing : Raise R) (m id : ℕ) where
 
   turn_same : (n own : ℕ) (turn : Turn) (s t : SystemView R) → own ≢ id → TakesTurn firing n own turn s t
       → Same s.cpus t.cpus
-  turn_same n own StaysBound s t ne (place, same) = same_system s t same
-  turn_same n own StaysPending s t ne (place, found, some, only) =
+  turn_same n own StaysBound s t ne (placement, same) = same_system s t same
+  turn_same n own StaysPending s t ne (placement, found, some, only) =
       works_same (on n (AskPending own (Some found)) ∷ []) s.cpus t.cpus (λ e. tt, tt) only.0
-  turn_same n own StaysRefused s t ne (place, d, chosen, e, only) =
+  turn_same n own StaysRefused s t ne (placement, d, chosen, e, only) =
       works_same (on n (AskPending own (Some 0)) ∷ on d (Reserve 1 (Err e)) ∷ []) s.cpus t.cpus (λ e. tt, (λ e. tt, tt)) only.0
-  turn_same n own Moves s t ne (place, d, chosen, (taken, works), records) =
+  turn_same n own Moves s t ne (placement, d, chosen, (taken, works), records) =
       works_same (moving own n d taken) s.cpus t.cpus
       (λ e. tt, (λ e. tt, (λ e. ne, (λ e. tt, (λ e. ne, tt))))) works
 

@@ -85,12 +85,12 @@ module _ {R : Type 0} (firing : Raise R) (g : Sent
   same_all : (s t : SystemView R) → t ≡ s → all_of t ≡ all_of s
   same_all s t e = ap all_of e
 
-  -- records with another place
-  placed_same : (own : ℕ) (place : Placement) (s t : SystemView R) → Records own place s t
+  -- records with another placement
+  placed_same : (own : ℕ) (placement : Placement) (s t : SystemView R) → Records own placement s t
       → in_records t.records ≡ in_records s.records
-  placed_same own place s t (k, r, here, named, records, last) =
-      let a = sum_set of_record s.records k r (with_placement place r) here in let b = ap in_records records in
-      let e : of_record (with_placement place r) ≡ of_record r = refl in omega (arith, a, b, e)
+  placed_same own placement s t (k, r, here, named, records, last) =
+      let a = sum_set of_record s.records k r (with_placement placement r) here in let b = ap in_records records in
+      let e : of_record (with_placement placement r) ≡ of_record r = refl in omega (arith, a, b, e)
 
   moved_same : (own source target : ℕ) (taken : Taken) (s t : SystemView R)
       → Works firing (moving own source target taken) s.cpus t.cpus → in_records t.records ≡ in_records s.records
@@ -125,11 +125,11 @@ module _ {R : Type 0} (firing : Raise R) (g : Sent
 
   -- ---- adding
 
-  new_same : (s t : SystemView R) (own : ℕ) (level : Level) (place : Placement)
-      → t.records ≡ s.records ++ new_record own level place ∷ [] → in_records t.records ≡ in_records s.records
-  new_same s t own level place e =
-      let a = ap in_records e in let b = sum_by-append of_record s.records (new_record own level place ∷ []) in
-      let c = sum_by-cons of_record (new_record own level place) [] in let z = sum_by-replicate g 16 no_counts in
+  new_same : (s t : SystemView R) (own : ℕ) (level : Level) (placement : Placement)
+      → t.records ≡ s.records ++ new_record own level placement ∷ [] → in_records t.records ≡ in_records s.records
+  new_same s t own level placement e =
+      let a = ap in_records e in let b = sum_by-append of_record s.records (new_record own level placement ∷ []) in
+      let c = sum_by-cons of_record (new_record own level placement) [] in let z = sum_by-replicate g 16 no_counts in
       let d = zero_if (own == id) (sum_by g (replicate 16 no_counts)) (omega (arith, z, nil)) in omega (arith, a, b, c, d)
 
   pub adds_same : (level : Level) (when : When) (now : ℕ) (answer : Result ℕ Refusal) (s t : SystemView R)
@@ -174,11 +174,12 @@ module _ {R : Type 0} (firing : Raise R) (g : Sent
   -- ---- juggle and offline
 
   turn_same : (n own : ℕ) (turn : Turn) (s t : SystemView R) → TakesTurn firing n own turn s t → all_of t ≡ all_of s
-  turn_same n own StaysBound s t (place, same) = same_all s t same
-  turn_same n own StaysPending s t (place, found, some, only) = idly (on n (AskPending own (Some found)) ∷ []) s t (tt, tt) only
-  turn_same n own StaysRefused s t (place, d, chosen, e, only) = idly
+  turn_same n own StaysBound s t (placement, same) = same_all s t same
+  turn_same n own StaysPending s t (placement, found, some, only) = idly (on n (AskPending own (Some found)) ∷ []) s t
+      (tt, tt) only
+  turn_same n own StaysRefused s t (placement, d, chosen, e, only) = idly
       (on n (AskPending own (Some 0)) ∷ on d (Reserve 1 (Err e)) ∷ []) s t (tt, (tt, tt)) only
-  turn_same n own Moves s t (place, d, chosen, (taken, works), records) = moved_same own n d taken s t works
+  turn_same n own Moves s t (placement, d, chosen, (taken, works), records) = moved_same own n d taken s t works
       (placed_same own _ s t records)
 
   pub turns_same : (n : ℕ) (ids : List ℕ) (report : JuggleReport) (s t : SystemView R) → Turns firing n ids report s t
@@ -189,10 +190,10 @@ module _ {R : Type 0} (firing : Raise R) (g : Sent
 
   turn_sixteen : (n own : ℕ) (turn : Turn) (s t : SystemView R) → TakesTurn firing n own turn s t → Sixteen s.records
       → Sixteen t.records
-  turn_sixteen n own StaysBound s t (place, same) many = subst (λ (u : SystemView R). Sixteen u.records) (sym same) many
-  turn_sixteen n own StaysPending s t (place, found, some, only) many = subst Sixteen (sym only.1) many
-  turn_sixteen n own StaysRefused s t (place, d, chosen, e, only) many = subst Sixteen (sym only.1) many
-  turn_sixteen n own Moves s t (place, d, chosen, moves, (k, r, here, named, records, last)) many = subst Sixteen
+  turn_sixteen n own StaysBound s t (placement, same) many = subst (λ (u : SystemView R). Sixteen u.records) (sym same) many
+  turn_sixteen n own StaysPending s t (placement, found, some, only) many = subst Sixteen (sym only.1) many
+  turn_sixteen n own StaysRefused s t (placement, d, chosen, e, only) many = subst Sixteen (sym only.1) many
+  turn_sixteen n own Moves s t (placement, d, chosen, moves, (k, r, here, named, records, last)) many = subst Sixteen
       (sym records) (sixteen_set s.records k r _ here refl many)
 
   pub turns_sixteen : (n : ℕ) (ids : List ℕ) (report : JuggleReport) (s t : SystemView R) → Turns firing n ids report s t
@@ -242,16 +243,16 @@ module _ {R : Type 0} (firing : Raise R) (g : Sent
 
   -- ---- online
 
-  return_fixed : (n now own : ℕ) (level : Level) (counts : Sent) (place : Placement) (way : List CallOn) → AllFixed f id way
-      → AllFixed f id (return_at n now own level counts place ++ way)
+  return_fixed : (n now own : ℕ) (level : Level) (counts : Sent) (placement : Placement) (way : List CallOn) → AllFixed f id way
+      → AllFixed f id (return_at n now own level counts placement ++ way)
   return_fixed n now own level counts (stands.On m bound) way rest = rest
   return_fixed n now own level counts (stands.Everywhere first skew) way rest = (tt, rest)
 
-  return_brings : (n now own : ℕ) (level : Level) (counts : Sent) (place : Placement) (way : List CallOn)
-      → is_everywhere place ≡ true
-      → (all_brought f id (return_at n now own level counts place ++ way) ≡ cond (own == id)
+  return_brings : (n now own : ℕ) (level : Level) (counts : Sent) (placement : Placement) (way : List CallOn)
+      → is_everywhere placement ≡ true
+      → (all_brought f id (return_at n now own level counts placement ++ way) ≡ cond (own == id)
       (g counts) 0 + all_brought f id way)
-      × (all_taken f id (return_at n now own level counts place ++ way) ≡ all_taken f id way)
+      × (all_taken f id (return_at n now own level counts placement ++ way) ≡ all_taken f id way)
   return_brings n now own level counts (stands.On m bound) way e = absurd (let odd : false ≡ true = e in cc)
   return_brings n now own level counts (stands.Everywhere first skew) way e = (refl, omega arith)
 

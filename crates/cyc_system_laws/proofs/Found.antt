@@ -50,7 +50,7 @@ module _ {A : Type 0} (id_of : A → ℕ) (h : A → ℕ) (id : ℕ) where
           omega (arith, a, none))
       by false is a rest = omega (arith, a, rest)
 
--- the ids of a CPU's cyclics rise, place by place
+-- the ids of a CPU's cyclics rise, position by position
 cyclics_rise : (cs : List Cyclic) → HaveRisingIds cs → (i j : ℕ) (x y : Cyclic) → i < j → slice_get cs i ≡ Some x
     → slice_get cs j ≡ Some y → x.timer.id < y.timer.id
 cyclics_rise cs rising i j x y less p q =

@@ -121,12 +121,12 @@ module _ {R : Type 0} (firing : Raise R) (f : Taken → ℕ) (id : ℕ) where
       (inr (is, reserved), records, last) = reserved_same f id firing 1 s.cpus t.cpus reserved
 
   turn_stays : (n own : ℕ) (turn : Turn) (s t : SystemView R) → TakesTurn firing n own turn s t → all_on t ≡ all_on s
-  turn_stays n own StaysBound s t (place, same) = ap all_on same
-  turn_stays n own StaysPending s t (place, found, some, only) = idle_same f id firing
+  turn_stays n own StaysBound s t (placement, same) = ap all_on same
+  turn_stays n own StaysPending s t (placement, found, some, only) = idle_same f id firing
       (on n (AskPending own (Some found)) ∷ []) s.cpus t.cpus (tt, tt) only.0
-  turn_stays n own StaysRefused s t (place, d, chosen, e, only) = idle_same f id firing
+  turn_stays n own StaysRefused s t (placement, d, chosen, e, only) = idle_same f id firing
       (on n (AskPending own (Some 0)) ∷ on d (Reserve 1 (Err e)) ∷ []) s.cpus t.cpus (tt, (tt, tt)) only.0
-  turn_stays n own Moves s t (place, d, chosen, (taken, works), records) = moved_stays own n d taken s t works
+  turn_stays n own Moves s t (placement, d, chosen, (taken, works), records) = moved_stays own n d taken s t works
 
   turns_stay : (n : ℕ) (ids : List ℕ) (report : JuggleReport) (s t : SystemView R) → Turns firing n ids report s t
       → all_on t ≡ all_on s
@@ -161,11 +161,11 @@ module _ {R : Type 0} (firing : Raise R) (f : Taken → ℕ) (id : ℕ) where
   omni_read s k r rising is named = ap (λ o. option_map_or (λ (x : Record). is_everywhere x.placement) o false)
       (record_here id k r s.records rising is named)
 
-  return_stays : (n now own : ℕ) (level : Level) (counts : Sent) (place : Placement) (way : List CallOn) → own ≢ id
+  return_stays : (n now own : ℕ) (level : Level) (counts : Sent) (placement : Placement) (way : List CallOn) → own ≢ id
       → AllFixed f id way → all_brought f id way ≡ 0 → all_taken f id way ≡ 0
-      → AllFixed f id (return_at n now own level counts place ++ way)
-      × (all_brought f id (return_at n now own level counts place ++ way) ≡ 0)
-      × (all_taken f id (return_at n now own level counts place ++ way) ≡ 0)
+      → AllFixed f id (return_at n now own level counts placement ++ way)
+      × (all_brought f id (return_at n now own level counts placement ++ way) ≡ 0)
+      × (all_taken f id (return_at n now own level counts placement ++ way) ≡ 0)
   return_stays n now own level counts (stands.On m bound) way ne fixed a b = (fixed, a, b)
   return_stays n now own level counts (stands.Everywhere when skew) way ne fixed a b =
       ((tt, fixed), ap (λ (m : ℕ). m + all_brought f id way) (other own _ ne) ∙ omega (arith, a), omega (arith, b))

@@ -90,10 +90,10 @@ module _ {R B : Type 0} (firing : Raise R) (h : Record → B) (none : B)
   -- the record of one that is on a single CPU
   single_here : (s : SystemView R) (own n k : ℕ) (bound : Bool) (r : Record) → HasRisingIds s.records
       → HasPlacement own n bound s → IsRecord s.records k r → r.id ≡ own → is_everywhere r.placement ≡ false
-  single_here s own n k bound r rising (j, q, is, named, place) here same =
+  single_here s own n k bound r rising (j, q, is, named, placement) here same =
       let at = one_record s.records k j r q rising here is (named ∙ sym same) in
       ap (λ (x : Record). is_everywhere x.placement) (same_some (sym here ∙ ap (λ i. slice_get s.records i) (sym at) ∙ is))
-      ∙ ap is_everywhere place
+      ∙ ap is_everywhere placement
 
   replaced_look : (own n m : ℕ) (bound was : Bool) (s t : SystemView R) → HasRisingIds s.records → HasPlacement own n was s
       → Records own (stands.On m bound) s t → look t ≡ look s
@@ -102,21 +102,21 @@ module _ {R B : Type 0} (firing : Raise R) (h : Record → B) (none : B)
       ∙ look_set (λ (x : Record). x.id == id) h none s.records k r (with_placement (stands.On m bound) r) here refl
       (placed r m bound (single_here s own n k was r rising has here named))
 
-  replaced_rising : (own : ℕ) (place : Placement) (s t : SystemView R) → HasRisingIds s.records → Records own place s t
+  replaced_rising : (own : ℕ) (placement : Placement) (s t : SystemView R) → HasRisingIds s.records → Records own placement s t
       → HasRisingIds t.records
-  replaced_rising own place s t rising (k, r, here, named, records, last) = subst HasRisingIds (sym records)
-      (rising_set s.records k r (with_placement place r) rising here refl)
+  replaced_rising own placement s t rising (k, r, here, named, records, last) = subst HasRisingIds (sym records)
+      (rising_set s.records k r (with_placement placement r) rising here refl)
 
   ended_look : (s t : SystemView R) (k n : ℕ) (r : Record) (c : Sent) → IsRecord s.records k r
       → t.records ≡ slice_set s.records k (with_ended n c r) → look t ≡ look s
   ended_look s t k n r c here records = ap (λ rs. option_map_or h (found id rs) none) records
       ∙ look_set (λ (x : Record). x.id == id) h none s.records k r (with_ended n c r) here refl (ended r n c)
 
-  new_look : (own : ℕ) (level : Level) (place : Placement) (s t : SystemView R) → own ≢ id
-      → t.records ≡ s.records ++ new_record own level place ∷ [] → look t ≡ look s
-  new_look own level place s t ne records = ap (λ rs. option_map_or h (found id rs) none) records
+  new_look : (own : ℕ) (level : Level) (placement : Placement) (s t : SystemView R) → own ≢ id
+      → t.records ≡ s.records ++ new_record own level placement ∷ [] → look t ≡ look s
+  new_look own level placement s t ne records = ap (λ rs. option_map_or h (found id rs) none) records
       ∙ ap (λ o. option_map_or h o none)
-      (find_more (λ (x : Record). x.id == id) s.records (new_record own level place) (false_ne own id ne))
+      (find_more (λ (x : Record). x.id == id) s.records (new_record own level placement) (false_ne own id ne))
 
   binds_look : (own n : ℕ) (answer : Result (Unit {0}) Refusal) (s t : SystemView R) → HasRisingIds s.records
       → Binds firing own n answer s t → look t ≡ look s
@@ -138,14 +138,14 @@ module _ {R B : Type 0} (firing : Raise R) (h : Record → B) (none : B)
 
   turn_look : (n own : ℕ) (turn : Turn) (s t : SystemView R) → HasRisingIds s.records → TakesTurn firing n own turn s t
       → (look t ≡ look s) × HasRisingIds t.records
-  turn_look n own StaysBound s t rising (place, same) =
+  turn_look n own StaysBound s t rising (placement, same) =
       (ap look same, subst (λ (u : SystemView R). HasRisingIds u.records) (sym same) rising)
-  turn_look n own StaysPending s t rising (place, found, some, only) =
+  turn_look n own StaysPending s t rising (placement, found, some, only) =
       (looked_same s t only.1, subst HasRisingIds (sym only.1) rising)
-  turn_look n own StaysRefused s t rising (place, d, chosen, e, only) =
+  turn_look n own StaysRefused s t rising (placement, d, chosen, e, only) =
       (looked_same s t only.1, subst HasRisingIds (sym only.1) rising)
-  turn_look n own Moves s t rising (place, d, chosen, moves, records) =
-      (replaced_look own n d false false s t rising place records, replaced_rising own _ s t rising records)
+  turn_look n own Moves s t rising (placement, d, chosen, moves, records) =
+      (replaced_look own n d false false s t rising placement records, replaced_rising own _ s t rising records)
 
   pub turns_look : (n : ℕ) (ids : List ℕ) (report : JuggleReport) (s t : SystemView R) → HasRisingIds s.records
       → Turns firing n ids report s t → look t ≡ look s

@@ -236,8 +236,8 @@ least_within (suc more) k n = (let rest = least_within more (k + 1) n in by (nat
 bank_within : (n : ℕ) → bank_for n ≤ greatest_bank
 bank_within n = let a = least_within greatest_bank 0 n in omega (arith, a)
 
-few_places : (bank : ℕ) → bank ≤ greatest_bank → 2 ^ bank ≤ most_cyclics
-few_places bank within = let some : 0 < 2 = omega arith in pow-le-pow_right some within
+few_slots : (bank : ℕ) → bank ≤ greatest_bank → 2 ^ bank ≤ most_cyclics
+few_slots bank within = let some : 0 < 2 = omega arith in pow-le-pow_right some within
 
 lowers_switch : (v w : FiringView) (bank : ℕ) → Learns v (Expands bank) w → 2 ^ v.bank ≤ 2 ^ bank → bank ≤ greatest_bank →
     Lowers v w
@@ -256,7 +256,7 @@ module _ {R : Type 0} (firing : Raise R) where
       let low = (a.low less).1 in
       let x = h.lock_bank in
       let y = h.low_bank in
-      let few = few_places (bank_for n) within in
+      let few = few_slots (bank_for n) within in
       let held = may.reserved in
       let size = a.size in
       let room = a.room in

@@ -85,8 +85,8 @@ outs_entering : (id : ℕ) (ns : List ℕ) (own : ℕ) (level : Level) (when : W
 outs_entering id [] own level when skew now ne = tt
 outs_entering id (n ∷ ns) own level when skew now ne = (tt, (ne, outs_entering id ns own level when skew now ne))
 
-outs_return : (id n now own : ℕ) (level : Level) (counts : Sent) (place : Placement) → own ≢ id
-    → Outs id (return_at n now own level counts place)
+outs_return : (id n now own : ℕ) (level : Level) (counts : Sent) (placement : Placement) → own ≢ id
+    → Outs id (return_at n now own level counts placement)
 outs_return id n now own level counts (stands.On m bound) ne = tt
 outs_return id n now own level counts (stands.Everywhere first skew) ne = (ne, tt)
 
@@ -190,29 +190,30 @@ module _ {R : Type 0} (firing : Raise R) where
     marks = marks_kept firing way s.cpus t.cpus plain only.0;
   }
 
-  -- a cyclic's record has another place
-  placed_records : (own : ℕ) (place : Placement) (s t : SystemView R) → Records own place s t → (id : ℕ) → id ≤ s.last
+  -- a cyclic's record has another placement
+  placed_records : (own : ℕ) (placement : Placement) (s t : SystemView R) → Records own placement s t → (id : ℕ) → id ≤ s.last
       → Unnamed id s.records → Unnamed id t.records
-  placed_records own place s t (k, r, here, named, records, last) id low none =
+  placed_records own placement s t (k, r, here, named, records, last) id low none =
       subst (λ rs. Unnamed id rs) (sym records) (unnamed_set id s.records k r _ none here refl)
 
   -- the id of a record is another one
-  named_not : (own : ℕ) (place : Placement) (s t : SystemView R) → Records own place s t → (id : ℕ) → Unnamed id s.records
+  named_not : (own : ℕ) (placement : Placement) (s t : SystemView R) → Records own placement s t → (id : ℕ) → Unnamed id s.records
       → own ≢ id
-  named_not own place s t (k, r, here, named, records, last) id none same = none k r here (named ∙ same)
+  named_not own placement s t (k, r, here, named, records, last) id none same = none k r here (named ∙ same)
 
-  last_of : (own : ℕ) (place : Placement) (s t : SystemView R) → Records own place s t → s.last ≤ t.last
-  last_of own place s t (k, r, here, named, records, last) = same_low s.last t.last last
+  last_of : (own : ℕ) (placement : Placement) (s t : SystemView R) → Records own placement s t → s.last ≤ t.last
+  last_of own placement s t (k, r, here, named, records, last) = same_low s.last t.last last
 
-  made_goes : (own home target : ℕ) (place : Placement) (s t : SystemView R)
+  made_goes : (own home target : ℕ) (placement : Placement) (s t : SystemView R)
       → GoesTo firing (move_of own home target) (Ok tt) s.cpus t.cpus
-      → Records own place s t → IsPlainlyMadeOf s t
-  made_goes own home target place s t (inl (at, is, same)) records =
-      made_calls s t [] tt (sym same) (last_of own place s t records) (λ id low none. tt) (placed_records own place s t records)
-  made_goes own home target place s t (inr (ne, (taken, works))) records =
-      made_calls s t (moving own home target taken) (tt, (tt, (tt, (tt, (tt, tt))))) works (last_of own place s t records)
-      (λ id low none. (tt, (tt, (tt, (tt, (named_not own place s t records id none, tt))))))
-      (placed_records own place s t records)
+      → Records own placement s t → IsPlainlyMadeOf s t
+  made_goes own home target placement s t (inl (at, is, same)) records =
+      made_calls s t [] tt (sym same) (last_of own placement s t records) (λ id low none. tt)
+      (placed_records own placement s t records)
+  made_goes own home target placement s t (inr (ne, (taken, works))) records =
+      made_calls s t (moving own home target taken) (tt, (tt, (tt, (tt, (tt, tt))))) works (last_of own placement s t records)
+      (λ id low none. (tt, (tt, (tt, (tt, (named_not own placement s t records id none, tt))))))
+      (placed_records own placement s t records)
 
   made_unshifted : (own source target : ℕ) (e : Refusal) (s t : SystemView R)
       → WhyNotShifted firing (move_of own source target) e s.cpus t.cpus → t.records ≡ s.records → t.last ≡ s.last
@@ -360,12 +361,12 @@ module _ {R : Type 0} (firing : Raise R) where
   -- ---- juggle and offline
 
   turns_one : (n id : ℕ) (turn : Turn) (s t : SystemView R) → TakesTurn firing n id turn s t → IsPlainlyMadeOf s t
-  turns_one n id StaysBound s t (place, same) = made_same s t same
-  turns_one n id StaysPending s t (place, found, some, only) =
+  turns_one n id StaysBound s t (placement, same) = made_same s t same
+  turns_one n id StaysPending s t (placement, found, some, only) =
       made_only s t (on n (AskPending id (Some found)) ∷ []) (tt, tt) (λ q. (tt, tt)) only
-  turns_one n id StaysRefused s t (place, d, chosen, e, only) =
+  turns_one n id StaysRefused s t (placement, d, chosen, e, only) =
       made_only s t (on n (AskPending id (Some 0)) ∷ on d (Reserve 1 (Err e)) ∷ []) (tt, (tt, tt)) (λ q. (tt, (tt, tt))) only
-  turns_one n id Moves s t (place, d, chosen, (taken, works), records) =
+  turns_one n id Moves s t (placement, d, chosen, (taken, works), records) =
       made_calls s t (moving id n d taken) (tt, (tt, (tt, (tt, (tt, tt))))) works (last_of id (stands.On d false) s t records)
       (λ q low none. (tt, (tt, (tt, (tt, (named_not id (stands.On d false) s t records q none, tt))))))
       (placed_records id (stands.On d false) s t records)

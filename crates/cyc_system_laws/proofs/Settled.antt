@@ -40,14 +40,16 @@ module _ {C R : Type 0} (firing : Raise R)
       IsSettled firing.view x → All IsNoFire (calls_on n way) → y.size ≡ x.size → FoldsTo Runs s way t → IsSettled firing.view y
   settled_there n x y s t way here there h calm same run =
       let (z, at, fold) = some_see handler firing interrupts n x s way t run here in
-      steps_settle firing (λ z. z) One one_grows one_settles x y (calls_on n way) h calm same (subst (λ u. FoldsTo One x (calls_on n way) u)
+      steps_settle firing (λ z. z) One one_grows one_settles x y (calls_on n way) h calm same
+      (subst (λ u. FoldsTo One x (calls_on n way) u)
       (one_cpu n z y t.cpus at there) fold)
 
   pub grows_there : (n : ℕ) (x y : CpuView R) (s t : RunningCpus C R) (way : List CallOn) → IsCpu n x s.cpus → IsCpu n y t.cpus →
       FoldsTo Runs s way t → x.size ≤ y.size
   grows_there n x y s t way here there run =
       let (z, at, fold) = some_see handler firing interrupts n x s way t run here in
-      steps_grow firing (λ z. z) One one_grows one_settles x y (calls_on n way) (subst (λ u. FoldsTo One x (calls_on n way) u) (one_cpu n z y t.cpus at there) fold)
+      steps_grow firing (λ z. z) One one_grows one_settles x y (calls_on n way)
+      (subst (λ u. FoldsTo One x (calls_on n way) u) (one_cpu n z y t.cpus at there) fold)
 
   pub at_once : (s t : RunningCpus C R) (c : CallOn) → OfCpu c.cpu (IsSettled firing.view) s.cpus → Runs s c t → IsPutOff c.call
       → ⊥

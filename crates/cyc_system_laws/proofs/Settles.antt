@@ -174,15 +174,15 @@ module _ {R : Type 0} (firing : Raise R) where
 
   -- a turn leaves its source settled
   pub turn_rests : (n own : ℕ) (turn : Turn) (s t : SystemView R) → TakesTurn firing n own turn s t → Rests n s.cpus t.cpus
-  turn_rests n own StaysBound s t (place, same) = rests_same n s.cpus t.cpus (ap (λ (u : SystemView R). u.cpus) same)
-  turn_rests n own StaysPending s t (place, found, some, ((u, d, last), records, l)) =
+  turn_rests n own StaysBound s t (placement, same) = rests_same n s.cpus t.cpus (ap (λ (u : SystemView R). u.cpus) same)
+  turn_rests n own StaysPending s t (placement, found, some, ((u, d, last), records, l)) =
       rests_then n s.cpus u t.cpus (rests_at n n _ s.cpus u d (λ e. asks_settled own (Some found) d.before d.after d.change))
       (rests_same n u t.cpus (sym last))
-  turn_rests n own StaysRefused s t (place, d, chosen, e, ((u1, a, (u2, b, last)), records, l)) =
+  turn_rests n own StaysRefused s t (placement, d, chosen, e, ((u1, a, (u2, b, last)), records, l)) =
       rests_then n s.cpus u1 t.cpus (rests_at n n _ s.cpus u1 a (λ q. asks_settled own (Some 0) a.before a.after a.change))
       (rests_then n u1 u2 t.cpus (rests_at n d _ u1 u2 b
       (λ q. absurd ((destination_fits (Some n) s.cpus d chosen).1 (ap Some q)))) (rests_same n u2 t.cpus (sym last)))
-  turn_rests n own Moves s t (place, d, chosen, (taken, (u1, a, (u2, b, (u3, c, (u4, p, (u5, q, last)))))), records) =
+  turn_rests n own Moves s t (placement, d, chosen, (taken, (u1, a, (u2, b, (u3, c, (u4, p, (u5, q, last)))))), records) =
       let apart : n ≡ d → ⊥ = λ q. (destination_fits (Some n) s.cpus d chosen).1 (ap Some q) in
       rests_then n s.cpus u1 t.cpus (rests_at n n _ s.cpus u1 a (λ q. asks_settled own (Some 0) a.before a.after a.change))
       (rests_then n u1 u2 t.cpus (rests_at n d _ u1 u2 b (λ q. absurd (apart q)))
@@ -199,12 +199,12 @@ module _ {R : Type 0} (firing : Raise R) where
   -- as many CPUs after a turn
   pub many_turn : (n own : ℕ) (turn : Turn) (s t : SystemView R) → TakesTurn firing n own turn s t
       → length t.cpus.cpus ≡ length s.cpus.cpus
-  many_turn n own StaysBound s t (place, same) = ap (λ (u : SystemView R). length u.cpus.cpus) same
-  many_turn n own StaysPending s t (place, found, some, only) = as_many firing
+  many_turn n own StaysBound s t (placement, same) = ap (λ (u : SystemView R). length u.cpus.cpus) same
+  many_turn n own StaysPending s t (placement, found, some, only) = as_many firing
       (on n (AskPending own (Some found)) ∷ []) s.cpus t.cpus only.0
-  many_turn n own StaysRefused s t (place, d, chosen, e, only) = as_many firing
+  many_turn n own StaysRefused s t (placement, d, chosen, e, only) = as_many firing
       (on n (AskPending own (Some 0)) ∷ on d (Reserve 1 (Err e)) ∷ []) s.cpus t.cpus only.0
-  many_turn n own Moves s t (place, d, chosen, (taken, works), records) = as_many firing
+  many_turn n own Moves s t (placement, d, chosen, (taken, works), records) = as_many firing
       (moving own n d taken) s.cpus t.cpus works
 
   many_turns : (n : ℕ) (ids : List ℕ) (report : JuggleReport) (s t : SystemView R) → Turns firing n ids report s t

@@ -14,7 +14,8 @@ use Rattle.cyc_cpu.specs.Cpu.{CpuView, Running, running, HasNoCyclic}
 use Rattle.cyc_cpu.specs.Gone.{IsGone, PutsNot}
 use Rattle.cyc_cpu.specs.Soft.{raise_tables, Interrupts}
 use Rattle.cyc_cpu.specs.Calls.{Suspend, Resume}
-use Rattle.cyc_cpu.specs.Calls.{CpuCall, CpuChanges, CpuDoes, no_interrupts, Fire, SoftInterrupt, Add, Place, Reprogram, AskPending}
+use Rattle.cyc_cpu.specs.Calls.{CpuCall, CpuChanges, CpuDoes, no_interrupts, Fire, SoftInterrupt, Add, Place, Reprogram}
+use Rattle.cyc_cpu.specs.Calls.{AskPending}
 use Rattle.cyc_cpu.specs.Calls.{AskTotals, AskRoom, Reserve, Widen, BeginRemove, PollRemove, TakeNow, AskSettled}
 use Rattle.cyc_cpu.proofs.Following.{stays_gone}
 use Rattle.cyc_cpu_laws.proofs.Shifts.{changes_shift, shift_away}

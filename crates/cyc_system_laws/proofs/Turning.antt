@@ -46,7 +46,7 @@ module _ {R : Type 0} (firing : Raise R) (n : ℕ) where
       → 0 < report.pending → NotSettled firing n s.cpus
   turns_pend [] report s t (none, same) some =
       absurd (let e = ap (λ (r : JuggleReport). r.pending) none in omega (arith, e, some))
-  turns_pend (own ∷ ids) report s t (StaysPending, u, rest, (place, found, many, ((v, d, last), records, l)), is, more) some =
+  turns_pend (own ∷ ids) report s t (StaysPending, u, rest, (placement, found, many, ((v, d, last), records, l)), is, more) some =
       (d.before, d.here, pending_here firing own found d.before d.after d.change many)
   turns_pend (own ∷ ids) report s t (StaysBound, u, rest, takes, is, more) some =
       not_before firing n s.cpus u.cpus (many_turn firing n own StaysBound s u takes)
@@ -146,11 +146,11 @@ module _ {R : Type 0} (firing : Raise R) (n : ℕ) where
 
   turn_way : (own : ℕ) (turn : Turn) (s t : SystemView R) → TakesTurn firing n own turn s t
       → (way : List CallOn) × AreOfTurns way × Works firing way s.cpus t.cpus
-  turn_way own StaysBound s t (place, same) = ([], tt, sym (ap (λ (u : SystemView R). u.cpus) same))
-  turn_way own StaysPending s t (place, found, some, only) = (on n (AskPending own (Some found)) ∷ [], (tt, tt), only.0)
-  turn_way own StaysRefused s t (place, d, chosen, e, only) =
+  turn_way own StaysBound s t (placement, same) = ([], tt, sym (ap (λ (u : SystemView R). u.cpus) same))
+  turn_way own StaysPending s t (placement, found, some, only) = (on n (AskPending own (Some found)) ∷ [], (tt, tt), only.0)
+  turn_way own StaysRefused s t (placement, d, chosen, e, only) =
       (on n (AskPending own (Some 0)) ∷ on d (Reserve 1 (Err e)) ∷ [], (tt, (tt, tt)), only.0)
-  turn_way own Moves s t (place, d, chosen, (taken, works), records) =
+  turn_way own Moves s t (placement, d, chosen, (taken, works), records) =
       (moving own n d taken, (tt, (tt, (tt, (tt, (tt, tt))))), works)
 
   turns_way : (ids : List ℕ) (report : JuggleReport) (s t : SystemView R) → Turns firing n ids report s t
@@ -206,7 +206,7 @@ module _ {R : Type 0} (firing : Raise R) (n : ℕ) where
       let a = turns_counted ids rest u t more in let e = ap (λ (r : JuggleReport). r.refused) is in omega (arith, a, e)
   turns_counted (own ∷ ids) report s t (StaysPending, u, rest, takes, is, more) =
       let a = turns_counted ids rest u t more in let e = ap (λ (r : JuggleReport). r.refused) is in omega (arith, a, e)
-  turns_counted (own ∷ ids) report s t (StaysRefused, u, rest, (place, d, chosen, x, only), is, more) =
+  turns_counted (own ∷ ids) report s t (StaysRefused, u, rest, (placement, d, chosen, x, only), is, more) =
       let a = turns_counted ids rest u t more in let e = ap (λ (r : JuggleReport). r.refused) is in omega (arith, a, e)
   turns_counted (own ∷ ids) report s t (Moves, u, rest, takes, is, more) =
       let a = turns_counted ids rest u t more in let e = ap (λ (r : JuggleReport). r.refused) is in omega (arith, a, e)
@@ -242,14 +242,14 @@ module _ {R : Type 0} (firing : Raise R) (n : ℕ) where
       all_sooner own StaysPending s u t takes (refused_turns firing n ids rest u t more) (within ids rest u t more)
   within (own ∷ ids) report s t (Moves, u, rest, takes, is, more) =
       all_sooner own Moves s u t takes (refused_turns firing n ids rest u t more) (within ids rest u t more)
-  within (own ∷ ids) report s t (StaysRefused, u, rest, (place, d, chosen, e, only), is, more) =
+  within (own ∷ ids) report s t (StaysRefused, u, rest, (placement, d, chosen, e, only), is, more) =
       let (way, are, works) = turns_way (own ∷ ids) report s t
-      (StaysRefused, u, rest, (place, d, chosen, e, only), is, more) in
+      (StaysRefused, u, rest, (placement, d, chosen, e, only), is, more) in
       All-from_recursion (Within s t)
-      (refused_turns firing n (own ∷ ids) report s t (StaysRefused, u, rest, (place, d, chosen, e, only), is, more)) (
+      (refused_turns firing n (own ∷ ids) report s t (StaysRefused, u, rest, (placement, d, chosen, e, only), is, more)) (
         ((chosen, only), [], tt, refl, way, works),
         recursion_from_All (Within s t) (refused_turns firing n ids rest u t more)
-            (all_sooner own StaysRefused s u t (place, d, chosen, e, only) (refused_turns firing n ids rest u t more)
+            (all_sooner own StaysRefused s u t (placement, d, chosen, e, only) (refused_turns firing n ids rest u t more)
             (within ids rest u t more)),
       )
 

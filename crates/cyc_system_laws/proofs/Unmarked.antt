@@ -50,8 +50,8 @@ pub unmarked_entering : (ns : List ℕ) (own : ℕ) (level : Level) (when : When
 unmarked_entering [] own level when skew now = tt
 unmarked_entering (n ∷ ns) own level when skew now = (tt, (tt, unmarked_entering ns own level when skew now))
 
-pub unmarked_return : (n now own : ℕ) (level : Level) (counts : Sent) (place : Placement)
-    → Unmarked (return_at n now own level counts place)
+pub unmarked_return : (n now own : ℕ) (level : Level) (counts : Sent) (placement : Placement)
+    → Unmarked (return_at n now own level counts placement)
 unmarked_return n now own level counts (stands.On m bound) = tt
 unmarked_return n now own level counts (stands.Everywhere first skew) = (tt, tt)
 

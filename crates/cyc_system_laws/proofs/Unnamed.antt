@@ -20,7 +20,7 @@ unnamed id rs none k r is same = none k r (slice_get_within rs k r is)
 pub no_record : (id : ℕ) (rs : List Record) → Unnamed id rs → HasNoRecord id rs
 no_record id rs none k d low = none k (get_or rs k d) (slice_get-get_or rs k d low)
 
--- a record with another place or other counts
+-- a record with another placement or other counts
 pub unnamed_set : (id : ℕ) (rs : List Record) (k : ℕ) (r x : Record) → Unnamed id rs → IsRecord rs k r → x.id ≡ r.id
     → Unnamed id (slice_set rs k x)
 unnamed_set id rs k r x none is same j q at = dite (ℕ_discrete j k)

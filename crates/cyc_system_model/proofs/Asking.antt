@@ -22,7 +22,8 @@ use Rattle.cyc_system.specs.Binding.{HasPlacement, HasHome}
 use Rattle.cyc_system.proofs.Recording.{record_here}
 use Rattle.cyc_model.specs.Cpu.{Cpu, is_of, has_cyclic}
 use Rattle.cyc_model.specs.State.{State, Placement, Placed, absent}
-use Rattle.cyc_model.specs.Places.{placement_of, is_no_cyclic, is_being_removed, is_placed_everywhere, is_omni, is_bound_at, is_bound}
+use Rattle.cyc_model.specs.Places.{placement_of, is_no_cyclic, is_being_removed, is_placed_everywhere, is_omni, is_bound_at}
+use Rattle.cyc_model.specs.Places.{is_bound}
 use Rattle.cyc_model.specs.Places.{home_at, home_of}
 use Rattle.cyc_types.specs.Reasons.{when, or_else}
 use Rattle.cyc_model.specs.Refusals.{is_no_cpu, cpu_is_offline, no_id_left}
@@ -35,52 +36,53 @@ use Rattle.cyc_system_model.proofs.Cpus.{long_shown}
 
 -- ---- where a cyclic is
 
-abbrev place_in : Option Record → Option Placement
-place_in o = option_map (λ (r : Record). shown_placement r.level r.placement) o
+abbrev placement_in : Option Record → Option Placement
+placement_in o = option_map (λ (r : Record). shown_placement r.level r.placement) o
 
 find_shown : (id : ℕ) (rs : List Record)
     → option_map (λ (p : Placed). p.placement) (find (λ (p : Placed). p.id == id) (map shown_record rs))
-    ≡ place_in (find (λ (r : Record). r.id == id) rs)
+    ≡ placement_in (find (λ (r : Record). r.id == id) rs)
 find_shown id [] = refl
 find_shown id (r ∷ rs) = pick (r.id == id) (find_shown id rs)
   where
     pick : (b : Bool) → option_map (λ (p : Placed). p.placement) (find (λ (p : Placed). p.id == id) (map shown_record rs))
-        ≡ place_in (find (λ (q : Record). q.id == id) rs)
+        ≡ placement_in (find (λ (q : Record). q.id == id) rs)
         → option_map (λ (p : Placed). p.placement)
         (cond b (Some (shown_record r)) (find (λ (p : Placed). p.id == id) (map shown_record rs)))
-        ≡ place_in (cond b (Some r) (find (λ (q : Record). q.id == id) rs))
+        ≡ placement_in (cond b (Some r) (find (λ (q : Record). q.id == id) rs))
     pick true rest = refl
     pick false rest = rest
 
-pub place_shown : (id : ℕ) (s : State) (v : SystemView Tables) → ShowsSystem s v → placement_of id s ≡ place_in (record_of id v)
-place_shown id s v h =
+pub placement_shown : (id : ℕ) (s : State) (v : SystemView Tables) → ShowsSystem s v
+    → placement_of id s ≡ placement_in (record_of id v)
+placement_shown id s v h =
     ap (λ ps. option_map (λ (p : Placed). p.placement) (find (λ (p : Placed). p.id == id) ps)) h.placed ∙ find_shown id v.records
 
-is_some_in : (o : Option Record) → is_some (place_in o) ≡ is_some o
+is_some_in : (o : Option Record) → is_some (placement_in o) ≡ is_some o
 is_some_in None = refl
 is_some_in (Some r) = refl
 
 pub unknown_shown : (id : ℕ) (s : State) (v : SystemView Tables) → ShowsSystem s v → is_no_cyclic id s ≡ unknown_in id v
-unknown_shown id s v h = ap (λ o. not (is_some o)) (place_shown id s v h) ∙ ap not (is_some_in (record_of id v))
+unknown_shown id s v h = ap (λ o. not (is_some o)) (placement_shown id s v h) ∙ ap not (is_some_in (record_of id v))
 
 everywhere_shown : (level : Level) (p : RecordPlacement) → is_placed_everywhere (Some (shown_placement level p)) ≡ everywhere_in p
 everywhere_shown level (placements.On cpu bound) = refl
 everywhere_shown level (placements.Everywhere first skew) = refl
 
-everywhere_of : (o : Option Record) → is_placed_everywhere (place_in o) ≡ option_map_or (λ (r : Record). everywhere_in
+everywhere_of : (o : Option Record) → is_placed_everywhere (placement_in o) ≡ option_map_or (λ (r : Record). everywhere_in
     r.placement) o
     false
 everywhere_of None = refl
 everywhere_of (Some r) = everywhere_shown r.level r.placement
 
 pub omnipresent_shown : (id : ℕ) (s : State) (v : SystemView Tables) → ShowsSystem s v → is_omni id s ≡ omnipresent_in id v
-omnipresent_shown id s v h = ap is_placed_everywhere (place_shown id s v h) ∙ everywhere_of (record_of id v)
+omnipresent_shown id s v h = ap is_placed_everywhere (placement_shown id s v h) ∙ everywhere_of (record_of id v)
 
 -- the CPU of a cyclic that is on one
 pub home_shown : (id n : ℕ) (s : State) (v : SystemView Tables) → ShowsSystem s v → HasRisingIds v.records → HasHome id n v
     → home_of id s ≡ n
 home_shown id n s v h rising (bound, (k, r, is, named, at)) =
-    ap home_at (place_shown id s v h ∙ ap place_in (record_here id k r v.records rising is named))
+    ap home_at (placement_shown id s v h ∙ ap placement_in (record_here id k r v.records rising is named))
     ∙ ap (λ p. home_at (Some (shown_placement r.level p))) at
 
 -- whether it is bound to it
@@ -88,7 +90,7 @@ pub bound_shown : (id n : ℕ) (bound : Bool) (s : State) (v : SystemView Tables
     → HasPlacement id n bound v
     → is_bound id s ≡ bound
 bound_shown id n bound s v h rising (k, r, is, named, at) =
-    ap is_bound_at (place_shown id s v h ∙ ap place_in (record_here id k r v.records rising is named))
+    ap is_bound_at (placement_shown id s v h ∙ ap placement_in (record_here id k r v.records rising is named))
     ∙ ap (λ p. is_bound_at (Some (shown_placement r.level p))) at
 
 -- ---- the CPUs

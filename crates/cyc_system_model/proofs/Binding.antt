@@ -136,7 +136,7 @@ went id source target taken v w long ties (u1, ask, (u2, reserve, (u3, take, (u4
       target_there = subst (λ cs. target < length cs) asked r.within;
     }
 
--- the definition's move of a cyclic that was found, and the place to which it is bound after it
+-- the definition's move of a cyclic that was found, and what it is bound to after it
 abbrev went_to : (ℕ → ℕ) → ℕ → ℕ → ℕ → Option CyclicState → State → Outcome
 went_to indexes id source target o s = followed_by
     (followed_by (on_number source (take_here source id) s) (λ t. bring indexes target o (put_at id (On target (is_bound id t))

@@ -18,7 +18,7 @@ use Rattle.cyc_model.specs.Cpu.{Cpu, cyclic_with_id}
 use Rattle.cyc_model.specs.Questions.{plain, outstanding_here}
 use Rattle.cyc_model.specs.State.{State, Outcome, Placed, cpu_of, nothing, before, numbers, cpus_having, each}
 use Rattle.cyc_model.specs.Places.{is_being_removed, is_no_cyclic, keep_counts}
-use Rattle.cyc_model.proofs.Placing.{place_forgotten}
+use Rattle.cyc_model.proofs.Placing.{placement_forgotten}
 use Rattle.cyc_model.specs.Remove.{poll, clear_if, answered}
 use Rattle.cyc_model.specs.Report.{counts_of}
 use Rattle.cyc_model.specs.Softint.{interrupt, is_open, text_of_id, polled, poll_id, leaving_ids}
@@ -146,7 +146,7 @@ module _ (texts : List (List ℕ)) (step id : ℕ) (m : State) (v w : SystemView
   polled_unknown receipt (inr (none, (way, u, ns, did, answers))) =
       let c = (comes_all way u ns did).came in
       ap (λ ks. is_no_cyclic id (polled step text id ks parts).state) (nowhere id receipt parts.state u w c.shows c.half answers)
-      ∙ ap (λ o. not (is_some o)) (place_forgotten id parts.state)
+      ∙ ap (λ o. not (is_some o)) (placement_forgotten id parts.state)
 
 pub receipt_polled : (id : ℕ) (receipt : Receipt) (v w : SystemView Tables) → PollsRemoval raise_tables id (Ok (Some receipt)) v w
     → receipt.id ≡ id

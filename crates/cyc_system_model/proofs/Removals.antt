@@ -26,7 +26,7 @@ use Rattle.cyc_model.specs.Places.{id_of, is_no_cyclic}
 use Rattle.cyc_types.specs.Reasons.{first_refusal, when, busy}
 use Rattle.cyc_model.specs.Remove.{busy_on_any, remove_id_refusal, begin, answered, begun, with_answer, kept_on}
 use Rattle.cyc_model.specs.Script.{text_in}
-use Rattle.cyc_model.proofs.Placing.{place_forgotten}
+use Rattle.cyc_model.proofs.Placing.{placement_forgotten}
 use Rattle.cyc_model.proofs.Numbers.{Has, RiseFrom, numbers_rise, numbers_pass}
 use Rattle.cyc_model.proofs.Rising.{found, any_found}
 use Rattle.cyc_cpu_model.proofs.Free.{none_admitted}
@@ -189,7 +189,7 @@ module _ (name : ℕ) (m : State) (v w : SystemView Tables) (sys : IsSystem v) (
       let c = came own_id way m v u h (half v sys) ns begins in
       ap (λ ks. is_no_cyclic own_id (begun plain step text own_id ks o).state)
       (nowhere own_id receipt o.state u w c.shows c.half answers)
-      ∙ ap (λ p. not (is_some p)) (place_forgotten own_id o.state)
+      ∙ ap (λ p. not (is_some p)) (placement_forgotten own_id o.state)
 
   pub remove_kept : (waits : ℕ) → BeginsRemoval raise_tables (id_of name m) (Ok (system.Kept waits)) v w → IsKept name waits m w
   remove_kept waits (inl (e, some, answer, same)) = absurd (let isnt : Ok (system.Kept waits) ≡ Err e = answer in cc)

@@ -1,4 +1,4 @@
--- A cyclic that has another place.
+-- A cyclic that has another placement.
 use Rattle.std.proofs.Common.{◌≡◌, ◌≢◌, ℕ, zero, suc, ◌==◌, ◌⊎◌, inl, inr, Bool, true, false, cond, List, [], ◌∷◌, map, Some}
 use Rattle.std.proofs.Common.{None, refl, ap, sym, ◌∙◌, subst, arith}
 use Rattle.std.specs.Prelude.{slice_set, Ok, Err}
@@ -86,7 +86,7 @@ ended_same s v k n b r h is j q there m =
         ∙ get_set_same v.records k new (slice_get_within v.records k r is) in
         subst (λ (x : Record). s.ended x.id m ≡ shown_counts (ended_on m x)) (sym (same_some at)) (h.ended k r is m)
 
--- the machine with the other place shows the system with it
+-- the machine with the other placement shows the system with it
 pub replaced_shows : (s x : State) (v w : SystemView Tables) → ShowsSystem s v → HasRisingIds v.records → (id n : ℕ) (b : Bool)
     → Records id (placements.On n b) v w → x.cpus ≡ shown_cpus w.cpus → x.placed ≡ map (replaced id (On n b)) s.placed
     → ((i m : ℕ) → x.ended i m ≡ s.ended i m) → x.last_id ≡ s.last_id → ShowsSystem x w
@@ -99,7 +99,7 @@ replaced_shows s x v w h rising id n b (k, r, is, named, records, last) cpus pla
   last = gives ∙ h.last ∙ sym last;
 }
 
--- a place that is replaced twice
+-- a placement that is replaced twice
 pub replaced_twice : (id : ℕ) (p o : Placement) (ps : List Placed)
     → map (replaced id p) (map (replaced id o) ps) ≡ map (replaced id p) ps
 replaced_twice id p o [] = refl

@@ -41,7 +41,8 @@ use Rattle.cyc_model.specs.Places.{is_being_removed, without_ended}
 use Rattle.cyc_model.specs.Add.{one_admitted}
 use Rattle.cyc_types.specs.Reasons.{or_else, when, only_if, busy, bad_now}
 use Rattle.cyc_types.specs.Counting.{no_counts}
-use Rattle.cyc_model.specs.Online.{is_on_all, staying_omni, is_online_already, no_room_for_all, online_refusal, again, return_here, return_of}
+use Rattle.cyc_model.specs.Online.{is_on_all, staying_omni, is_online_already, no_room_for_all, online_refusal, again}
+use Rattle.cyc_model.specs.Online.{return_here, return_of}
 use Rattle.cyc_model.specs.Online.{return_all, go_online}
 use Rattle.cyc_model.proofs.Agreement.{agrees_with}
 use Rattle.cyc_model.proofs.Local.{Local, same_low_lock, local_nothing, local_widen, local_place}
@@ -50,7 +51,8 @@ use Rattle.cyc_cpu.specs.Cpu.{CpuView}
 use Rattle.cyc_cpu_model.specs.Shown.{shown_cpu}
 use Rattle.cyc_cpu_model.proofs.Free.{none_admitted, widen_none}
 use Rattle.cyc_system_model.proofs.Half.{half, half_works}
-use Rattle.cyc_system_model.specs.Shown.{shown_list, shown_cpus, shown_placement, shown_record, shown_counts, ShowsSystem, AreTied}
+use Rattle.cyc_system_model.specs.Shown.{shown_list, shown_cpus, shown_placement, shown_record, shown_counts, ShowsSystem}
+use Rattle.cyc_system_model.specs.Shown.{AreTied}
 use Rattle.cyc_system_model.specs.Shown.{IsSystem}
 use Rattle.cyc_system_model.specs.SystemWords.{GivesIndexes, ComesTo, IsDone, IsRefusedFor}
 use Rattle.cyc_system_model.proofs.Cpus.{cpu_at, done_at, long_shown}

@@ -29,7 +29,8 @@ use Rattle.cyc_model.proofs.Refusing.{none_first, is_cpu, is_online as online_th
 use Rattle.cyc_cpu_model.proofs.Free.{HasNoAdmit, none_admitted, no_more, fire_none}
 use Rattle.cyc_system_model.specs.Shown.{ShowsSystem, IsSystem}
 use Rattle.cyc_system_model.specs.SystemWords.{ComesTo}
-use Rattle.cyc_system_model.specs.SystemAdvancing.{at_clock, online_below, fire_each, fired_and_lost, HaveFired, HasFired, IsAdvanced}
+use Rattle.cyc_system_model.specs.SystemAdvancing.{at_clock, online_below, fire_each, fired_and_lost, HaveFired, HasFired}
+use Rattle.cyc_system_model.specs.SystemAdvancing.{IsAdvanced}
 use Rattle.cyc_system_model.proofs.Asking.{same_offline}
 use Rattle.cyc_system_model.proofs.SystemRunning.{fire_accepted}
 

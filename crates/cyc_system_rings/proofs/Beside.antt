@@ -27,7 +27,7 @@ use Rattle.cyc_system_workers.proofs.Removals.{removal_kept, IsSteady}
 use Rattle.cyc_system_laws.proofs.Spots.{none_some, same_some}
 use Rattle.cyc_system_laws.proofs.Who.{kept_at}
 use Rattle.cyc_system_laws.proofs.Folds.{find_set, find_remove, folds_keep}
-use Rattle.cyc_system_laws.proofs.Others.{at_place}
+use Rattle.cyc_system_laws.proofs.Others.{at_position}
 use Rattle.cyc_system_laws.specs.System.{SystemView, has, ids_on, removal_on, is_omnipresent}
 use Rattle.cyc_juggle.specs.Juggling.{single_ids}
 use Rattle.cyc_system_laws.specs.Laws.{cyclic_in, cyclic_on}
@@ -324,11 +324,11 @@ module _ {R : Type 0} (firing : Raise R) where
         (cyclic_with own level interval moment carried.sent carried.lost) (false_ne own id ne)
     other_kept x y (TakeNow own (Ok taken)) ne (still, (c, counts, is, polled, l)) =
         ap (λ cs. find (λ (c : Cyclic). c.timer.id == id) cs) l.cyclics
-        ∙ find_remove (λ (c : Cyclic). c.timer.id == id) x.cyclics l.position c (at_place x.cyclics l.position c l.here)
+        ∙ find_remove (λ (c : Cyclic). c.timer.id == id) x.cyclics l.position c (at_position x.cyclics l.position c l.here)
         (false_ne c.timer.id id (λ e. ne (sym l.named ∙ e)))
     other_kept x y (CpuReprogram own moment (Ok done)) ne (k, c, here, named, still, is) =
         ap (λ (z : CpuView R). cyclic_in id z) is
-        ∙ find_set (λ (c : Cyclic). c.timer.id == id) x.cyclics k c (with_moment moment c) (at_place x.cyclics k c here)
+        ∙ find_set (λ (c : Cyclic). c.timer.id == id) x.cyclics k c (with_moment moment c) (at_position x.cyclics k c here)
         (false_ne c.timer.id id (λ e. ne (sym named ∙ e))) (false_ne c.timer.id id (λ e. ne (sym named ∙ e)))
     other_kept x y (AskPending own (Some n)) ne d = same_list x y d.0.cyclics
     other_kept x y (AskPending own None) ne d = same_list x y (ap (λ (z : CpuView R). z.cyclics) d.1)

@@ -269,14 +269,14 @@ module _ (level : Level) (id : ℕ) where
     -- ---- offline
 
     turn_here : (n own : ℕ) (turn : Turn) (s t : SystemView R) → TakesTurn firing n own turn s t → all_here t ≤ all_here s
-    turn_here n own StaysBound s t (place, same) = let x = ap (λ (u : SystemView R). all_here u) same in omega (arith, x)
-    turn_here n own StaysPending s t (place, found, some, only) =
+    turn_here n own StaysBound s t (placement, same) = let x = ap (λ (u : SystemView R). all_here u) same in omega (arith, x)
+    turn_here n own StaysPending s t (placement, found, some, only) =
         let x = idle_same at_it id firing (on n (AskPending own (Some found)) ∷ []) s.cpus t.cpus (tt, tt) only.0 in
         omega (arith, x)
-    turn_here n own StaysRefused s t (place, d, chosen, e, only) =
+    turn_here n own StaysRefused s t (placement, d, chosen, e, only) =
         let x = idle_same at_it id firing (on n (AskPending own (Some 0)) ∷ on d (Reserve 1 (Err e)) ∷ []) s.cpus t.cpus
         (tt, (tt, tt)) only.0 in omega (arith, x)
-    turn_here n own Moves s t (place, d, chosen, (taken, works), records) =
+    turn_here n own Moves s t (placement, d, chosen, (taken, works), records) =
         let x = flows at_it id firing (moving own n d taken) s.cpus t.cpus (tt, (tt, (tt, (tt, (tt, tt))))) works in
         let y = moved_even at_it id own n d taken in omega (arith, x, y)
 
@@ -307,10 +307,10 @@ module _ (level : Level) (id : ℕ) where
 
     -- ---- online
 
-    return_none : (n now own : ℕ) (at : Level) (counts : Sent) (place : Placement) (way : List CallOn)
+    return_none : (n now own : ℕ) (at : Level) (counts : Sent) (placement : Placement) (way : List CallOn)
         → cond (own == id) (one_at at) 0 ≡ 0 → AllFixed at_it id way → all_brought at_it id way ≡ 0
-        → AllFixed at_it id (return_at n now own at counts place ++ way)
-        × (all_brought at_it id (return_at n now own at counts place ++ way) ≡ 0)
+        → AllFixed at_it id (return_at n now own at counts placement ++ way)
+        × (all_brought at_it id (return_at n now own at counts placement ++ way) ≡ 0)
     return_none n now own at counts (stands.On m bound) way z fixed none = (fixed, none)
     return_none n now own at counts (stands.Everywhere when skew) way z fixed none = ((tt, fixed), omega (arith, z, none))
 

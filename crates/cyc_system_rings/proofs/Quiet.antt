@@ -97,7 +97,7 @@ module _ {R : Type 0} (firing : Raise R) (id : ℕ) where
       on_each n (inl h) = (n, there n h)
       on_each n (inr (m, e)) = (m, e ∙ ap Some named)
 
-      by : (place : Placement) → r.placement ≡ place → (n : ℕ) × (removal_on n s.cpus ≡ Some id)
+      by : (placement : Placement) → r.placement ≡ placement → (n : ℕ) × (removal_on n s.cpus ≡ Some id)
       by (stands.On n bound) e = (n, there n (a.agrees.home k n bound r is e))
       by (stands.Everywhere when skew) e = (let (n, up) = a.agrees.some in
           on_each n (a.agrees.everywhere k n r is (ap is_everywhere e) up))

@@ -99,7 +99,7 @@ module _ {C R : Type 0} (handler : Calls C) (firing : Raise R) where
   leads_long s t AskAll a ready = let b : length t.leads.items ≡ length s.leads.items = λ i. length (a.leads i).items in
       let c = a.cpus.long in omega (arith, b, c, ready)
 
--- something stands at each place below the length
+-- something stands at each position below the length
 pub stands : {A : Type 0} (xs : List A) (n : ℕ) → n < length xs → (x : A) × (slice_get xs n ≡ Some x)
 stands [] n low = absurd (omega (arith, low))
 stands (x ∷ xs) zero low = (x, refl)

@@ -88,18 +88,18 @@ abbrev pub seen : Cyclic → ℕ × ℕ
 seen c = (c.timer.moment, c.timer.interval)
 
 -- the series of a record, where it is of an omnipresent cyclic
-abbrev pub place_series : Placement → Option (When × ℕ)
-place_series (stands.On n bound) = None
-place_series (stands.Everywhere when skew) = Some (when, skew)
+abbrev pub placement_series : Placement → Option (When × ℕ)
+placement_series (stands.On n bound) = None
+placement_series (stands.Everywhere when skew) = Some (when, skew)
 
 abbrev pub series_of : Record → Option (When × ℕ)
-series_of r = place_series r.placement
+series_of r = placement_series r.placement
 
 series_placed : (r : Record) (n : ℕ) (bound : Bool) → is_everywhere r.placement ≡ false
     → series_of (with_placement (stands.On n bound) r) ≡ series_of r
 series_placed r n bound e = by r.placement e
   where
-    by : (place : Placement) → is_everywhere place ≡ false → None ≡ place_series place
+    by : (placement : Placement) → is_everywhere placement ≡ false → None ≡ placement_series placement
     by (stands.On m b) e = refl
     by (stands.Everywhere when skew) e = absurd (let odd : true ≡ false = e in cc)
 
@@ -117,7 +117,7 @@ module _ {R : Type 0} (firing : Raise R) (id : ℕ) where
     its_record : (r : Record) × (found id s.records ≡ Some r) × (r.placement ≡ stands.Everywhere when skew)
     its_record = by (found id s.records) refl h.series
       where
-        placed : (r : Record) (place : Placement) → r.placement ≡ place → place_series place ≡ Some (when, skew)
+        placed : (r : Record) (placement : Placement) → r.placement ≡ placement → placement_series placement ≡ Some (when, skew)
             → r.placement ≡ stands.Everywhere when skew
         placed r (stands.On n bound) e is = absurd (none_some is)
         placed r (stands.Everywhere w k) e is = (let p = same_some is in e ∙ (λ i. stands.Everywhere (p i).0 (p i).1))
@@ -128,8 +128,8 @@ module _ {R : Type 0} (firing : Raise R) (id : ℕ) where
         by (Some r) e is = (r, e, placed r r.placement refl is)
 
     pub spread_omni : is_omnipresent id s ≡ true
-    spread_omni = (let (r, is, place) = its_record in
-        ap (λ o. option_map_or (λ (r : Record). is_everywhere r.placement) o false) is ∙ ap is_everywhere place)
+    spread_omni = (let (r, is, placement) = its_record in
+        ap (λ o. option_map_or (λ (r : Record). is_everywhere r.placement) o false) is ∙ ap is_everywhere placement)
 
     not_own : (own : ℕ) → is_omnipresent own s ≡ false → own ≢ id
     not_own own e same = (let odd : true ≡ false = sym spread_omni ∙ (ap (λ (j : ℕ). is_omnipresent j s) (sym same) ∙ e) in cc)
@@ -293,11 +293,11 @@ module _ {R : Type 0} (firing : Raise R) (id : ℕ) where
       at_it : option_map seen (cyclic_on n id t.cpus)
           ≡ option_map (λ m. (m, when.interval)) (moment_on n (slice_set ms n (Some (cpu_first n when skew now))))
       at_it =
-          let (r, found_it, place) = its_record when skew ms s h in let (k, is, named) = found_at id s.records r found_it in
+          let (r, found_it, placement) = its_record when skew ms s h in let (k, is, named) = found_at id s.records r found_it in
           let l = changes_long firing s t (Online n now (Ok tt)) (inr (clear, goes)) in let l2 = h.long in
           let (y, at) = get_some t.cpus.cpus n (omega (arith, low, l)) in
-          let (p, there, one) = all_back firing s t n now goes k r when skew is place
-          (both (is_everywhere r.placement) _ (ap is_everywhere place) (stays r.id named)) y at in
+          let (p, there, one) = all_back firing s t n now goes k r when skew is placement
+          (both (is_everywhere r.placement) _ (ap is_everywhere placement) (stays r.id named)) y at in
           ap (option_map seen) (ap (λ o. option_and_then (cyclic_in id) o) at
           ∙ cyclic_found y.cyclics id p _ (b.lawful n y at).rising there named)
           ∙ sym (ap (option_map (λ m. (m, when.interval)))

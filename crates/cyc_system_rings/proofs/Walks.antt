@@ -162,12 +162,12 @@ module _ {R : Type 0} (firing : Raise R) (K : CpusView R → CpusView R → Type
   omnis level when skew now (Err e) s t may (inr (is, first), records, last) = reserved 1 s.cpus t.cpus first
 
   turn : (n own : ℕ) (turned : Turn) (s t : SystemView R) → May own → TakesTurn firing n own turned s t → K s.cpus t.cpus
-  turn n own StaysBound s t may (place, e) = same s.cpus t.cpus (ap (λ (u : SystemView R). u.cpus) e)
-  turn n own StaysPending s t may (place, found, some, only) =
+  turn n own StaysBound s t may (placement, e) = same s.cpus t.cpus (ap (λ (u : SystemView R). u.cpus) e)
+  turn n own StaysPending s t may (placement, found, some, only) =
       idles (on n (AskPending own (Some found)) ∷ []) s.cpus t.cpus (tt, tt) only.0
-  turn n own StaysRefused s t may (place, d, chosen, e, only) =
+  turn n own StaysRefused s t may (placement, d, chosen, e, only) =
       idles (on n (AskPending own (Some 0)) ∷ on d (Reserve 1 (Err e)) ∷ []) s.cpus t.cpus (tt, (tt, tt)) only.0
-  turn n own Moves s t may (place, d, chosen, (taken, works), records) = moved own n d taken s.cpus t.cpus may works
+  turn n own Moves s t may (placement, d, chosen, (taken, works), records) = moved own n d taken s.cpus t.cpus may works
 
   turns : (n : ℕ) (ids : List ℕ) (report : JuggleReport) (s t : SystemView R)
       → ((p own : ℕ) → slice_get ids p ≡ Some own → May own) → Turns firing n ids report s t → K s.cpus t.cpus
@@ -186,8 +186,8 @@ module _ {R : Type 0} (firing : Raise R) (K : CpusView R → CpusView R → Type
       (one s.cpus u.cpus (on n (TakeNow own (Ok taken))) (may 0 own taken refl) does)
       (retires n ids u t (λ p q taken at. may (suc p) q taken at) rest)
 
-  return_good : (n now own : ℕ) (level : Level) (counts : Sent) (place : Placement) → Puts n own
-      → AreGood (return_at n now own level counts place)
+  return_good : (n now own : ℕ) (level : Level) (counts : Sent) (placement : Placement) → Puts n own
+      → AreGood (return_at n now own level counts placement)
   return_good n now own level counts (stands.On m bound) may = tt
   return_good n now own level counts (stands.Everywhere when skew) may =
       (may level when.interval (component_first n when skew now) counts, tt)

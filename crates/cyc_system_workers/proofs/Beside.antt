@@ -57,19 +57,19 @@ take_pushed xs n m k d e f h = ap (λ j. take n xs ++ get_or xs j d ∷ []) f �
 pub take_none : {A Y : Type 0} (q : A → Y) (xs : List A) (ys : List Y) (n : ℕ) → xs ≡ [] → n ≡ 0 → map q xs ≡ take n ys
 take_none q xs ys n e f = ap (λ (zs : List _). map q zs) e ∙ sym (ap (λ j. take j ys) f)
 
--- of the places, one more is taken and one fewer is left
-pub place_taken : (n n' left left' all : ℕ) → n' ≡ n + 1 → left' + 1 ≡ left → n + left ≡ all → n' + left' ≡ all
-place_taken n n' left left' all e f g = omega (arith, e, f, g)
+-- of the positions, one more is taken and one fewer is left
+pub position_taken : (n n' left left' all : ℕ) → n' ≡ n + 1 → left' + 1 ≡ left → n + left ≡ all → n' + left' ≡ all
+position_taken n n' left left' all e f g = omega (arith, e, f, g)
 
-pub place_left : (n left left' all : ℕ) → left' + 1 ≡ left → n + left ≡ all → n < all
-place_left n left left' all f g = omega (arith, f, g)
+pub position_left : (n left left' all : ℕ) → left' + 1 ≡ left → n + left ≡ all → n < all
+position_left n left left' all f g = omega (arith, f, g)
 
-pub places_free : {A : Type 0} (n left all : ℕ) (rest xs : List A) → n ≡ 0 → left ≡ length rest → rest ≡ xs → all ≡ length xs
+pub positions_free : {A : Type 0} (n left all : ℕ) (rest xs : List A) → n ≡ 0 → left ≡ length rest → rest ≡ xs → all ≡ length xs
     → n + left ≡ all
-places_free n left all rest xs e f g h = let k = ap (λ (zs : List _). length zs) g in omega (arith, e, f, h, k)
+positions_free n left all rest xs e f g h = let k = ap (λ (zs : List _). length zs) g in omega (arith, e, f, h, k)
 
-pub places_full : (n left all : ℕ) → left ≡ 0 → n + left ≡ all → all ≤ n
-places_full n left all e f = omega (arith, e, f)
+pub positions_full : (n left all : ℕ) → left ≡ 0 → n + left ≡ all → all ≤ n
+positions_full n left all e f = omega (arith, e, f)
 
 pub both_full : (n left left' all : ℕ) → left ≡ 0 → n + left ≡ all → n + left' ≡ all → left' ≡ 0
 both_full n left left' all e f g = omega (arith, e, f, g)

@@ -109,11 +109,11 @@ unknown_read None = refl
 unknown_read (Some r) = refl
 
 -- a new record is found
-pub new_there : {R : Type 0} (id : ℕ) (level : Level) (place : Placement) (before : List Record) (t : SystemView R)
-    → HasRisingIds t.records → t.records ≡ before ++ new_record id level place ∷ [] → IsThere id (is_everywhere place) t
-new_there id level place before t rising records =
-    let at = ap (λ rs. slice_get rs (length before)) records ∙ get_last before (new_record id level place) in
-    let here = record_here id (length before) (new_record id level place) t.records rising at refl in record {
+pub new_there : {R : Type 0} (id : ℕ) (level : Level) (placement : Placement) (before : List Record) (t : SystemView R)
+    → HasRisingIds t.records → t.records ≡ before ++ new_record id level placement ∷ [] → IsThere id (is_everywhere placement) t
+new_there id level placement before t rising records =
+    let at = ap (λ rs. slice_get rs (length before)) records ∙ get_last before (new_record id level placement) in
+    let here = record_here id (length before) (new_record id level placement) t.records rising at refl in record {
       known = ap (λ o. not (is_some o)) here;
       placement = ap (λ o. option_map_or (λ (r : Record). is_everywhere r.placement) o false) here;
     }

@@ -134,8 +134,8 @@ module _ (many : ℕ) (g : ℕ → Option ℕ) (way : List LeadCall) (names : Li
   its_id o (Removed receipt) id e f = absurd (none_some e)
 
   -- a name with an id is among the names
-  pub its_place : (names : List Named) (name id : ℕ) → cyclic_id (named_at names name) ≡ Some id → name < length names
-  its_place names name id e = by (cases_lt name (length names))
+  pub its_position : (names : List Named) (name id : ℕ) → cyclic_id (named_at names name) ≡ Some id → name < length names
+  its_position names name id e = by (cases_lt name (length names))
     where
       by : (name < length names) ⊎ (length names ≤ name) → name < length names
       by (inl low) = low
@@ -160,7 +160,7 @@ module _ (many : ℕ) (g : ℕ → Option ℕ) (way : List LeadCall) (names : Li
       within m low = subst (λ j. m < j) (length-set names name now) low
 
       own_it : (g name ≡ Some id) × (receipt_in id way ≡ None)
-      own_it = its_id (g name) (named_at names name) id has (k.fits name (its_place names name id has))
+      own_it = its_id (g name) (named_at names name) id has (k.fits name (its_position names name id has))
 
       own_id : g name ≡ Some id
       own_id = own_it.0

@@ -188,12 +188,12 @@ module _ {R : Type 0} (firing : Raise R) where
   keeps_binds own n (Err e) s t (home, has, goes, records, last) = keeps_goes own home n (Err e) s.cpus t.cpus goes
 
   keeps_turn : (n own : ℕ) (turn : Turn) (s t : SystemView R) → TakesTurn firing n own turn s t → Keeps s.cpus t.cpus
-  keeps_turn n own StaysBound s t (place, same) = keeps_same s.cpus t.cpus (ap (λ (u : SystemView R). u.cpus) same)
-  keeps_turn n own StaysPending s t (place, found, some, only) =
+  keeps_turn n own StaysBound s t (placement, same) = keeps_same s.cpus t.cpus (ap (λ (u : SystemView R). u.cpus) same)
+  keeps_turn n own StaysPending s t (placement, found, some, only) =
       keeps_works (on n (AskPending own (Some found)) ∷ []) s.cpus t.cpus (tt, tt) only.0
-  keeps_turn n own StaysRefused s t (place, d, chosen, e, only) =
+  keeps_turn n own StaysRefused s t (placement, d, chosen, e, only) =
       keeps_works (on n (AskPending own (Some 0)) ∷ on d (Reserve 1 (Err e)) ∷ []) s.cpus t.cpus (tt, (tt, tt)) only.0
-  keeps_turn n own Moves s t (place, d, chosen, (taken, works), records) =
+  keeps_turn n own Moves s t (placement, d, chosen, (taken, works), records) =
       keeps_works (moving own n d taken) s.cpus t.cpus (tt, (tt, (tt, (tt, (tt, tt))))) works
 
   keeps_turns : (n : ℕ) (ids : List ℕ) (report : JuggleReport) (s t : SystemView R) → Turns firing n ids report s t
@@ -305,10 +305,10 @@ module _ {R : Type 0} (firing : Raise R) where
   -- ---- nor does a move or a reprogram
 
   last_turn : (n own : ℕ) (turn : Turn) (s t : SystemView R) → TakesTurn firing n own turn s t → t.last ≡ s.last
-  last_turn n own StaysBound s t (place, same) = ap (λ (x : SystemView R). x.last) same
-  last_turn n own StaysPending s t (place, found, some, (works, records, last)) = last
-  last_turn n own StaysRefused s t (place, d, chosen, e, (works, records, last)) = last
-  last_turn n own Moves s t (place, d, chosen, shifts, (k, r, here, named, records, last)) = last
+  last_turn n own StaysBound s t (placement, same) = ap (λ (x : SystemView R). x.last) same
+  last_turn n own StaysPending s t (placement, found, some, (works, records, last)) = last
+  last_turn n own StaysRefused s t (placement, d, chosen, e, (works, records, last)) = last
+  last_turn n own Moves s t (placement, d, chosen, shifts, (k, r, here, named, records, last)) = last
 
   last_turns : (n : ℕ) (ids : List ℕ) (report : JuggleReport) (s t : SystemView R) → Turns firing n ids report s t
       → t.last ≡ s.last

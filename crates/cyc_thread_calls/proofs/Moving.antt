@@ -63,7 +63,7 @@ none_removed v n still = by (slice_get v.cpus n) refl
     by None e = ap (λ o. option_and_then (λ (cpu : CpuView _). cpu.removal) o) e
     by (Some x) e = ap (λ o. option_and_then (λ (cpu : CpuView _). cpu.removal) o) e ∙ still n x e
 
--- what is found has a place
+-- what is found has a position
 find_at : {A : Type 0} (p : A → Bool) (xs : List A) (x : A) → find p xs ≡ Some x
     → (k : ℕ) × (slice_get xs k ≡ Some x) × (p x ≡ true)
 find_at p [] x e = absurd (none_some e)

@@ -55,7 +55,7 @@ use Rattle.cyc_thread_calls.specs.Leading.{told_calls_of, told_calls, all_calls}
 use Rattle.cyc_thread_calls.proofs.Called.{by_word, no_news, no_poll}
 use Rattle.cyc_thread_calls.proofs.Closing.{run_sound}
 use Rattle.cyc_thread_calls.proofs.Going.{accepted_fires, wait_goes, does_go}
-use Rattle.cyc_thread_calls.proofs.Holding.{Holds, holds_first, its_id, its_place}
+use Rattle.cyc_thread_calls.proofs.Holding.{Holds, holds_first, its_id, its_position}
 use Rattle.cyc_thread_calls.proofs.Names.{Held, does_held, wait_held, polls as polls_held_on}
 use Rattle.cyc_thread_calls.proofs.Starting.{first_ready}
 
@@ -162,7 +162,7 @@ module _ {C R : Type 0} (handler : Calls C) (firing : Raise R) (many : ℕ) wher
       → k.given name ≡ Some id
   own_given s k name id is = (its_id many k.given k.way s.names s.side.system.last k.held (k.given name)
       (named_at s.names name) id is
-      (k.held.fits name (its_place many k.given k.way s.names s.side.system.last k.held s.names name id is))).0
+      (k.held.fits name (its_position many k.given k.way s.names s.side.system.last k.held s.names name id is))).0
 
   -- ---- calls that lead the system
 
@@ -192,7 +192,7 @@ module _ {C R : Type 0} (handler : Calls C) (firing : Raise R) (many : ℕ) wher
 
       within : named_at (slice_set s.names name (Removed receipt)) name ≡ Removed receipt
       within = get_or-set_same s.names name (Removed receipt) Nothing
-          (its_place many k.given k.way s.names s.side.system.last k.held s.names name id has)
+          (its_position many k.given k.way s.names s.side.system.last k.held s.names name id has)
 
       other : named_at s.names m ≡ Leaving own → own ≢ id
       other was e =
@@ -412,7 +412,7 @@ module _ {C R : Type 0} (handler : Calls C) (firing : Raise R) (many : ℕ) wher
     ready = ready;
     opens = λ name id is. absurd (none_some
         (its_id many (λ n. None) [] s.names s.side.system.last held None (named_at s.names name) id (ap cyclic_id is)
-        (held.fits name (its_place many (λ n. None) [] s.names s.side.system.last held s.names name id (ap cyclic_id is)))).0);
+        (held.fits name (its_position many (λ n. None) [] s.names s.side.system.last held s.names name id (ap cyclic_id is)))).0);
   }
 
   -- and the wait after them, and the report

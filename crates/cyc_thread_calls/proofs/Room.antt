@@ -34,7 +34,7 @@ use Rattle.cyc_threads.specs.Calls.{Changes, Add, AddOmni}
 use Rattle.cyc_threads.proofs.Settles.{refused_here}
 use Rattle.cyc_threads.specs.Sound.{IsSound}
 
--- ids that rise from above 0 are above their places
+-- ids that rise from above 0 are above their positions
 ids_high : (cs : List Cyclic) → HasRisingCyclics cs → ((j : ℕ) (d : Cyclic) → j < length cs → 0 < (get_or cs j d).timer.id)
     → (j : ℕ) (d : Cyclic) → j < length cs → j < (get_or cs j d).timer.id
 ids_high cs rising some zero d low = some zero d low

@@ -30,7 +30,7 @@ seen_raised e id full = by (open_stay id (raise_trail e.seat)) refl
     by None is = let some = e.seat.ranges.0 in
         let none = ap (λ o. seen_in (stay_with (seen_pend id (raise_trail e.seat)) o)) is in
         absurd (omega (arith, some, none, full))
-    by (Some s) is = let (capped, owed, place) = e.seat.seen id s is in let balanced = e.seat.balanced id in
+    by (Some s) is = let (capped, owed, placement) = e.seat.seen id s is in let balanced = e.seat.balanced id in
         let calls = ap stay_calls is in
         let seen = ap (λ o. seen_in (stay_with (seen_pend id (raise_trail e.seat)) o)) is in
         omega (arith, owed, balanced, calls, seen, full)

@@ -125,7 +125,7 @@ module _ {A B : Type 0} (P : A → B → Type 0) where
   each_beside (x ∷ xs) (w ∷ ys) each zero y at = (x, refl, subst (P x) (same_some at) each.0)
   each_beside (x ∷ xs) (w ∷ ys) each (suc n) y at = each_beside xs ys each.1 n y at
 
-  -- two stand at each place
+  -- two stand at each position
   each_there : (xs : List A) (ys : List B) → EachTwo P xs ys → (n : ℕ) → n < length xs
       → (x : A) × (y : B) × (slice_get xs n ≡ Some x) × (slice_get ys n ≡ Some y) × P x y
   each_there [] [] each n low = absurd (omega (arith, low))

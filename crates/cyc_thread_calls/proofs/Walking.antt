@@ -14,7 +14,8 @@ use Rattle.cyc_types.specs.Series.{never}
 use Rattle.cyc_types.proofs.Facts.{lt_so}
 use Rattle.cyc_script.specs.declared.step.Step.{Step}
 use Rattle.cyc_script.specs.declared.step.Step.TheVariants as steps
-use Rattle.cyc_script.specs.WellFormed.{name_fits, names_fit, names_after, names_after_all, moment_fits, moments_fit, moment_after}
+use Rattle.cyc_script.specs.WellFormed.{name_fits, names_fit, names_after, names_after_all, moment_fits, moments_fit}
+use Rattle.cyc_script.specs.WellFormed.{moment_after}
 use Rattle.cyc_expected.specs.Calm.{OnlyMoves, AgreeButMoves}
 use Rattle.cyc_threads.proofs.Lists.{eq_true}
 use Rattle.cyc_threads.specs.declared.progress.Progress.{Progress}
@@ -70,7 +71,8 @@ module _ {C R : Type 0} (handler : Calls C)
       (does : DoesStep handler firing x u v) (rest : TakesSteps handler firing v xs t) : Type 0 where
     pub met : OnlyMoves x ⊎ (was_accepted handler firing x u v does ≡ is_taken cpus suspended has x)
     pub alone : Bool
-    pub left : Left alone (names_after given x) (moment_after m x) (suspended_after x suspended) (Then suspended has x) xs v t rest
+    pub left : Left alone (names_after given x) (moment_after m x) (suspended_after x suspended)
+        (Then suspended has x) xs v t rest
 
   module _ (b : Bool) (given m : ℕ) (suspended : Bool) (has : ℕ → Standing) where
     -- of what is known some is of the script and of the calls alone
@@ -119,7 +121,8 @@ module _ {C R : Type 0} (handler : Calls C)
         let (fits, waited) = wait_fits firing cpus names given has s u begins l.fits in
         let (own, others) = memory_split (step_calls handler firing s (steps.Add a) v (u, begins, does))
         (steps_calls handler firing v xs t rest) l.memory in
-        let made = (memory_split (wait_calls firing s u begins) (calls_in (call_of handler firing (steps.Add a) u v does)) own).1 in
+        let made = (memory_split (wait_calls firing s u begins)
+        (calls_in (call_of handler firing (steps.Add a) u v does)) own).1 in
         let name = eq_true a.name given (both (a.name == given) (names_fit (given + 1) xs) l.in_order).0 in
         let room = low (steps.Add a) xs s t (v, (u, begins, does), rest) l refl in
         waited_one (steps.Add a) xs s u v t begins does rest l waited (add_next handler firing cpus names few suspended given has
@@ -133,7 +136,8 @@ module _ {C R : Type 0} (handler : Calls C)
         in
         let name = eq_true a.name given (both (a.name == given) (names_fit (given + 1) xs) l.in_order).0 in
         let room = low (steps.Omni a) xs s t (v, (u, begins, does), rest) l refl in
-        waited_one (steps.Omni a) xs s u v t begins does rest l waited (omni_next handler firing cpus names few suspended given has
+        waited_one (steps.Omni a) xs s u v t begins does rest l waited
+        (omni_next handler firing cpus names few suspended given has
         a u v does fits waited room (omega (arith, name, room)) made) l.spaced
         (step_same handler firing (steps.Omni a) s u v tt begins does ∙ l.marks)
     each (steps.Reprogram r) xs s u v t begins does rest l =

@@ -16,7 +16,7 @@ Parts (Remove name) = ⊥
 Parts (Advance now) = ⊥
 Parts step = ⊤
 
--- such a step stands between these two places
+-- such a step stands between these two positions
 pub record AreParted (steps : List Step) (from to : ℕ) : Type 0 where
   pub position : ℕ
   pub step : Step

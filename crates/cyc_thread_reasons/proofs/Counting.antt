@@ -1,5 +1,5 @@
--- Counts over lists: different places are no more than the things that stand there, sums over numbers, and the numbers of those
--- that are true.
+-- Counts over lists: different positions are no more than the things that stand there, sums over numbers, and the numbers of
+-- those that are true.
 use Rattle.std.proofs.Common.{◌≡◌, ◌≢◌, ◌==◌, ℕ, zero, suc, ◌+◌, ◌-◌, ◌*◌, ◌<◌, ◌≤◌, Bool, true, false, cond, not, Option, Some}
 use Rattle.std.proofs.Common.{None, List, [], ◌∷◌, length, get_or, set, map, filter, sum_by, refl, sym, ap, ◌∙◌, arith, eq-eqb}
 use Rattle.std.proofs.Common.{ne_eqb}
@@ -8,7 +8,7 @@ use Rattle.std.proofs.lemmas.List.Sums.{sum_by-cons, sum_by-set, count_by-le-len
 use Rattle.cyc_types.proofs.Facts.{false_true}
 use Rattle.cyc_agreement.specs.Cpus.{numbers_from}
 
--- no number stands at two places
+-- no number stands at two positions
 abbrev pub HasNoDoubles : List ℕ → Type 0
 HasNoDoubles ns = (i j : ℕ) → i < length ns → j < length ns → get_or ns i 0 ≡ get_or ns j 0 → i ≡ j
 
@@ -44,9 +44,9 @@ count_true test [] = refl
 count_true test (x ∷ xs) = let a = filter_one test x xs in let b = sum_by-cons value (test x) (map test xs) in
     let c = count_true test xs in omega (arith, a, b, c)
 
--- ---- different places
+-- ---- different positions
 
--- with the last number's place taken away the others have theirs
+-- with the last number's position taken away the others have theirs
 others_stand : (n : ℕ) (number : ℕ → ℕ) (key : ℕ → Option ℕ) (bs : List Bool) (p : ℕ) → key p ≡ Some (number n)
     → ((i j : ℕ) → i < suc n → j < suc n → number i ≡ number j → i ≡ j)
     → ((i : ℕ) → i < suc n → (q : ℕ) × (q < length bs) × (get_or bs q false ≡ true) × (key q ≡ Some (number i)))
@@ -71,7 +71,7 @@ marked (suc n) number key bs apart stands =
     (others_stand n number key bs p named apart stands) in
     omega (arith, less, one, rest)
 
--- n different numbers, each the key of a place at which a thing passes, are at most as many as the things that pass
+-- n different numbers, each the key of a position at which a thing passes, are at most as many as the things that pass
 pub pigeons_at : {A : Type 0} (test : A → Bool) (d : A) (xs : List A) (n : ℕ) (number : ℕ → ℕ) (key : ℕ → Option ℕ)
     → ((i j : ℕ) → i < n → j < n → number i ≡ number j → i ≡ j)
     → ((i : ℕ) → i < n → (p : ℕ) × (p < length xs) × (test (get_or xs p d) ≡ true) × (key p ≡ Some (number i)))

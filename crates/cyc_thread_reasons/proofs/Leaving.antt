@@ -136,10 +136,11 @@ module _ {C R : Type 0} (firing : Raise R) (names given : ℕ) (told : Known) (s
     crowded : (a own k : ℕ) (r : Record) → named_at p.names a ≡ Cyclic own → IsRecord t.records k r → r.id ≡ own
         → r.placement ≡ On n false → is_up n t.cpus ≡ true
         → are_too_many (how_many is_single told) (many_online told - 1) told ≡ true
-    crowded a own k r is at named place on =
+    crowded a own k r is at named placement on =
         subst (λ c. are_too_many (how_many is_single told) c told ≡ true) (others_count on)
         (all_too_many firing names given told p h none sound others a own k n false r
-        (filter_differs (λ m. not (m == n)) (online_cpus t.cpus) (numbers_differ 0 t.cpus.online)) others_full is at named place
+        (filter_differs (λ m. not (m == n)) (online_cpus t.cpus)
+        (numbers_differ 0 t.cpus.online)) others_full is at named placement
         others_beside)
 
   abbrev turns : List (RefusedTurn R)
@@ -147,14 +148,14 @@ module _ {C R : Type 0} (firing : Raise R) (names given : ℕ) (told : Known) (s
 
   -- a turn that was refused
   turn_why : (a own k : ℕ) (r : Record) → named_at p.names a ≡ Cyclic own → IsRecord t.records k r → r.id ≡ own
-      → r.placement ≡ On n false → is_up n t.cpus ≡ true → (place : ℕ) (turn : RefusedTurn R)
-      → slice_get (refused_turns firing n (single_ids n s) report s moved moves) place ≡ Some turn
+      → r.placement ≡ On n false → is_up n t.cpus ≡ true → (position : ℕ) (turn : RefusedTurn R)
+      → slice_get (refused_turns firing n (single_ids n s) report s moved moves) position ≡ Some turn
       → Later firing n turn.before.cpus moved.cpus → WhyLeft
-  turn_why a own k r is at named home on place turn there later =
-      by (all_at (IsRefusedTurn firing n) turns place turn (counted firing n report s moved moves).1 there)
+  turn_why a own k r is at named home on position turn there later =
+      by (all_at (IsRefusedTurn firing n) turns position turn (counted firing n report s moved moves).1 there)
     where
       put_off : IsTurnPutOff s turn → WhyLeft
-      put_off off = inr (subst (λ x. IsLeft firing n s x) (sym same) (report, moves, place, turn, there, off))
+      put_off off = inr (subst (λ x. IsLeft firing n s x) (sym same) (report, moves, position, turn, there, off))
 
       until : IsUnsettledOrGrown firing.view s turn → WhyLeft
       until (x, y, here, now, inl unsettled) = absurd (unsettled (settled turn.target x here))
@@ -162,7 +163,7 @@ module _ {C R : Type 0} (firing : Raise R) (names given : ℕ) (told : Known) (s
 
       late : destination (Some n) turn.before.cpus ≡ Some turn.target
           → IsUntil turn.why ⊎ (turn.why ≡ why.Memory) ⊎ IsFull turn.target turn.before.cpus → WhyLeft
-      late chosen (inl waits) = until (all_at (λ z. IsUntil z.why → IsUnsettledOrGrown firing.view s z) turns place turn
+      late chosen (inl waits) = until (all_at (λ z. IsUntil z.why → IsUnsettledOrGrown firing.view s z) turns position turn
           (stopped firing n report s moved moves) there waits)
       late chosen (inr (inl memory)) = put_off (inl memory)
       late chosen (inr (inr full)) = inl (inr (crowded turn chosen full
@@ -190,27 +191,27 @@ module _ {C R : Type 0} (firing : Raise R) (names given : ℕ) (told : Known) (s
   stopped_why a own k r is at named home on (inl pending) = absurd (
       let zero = left_none firing n report s t (inr (clear, (report, moved, moves, inl (some, refl, same))))
       (λ x here. settled n x here) in omega (arith, pending, zero))
-  stopped_why a own k r is at named home on (inr (place, turn, there, later)) =
-      turn_why a own k r is at named home on place turn there later
+  stopped_why a own k r is at named home on (inr (position, turn, there, later)) =
+      turn_why a own k r is at named home on position turn there later
 
   -- a cyclic that is left was among those that had turns
   was_among : (own : ℕ) → HasPlacement own n false moved → among own (single_ids n s) ≡ true
   was_among own home = by (home_turns firing n own false (single_ids n s) report s moved moves home)
     where
       by : HasPlacement own n false s → among own (single_ids n s) ≡ true
-      by (k, r, is, named, place) = among_filter (λ id. not (is_omnipresent id s)) own (ids_on n s.cpus)
-          (ap not (omni_is s k own r rising is named ∙ ap is_placed_everywhere place))
-          (subst (λ i. has n i s.cpus ≡ true) named (before.agrees.home k n false r is place))
+      by (k, r, is, named, placement) = among_filter (λ id. not (is_omnipresent id s)) own (ids_on n s.cpus)
+          (ap not (omni_is s k own r rising is named ∙ ap is_placed_everywhere placement))
+          (subst (λ i. has n i s.cpus ≡ true) named (before.agrees.home k n false r is placement))
 
   bound_why : (b : Bool) (a own k : ℕ) (r : Record) → named_at p.names a ≡ Cyclic own → IsRecord t.records k r → r.id ≡ own
       → r.placement ≡ On n b → is_up n t.cpus ≡ true → WhyLeft
-  bound_why true a own k r is at named place on = inl (inl (any_at (is_bound_to n) told.names a Absent
+  bound_why true a own k r is at named placement on = inl (inl (any_at (is_bound_to n) told.names a Absent
       (let low = name_low p.names a own (ap cyclic_id is) in let x = h.long in let y = h.told_long in omega (arith, low, x, y))
       (ap (is_bound_to n) (h.each a ∙ ap (λ (z : Named). given_of z t) is ∙ stands_at t.records k r own h.rising at named
-      ∙ ap whereabouts_of place) ∙ true_eq n n refl)))
-  bound_why false a own k r is at named place on =
-      let home = subst (λ x. HasPlacement own n false x) same (k, r, at, named, place) in
-      stopped_why a own k r is at named place on
+      ∙ ap whereabouts_of placement) ∙ true_eq n n refl)))
+  bound_why false a own k r is at named placement on =
+      let home = subst (λ x. HasPlacement own n false x) same (k, r, at, named, placement) in
+      stopped_why a own k r is at named placement on
       (left_turn firing n own (single_ids n s) report s moved moves (was_among own home) rising home)
 
   pub left_why : WhyLeft
@@ -224,6 +225,6 @@ module _ {C R : Type 0} (firing : Raise R) (names given : ℕ) (told : Known) (s
           (true_eq _ own (get_or_from_slice_get (ids_on n t.cpus) k own own at)) in
           let (i, q, there, same_id, stood, on) = sound.agrees.known n own here in
           let (a, is, j, r, at_record, named, stands_there) = named_on firing names given told p h none sound n own here in
-          let (b, place) = single_on n r.placement stands_there
+          let (b, placement) = single_on n r.placement stands_there
           (sym (omni_is t j own r h.rising at_record named) ∙ not_so (is_omnipresent own t) single) in
-          bound_why b a own j r is at_record named place on
+          bound_why b a own j r is at_record named placement on

@@ -99,14 +99,14 @@ module _ {R : Type 0} (firing : Raise R) (n : ℕ) where
   }
 
   later_turn : (own : ℕ) (turn : Turn) (s t : SystemView R) → TakesTurn firing n own turn s t → Later s.cpus t.cpus
-  later_turn own StaysBound s t (place, same) = later_same s.cpus t.cpus (ap (λ (u : SystemView R). u.cpus) same)
-  later_turn own StaysPending s t (place, found, some, ((u, d, last), records, l)) = later_then s.cpus u t.cpus
+  later_turn own StaysBound s t (placement, same) = later_same s.cpus t.cpus (ap (λ (u : SystemView R). u.cpus) same)
+  later_turn own StaysPending s t (placement, found, some, ((u, d, last), records, l)) = later_then s.cpus u t.cpus
       (later_at n _ s.cpus u d (λ ne. absurd (ne refl))) (later_same u t.cpus (sym last))
-  later_turn own StaysRefused s t (place, d, chosen, e, ((u, a, (v, b, last)), records, l)) =
+  later_turn own StaysRefused s t (placement, d, chosen, e, ((u, a, (v, b, last)), records, l)) =
       later_then s.cpus u t.cpus (later_at n _ s.cpus u a (λ ne. absurd (ne refl)))
       (later_then u v t.cpus (later_at d _ u v b (λ ne. grows b.before b.after (Reserve 1 (Err e)) b.change tt))
       (later_same v t.cpus (sym last)))
-  later_turn own Moves s t (place, d, chosen, (taken, (u1, a, (u2, b, (u3, c, (u4, p, (u5, q, last)))))), records) =
+  later_turn own Moves s t (placement, d, chosen, (taken, (u1, a, (u2, b, (u3, c, (u4, p, (u5, q, last)))))), records) =
       later_then s.cpus u1 t.cpus (later_at n _ s.cpus u1 a (λ ne. absurd (ne refl)))
       (later_then u1 u2 t.cpus (later_at d _ u1 u2 b (λ ne. grows b.before b.after (Reserve 1 (Ok tt)) b.change tt))
       (later_then u2 u3 t.cpus (later_at n _ u2 u3 c (λ ne. absurd (ne refl)))
@@ -127,16 +127,16 @@ module _ {R : Type 0} (firing : Raise R) (n : ℕ) where
     Home s = HasPlacement id n bound s
 
     home_records : (s t : SystemView R) → t.records ≡ s.records → Home t → Home s
-    home_records s t e (k, r, is, named, place) = (k, r, subst (λ rs. IsRecord rs k r) e is, named, place)
+    home_records s t e (k, r, is, named, placement) = (k, r, subst (λ rs. IsRecord rs k r) e is, named, placement)
 
     -- it has not moved itself
     home_moved : (own d : ℕ) (s t : SystemView R) (k : ℕ) (r : Record) → n ≢ d → IsRecord s.records k r
         → t.records ≡ slice_set s.records k (with_placement (On d false) r) → Home t
         → (j : ℕ) × (q : Record) × (j ≢ k) × IsRecord s.records j q × (q.id ≡ id) × (q.placement ≡ On n bound)
-    home_moved own d s t k r apart here e (j, q, is, named, place) =
+    home_moved own d s t k r apart here e (j, q, is, named, placement) =
         let at : IsRecord (slice_set s.records k (with_placement (On d false) r)) j q = subst (λ rs. IsRecord rs j q) e is in
-        let other : j ≢ k = (λ same. apart (sym (on_same (sym (ap (λ (x : Record). x.placement) (now same at)) ∙ place)))) in
-        (j, q, other, sym (get_set_other s.records k j (with_placement (On d false) r) other) ∙ at, named, place)
+        let other : j ≢ k = (λ same. apart (sym (on_same (sym (ap (λ (x : Record). x.placement) (now same at)) ∙ placement)))) in
+        (j, q, other, sym (get_set_other s.records k j (with_placement (On d false) r) other) ∙ at, named, placement)
       where
         now : j ≡ k → IsRecord (slice_set s.records k (with_placement (On d false) r)) j q → q ≡ with_placement (On d false) r
         now same at = same_some (sym at
@@ -144,10 +144,10 @@ module _ {R : Type 0} (firing : Raise R) (n : ℕ) where
             ∙ get_set_same s.records k (with_placement (On d false) r) (slice_get_within s.records k r here))
 
     home_turn : (own : ℕ) (turn : Turn) (s t : SystemView R) → TakesTurn firing n own turn s t → Home t → Home s
-    home_turn own StaysBound s t (place, same) h = subst Home same h
-    home_turn own StaysPending s t (place, found, some, only) h = home_records s t only.1 h
-    home_turn own StaysRefused s t (place, d, chosen, e, only) h = home_records s t only.1 h
-    home_turn own Moves s t (place, d, chosen, moves, (k, r, here, named, records, last)) h =
+    home_turn own StaysBound s t (placement, same) h = subst Home same h
+    home_turn own StaysPending s t (placement, found, some, only) h = home_records s t only.1 h
+    home_turn own StaysRefused s t (placement, d, chosen, e, only) h = home_records s t only.1 h
+    home_turn own Moves s t (placement, d, chosen, moves, (k, r, here, named, records, last)) h =
         let (j, q, ne, at, same, there) = home_moved own d s t k r
         (λ e. (destination_fits (Some n) s.cpus d chosen).1 (ap Some e)) here records h in (j, q, at, same, there)
 
@@ -160,14 +160,14 @@ module _ {R : Type 0} (firing : Raise R) (n : ℕ) where
 
   -- its turn found calls outstanding, or was refused; since then no CPU beside the source has lost a cyclic
   abbrev pub Stopped : (ids : List ℕ) (report : JuggleReport) (s t : SystemView R) → Turns firing n ids report s t → Type 0
-  Stopped ids report s t turns = (0 < report.pending) ⊎ ((place : ℕ) × (turn : RefusedTurn R)
-      × (slice_get (refused_turns firing n ids report s t turns) place ≡ Some turn) × Later turn.before.cpus t.cpus)
+  Stopped ids report s t turns = (0 < report.pending) ⊎ ((position : ℕ) × (turn : RefusedTurn R)
+      × (slice_get (refused_turns firing n ids report s t turns) position ≡ Some turn) × Later turn.before.cpus t.cpus)
 
   one_place : (s : SystemView R) (id : ℕ) (a b : Bool) → HasRisingIds s.records → HasPlacement id n a s
       → HasPlacement id n b s → a ≡ b
-  one_place s id a b rising (k, r, is, named, place) (j, q, at, same, there) =
+  one_place s id a b rising (k, r, is, named, placement) (j, q, at, same, there) =
       let e = one_record s.records k j r q rising is at (same ∙ sym named) in
-      bound_same (sym place ∙ ap (λ (x : Record). x.placement)
+      bound_same (sym placement ∙ ap (λ (x : Record). x.placement)
       (same_some (sym is ∙ ap (λ i. slice_get s.records i) (sym e) ∙ at)) ∙ there)
 
   pub left_turn : (id : ℕ) (ids : List ℕ) (report : JuggleReport) (s t : SystemView R) (turns : Turns firing n ids report s t)
@@ -186,32 +186,39 @@ module _ {R : Type 0} (firing : Raise R) (n : ℕ) where
       by (inr found) = inr found
   left_turn id (own ∷ ids) report s t (StaysPending, u, rest, takes, counted, more) among_them rising home =
       inl (let e = ap (λ (r : JuggleReport). r.pending) counted in omega (arith, e))
-  left_turn id (own ∷ ids) report s t (StaysRefused, u, rest, (place, d, chosen, x, only), counted, more) among_them rising home =
+  left_turn id (own ∷ ids) report s t (
+    StaysRefused,
+    u,
+    rest,
+    (placement, d, chosen, x, only),
+    counted,
+    more,
+  ) among_them rising home =
       dite (ℕ_discrete own id)
       (λ e. inr (
         0,
         record { id = own; target = d; why = x; before = s; after = u },
         refl,
-        later_turns (own ∷ ids) report s t (StaysRefused, u, rest, (place, d, chosen, x, only), counted, more),
+        later_turns (own ∷ ids) report s t (StaysRefused, u, rest, (placement, d, chosen, x, only), counted, more),
       ))
       (λ ne. by (left_turn id ids rest u t more (others own ids ne among_them)
-      (turn_stands firing n own StaysRefused s u rising (place, d, chosen, x, only)).1 home))
+      (turn_stands firing n own StaysRefused s u rising (placement, d, chosen, x, only)).1 home))
     where
       by : Stopped ids rest u t more
-          → Stopped (own ∷ ids) report s t (StaysRefused, u, rest, (place, d, chosen, x, only), counted, more)
+          → Stopped (own ∷ ids) report s t (StaysRefused, u, rest, (placement, d, chosen, x, only), counted, more)
       by (inl some) = inl (let e = ap (λ (r : JuggleReport). r.pending) counted in omega (arith, e, some))
       by (inr (k, turn, at, later)) = inr (suc k, turn, at, later)
   left_turn id (own ∷ ids) report s t
-      (Moves, u, rest, (place, d, chosen, moves, (k, r, here, named, records, last)), counted, more) among_them rising home =
+      (Moves, u, rest, (placement, d, chosen, moves, (k, r, here, named, records, last)), counted, more) among_them rising home =
       dite (ℕ_discrete own id)
       (λ e. absurd (let (j, q, ne, at, same, there) = home_moved id false own d s u k r
       (λ e2. (destination_fits (Some n) s.cpus d chosen).1 (ap Some e2)) here records
       (home_turns id false ids rest u t more home) in
       ne (one_record s.records k j r q rising here at (same ∙ sym e ∙ sym named))))
       (λ ne. by (left_turn id ids rest u t more (others own ids ne among_them)
-      (turn_stands firing n own Moves s u rising (place, d, chosen, moves, (k, r, here, named, records, last))).1 home))
+      (turn_stands firing n own Moves s u rising (placement, d, chosen, moves, (k, r, here, named, records, last))).1 home))
     where
       by : Stopped ids rest u t more → Stopped (own ∷ ids) report s t
-          (Moves, u, rest, (place, d, chosen, moves, (k, r, here, named, records, last)), counted, more)
+          (Moves, u, rest, (placement, d, chosen, moves, (k, r, here, named, records, last)), counted, more)
       by (inl some) = inl (let e = ap (λ (r : JuggleReport). r.pending) counted in omega (arith, e, some))
       by (inr found) = inr found

@@ -33,7 +33,8 @@ use Rattle.cyc_thread_calls.proofs.Waiting.{IsCalmNow, HasWaited, waited_calm}
 use Rattle.cyc_thread_calls.proofs.Moving.{none_leaving, none_removed}
 use Rattle.cyc_thread_reasons.specs.Known.{Whereabouts, Absent, OnOne, OnAll, Known, name_has, is_known_up}
 use Rattle.cyc_thread_reasons.specs.Reasons.{is_there, is_single, has_components, can_be_reprogrammed, has_reason}
-use Rattle.cyc_thread_reasons.proofs.Whereabouts.{stands, stands_at, unknown_stands, omni_stands, record_there, everywhere_place}
+use Rattle.cyc_thread_reasons.proofs.Whereabouts.{stands, stands_at, unknown_stands, omni_stands, record_there}
+use Rattle.cyc_thread_reasons.proofs.Whereabouts.{everywhere_placement}
 use Rattle.cyc_thread_reasons.proofs.Whereabouts.{err_ok}
 use Rattle.cyc_thread_reasons.proofs.Fitting.{given_of, Fits}
 use Rattle.cyc_thread_reasons.proofs.Outcomes.{met, taken, refused, fits_quiet, calm_quiet}
@@ -70,7 +71,7 @@ module _ {C R : Type 0} (firing : Raise R) (names given : ℕ) (told : Known) (s
 
       by : (k : ℕ) × (r : Record) × IsRecord s.side.system.records k r × (r.id ≡ id) → has_on n id s.side.system.cpus ≡ true
       by (k, r, is, named) = either r named (w.sound.agrees.everywhere k n r is
-          (everywhere_place r.placement ∙ ap has_components (sym (stands_at s.side.system.records k r id h.rising is named))
+          (everywhere_placement r.placement ∙ ap has_components (sym (stands_at s.side.system.records k r id h.rising is named))
           ∙ all)
           (up firing names given told s h n ∙ on))
 

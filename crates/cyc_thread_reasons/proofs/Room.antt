@@ -52,7 +52,7 @@ count_same f g a b (x ∷ xs) (y ∷ ys) long same = by (f x) (g y) (same 0 (ome
     by false true e rest = absurd (let odd : false ≡ true = e in cc)
     by false false e rest = rest
 
--- ---- places
+-- ---- placements
 
 -- where the cyclic of a name is
 abbrev pub place_of : {R : Type 0} → Named → SystemView R → Option Placement
@@ -81,25 +81,25 @@ one_place None is n m a b = absurd (let odd : false ≡ true = is in cc)
 one_place (Some (On k bound)) is n m a b = sym (eq_true k n a) ∙ eq_true k m b
 one_place (Some (Everywhere first skew)) is n m a b = absurd (let odd : false ≡ true = is in cc)
 
-no_place : (x : Option Placement) → is_one x ≡ false → is_all x ≡ false → (n : ℕ) → is_on n x ≡ false
-no_place None is all n = refl
-no_place (Some (On k bound)) is all n = absurd (let odd : true ≡ false = is in cc)
-no_place (Some (Everywhere first skew)) is all n = absurd (let odd : true ≡ false = all in cc)
+no_placement : (x : Option Placement) → is_one x ≡ false → is_all x ≡ false → (n : ℕ) → is_on n x ≡ false
+no_placement None is all n = refl
+no_placement (Some (On k bound)) is all n = absurd (let odd : true ≡ false = is in cc)
+no_placement (Some (Everywhere first skew)) is all n = absurd (let odd : true ≡ false = all in cc)
 
-single_place : (o : Option Record) → is_one (option_map (λ (r : Record). r.placement) o)
+single_placement : (o : Option Record) → is_one (option_map (λ (r : Record). r.placement) o)
     ≡ is_single (option_map_or (λ (r : Record). whereabouts_of r.placement) o Absent)
-single_place None = refl
-single_place (Some r) = by r.placement
+single_placement None = refl
+single_placement (Some r) = by r.placement
   where
     by : (p : Placement) → is_one (Some p) ≡ is_single (whereabouts_of p)
     by (On n false) = refl
     by (On n true) = refl
     by (Everywhere first skew) = refl
 
-all_place : (o : Option Record) → is_all (option_map (λ (r : Record). r.placement) o)
+all_placement : (o : Option Record) → is_all (option_map (λ (r : Record). r.placement) o)
     ≡ has_components (option_map_or (λ (r : Record). whereabouts_of r.placement) o Absent)
-all_place None = refl
-all_place (Some r) = by r.placement
+all_placement None = refl
+all_placement (Some r) = by r.placement
   where
     by : (p : Placement) → is_all (Some p) ≡ has_components (whereabouts_of p)
     by (On n false) = refl
@@ -108,13 +108,13 @@ all_place (Some r) = by r.placement
 
 single_named : {R : Type 0} (named : Named) (s : SystemView R) → is_one (place_of named s) ≡ is_single (given_of named s)
 single_named Nothing s = refl
-single_named (Cyclic id) s = single_place (found id s.records)
+single_named (Cyclic id) s = single_placement (found id s.records)
 single_named (Leaving id) s = refl
 single_named (Removed receipt) s = refl
 
 all_named : {R : Type 0} (named : Named) (s : SystemView R) → is_all (place_of named s) ≡ has_components (given_of named s)
 all_named Nothing s = refl
-all_named (Cyclic id) s = all_place (found id s.records)
+all_named (Cyclic id) s = all_placement (found id s.records)
 all_named (Leaving id) s = refl
 all_named (Removed receipt) s = refl
 
@@ -187,16 +187,17 @@ module _ {C R : Type 0} (firing : Raise R) (names given : ℕ) (told : Known) (p
   places_long : length places ≡ names
   places_long = length-map p.names (λ named. place_of named s) ∙ h.long
 
-  pub place_at : (a id k : ℕ) (r : Record) → named_at p.names a ≡ Cyclic id → IsRecord s.records k r → r.id ≡ id
+  pub placement_at : (a id k : ℕ) (r : Record) → named_at p.names a ≡ Cyclic id → IsRecord s.records k r → r.id ≡ id
       → get_or places a None ≡ Some r.placement
-  place_at a id k r is at_record named =
+  placement_at a id k r is at_record named =
       get_or-map (λ named. place_of named s) p.names a Nothing None (name_low p.names a id (ap cyclic_id is))
       ∙ ap (λ (z : Named). place_of z s) is
       ∙ ap (λ o. option_map (λ (q : Record). q.placement) o) (record_here id k r s.records h.rising at_record named)
 
   on_count : (n : ℕ) (x : CpuView R) → IsCpu n x s.cpus → length x.cyclics ≤ length (filter (is_on n) places)
   on_count n x at = counted_on (is_on n) None places places_long n x at
-      (λ a id k r is at_record named there. ap (is_on n) (place_at a id k r is at_record named) ∙ on_stands n r.placement there)
+      (λ a id k r is at_record named there. ap (is_on n) (placement_at a id k r is at_record named)
+      ∙ on_stands n r.placement there)
 
   singles : length (filter is_one places) ≡ how_many is_single told
   singles = count_same is_one is_single None Absent places told.names (places_long ∙ sym h.told_long)
@@ -233,22 +234,22 @@ module _ {C R : Type 0} (firing : Raise R) (names given : ℕ) (told : Known) (p
       (subst (λ k. length ns * most_cyclics < how_many is_single told + 1 + length ns * k) all_of_them
       (less_one (length ns * most_cyclics) (sum_by (λ n. length (filter (is_on n) places)) ns)
       (length (filter is_one places)) (length ns * length (filter is_all places)) (how_many is_single told) (sum_low ns full)
-      (sum_on is_on is_one is_all one_place no_place ns apart places) singles))
+      (sum_on is_on is_one is_all one_place no_placement ns apart places) singles))
 
   -- so they have no room for all, where one is on none of them
   pub all_too_many : (ns : List ℕ) (a id k n : ℕ) (bound : Bool) (r : Record) → HasNoDoubles ns → AreFull ns
       → named_at p.names a ≡ Cyclic id → IsRecord s.records k r → r.id ≡ id → r.placement ≡ On n bound
       → ((i : ℕ) → i < length ns → get_or ns i 0 ≢ n)
       → are_too_many (how_many is_single told) (length ns) told ≡ true
-  all_too_many ns a id k n bound r apart full is at_record named place beside = lt_true (length ns * most_cyclics)
+  all_too_many ns a id k n bound r apart full is at_record named placement beside = lt_true (length ns * most_cyclics)
       (how_many is_single told + length ns * how_many has_components told)
       (subst (λ k. length ns * most_cyclics < how_many is_single told + length ns * k) all_of_them
       (less_but_one (length ns * most_cyclics) (sum_by (λ n. length (filter (is_on n) places)) ns)
       (length (filter is_one places)) (length ns * length (filter is_all places)) (how_many is_single told) (sum_low ns full)
-      (sum_on_but_one is_on is_one is_all one_place no_place ns apart None places a
+      (sum_on_but_one is_on is_one is_all one_place no_placement ns apart None places a
       (let under = name_low p.names a id (ap cyclic_id is) in let b = h.long in let c = places_long in omega (arith, under, b, c))
       (ap is_one here) (λ i low. ap (is_on (get_or ns i 0)) here ∙ false_ne n (get_or ns i 0) (λ e. beside i low (sym e))))
       singles))
     where
       here : get_or places a None ≡ Some (On n bound)
-      here = place_at a id k r is at_record named ∙ ap Some place
+      here = placement_at a id k r is at_record named ∙ ap Some placement

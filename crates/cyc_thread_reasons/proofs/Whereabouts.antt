@@ -68,15 +68,15 @@ SameStands s t = (id : ℕ) → stands id t ≡ stands id s
 
 -- ---- what whereabouts say
 
-here_place : (p : Placement) → is_there (whereabouts_of p) ≡ true
-here_place (On n false) = refl
-here_place (On n true) = refl
-here_place (Everywhere first skew) = refl
+here_placement : (p : Placement) → is_there (whereabouts_of p) ≡ true
+here_placement (On n false) = refl
+here_placement (On n true) = refl
+here_placement (Everywhere first skew) = refl
 
-pub everywhere_place : (p : Placement) → is_placed_everywhere p ≡ has_components (whereabouts_of p)
-everywhere_place (On n false) = refl
-everywhere_place (On n true) = refl
-everywhere_place (Everywhere first skew) = refl
+pub everywhere_placement : (p : Placement) → is_placed_everywhere p ≡ has_components (whereabouts_of p)
+everywhere_placement (On n false) = refl
+everywhere_placement (On n true) = refl
+everywhere_placement (Everywhere first skew) = refl
 
 pub unknown_stands : {R : Type 0} (id : ℕ) (s : SystemView R) → is_unknown id s ≡ not (is_there (stands id s))
 unknown_stands id s = by (record_of id s)
@@ -84,7 +84,7 @@ unknown_stands id s = by (record_of id s)
     by : (o : Option Record) → not (is_some o) ≡ not (is_there (option_map_or (λ (r : Record). whereabouts_of r.placement) o
         Absent))
     by None = refl
-    by (Some r) = sym (ap not (here_place r.placement))
+    by (Some r) = sym (ap not (here_placement r.placement))
 
 pub omni_stands : {R : Type 0} (id : ℕ) (s : SystemView R) → is_omnipresent id s ≡ has_components (stands id s)
 omni_stands id s = by (record_of id s)
@@ -92,7 +92,7 @@ omni_stands id s = by (record_of id s)
     by : (o : Option Record) → option_map_or (λ (r : Record). is_placed_everywhere r.placement) o false
         ≡ has_components (option_map_or (λ (r : Record). whereabouts_of r.placement) o Absent)
     by None = refl
-    by (Some r) = everywhere_place r.placement
+    by (Some r) = everywhere_placement r.placement
 
 pub stands_at : (rs : List Record) (k : ℕ) (r : Record) (id : ℕ) → HasRisingIds rs → IsRecord rs k r → r.id ≡ id
     → stands_in id rs ≡ whereabouts_of r.placement
@@ -101,7 +101,7 @@ stands_at rs k r id rising is named =
 
 pub here_at : (rs : List Record) (k : ℕ) (r : Record) (id : ℕ) → HasRisingIds rs → IsRecord rs k r → r.id ≡ id
     → is_there (stands_in id rs) ≡ true
-here_at rs k r id rising is named = ap is_there (stands_at rs k r id rising is named) ∙ here_place r.placement
+here_at rs k r id rising is named = ap is_there (stands_at rs k r id rising is named) ∙ here_placement r.placement
 
 -- an answer is no refusal
 pub ok_err : {A : Type 0} {a : A} {x : Refusal} → ◌≡◌ {A = Result A Refusal} (Ok a) (Err x) → ⊥
@@ -136,9 +136,9 @@ module _ (id : ℕ) where
   -- a record that has the same whereabouts
   set_same : (rs : List Record) (k : ℕ) (r x : Record) → IsRecord rs k r → x.id ≡ r.id
       → whereabouts_of x.placement ≡ whereabouts_of r.placement → stands_in id (slice_set rs k x) ≡ stands_in id rs
-  set_same rs k r x is same place = look_set (λ (q : Record). q.id == id) (λ (q : Record). whereabouts_of q.placement) Absent
+  set_same rs k r x is same placement = look_set (λ (q : Record). q.id == id) (λ (q : Record). whereabouts_of q.placement) Absent
       rs k r x
-      is (ap (λ (i : ℕ). i == id) same) place
+      is (ap (λ (i : ℕ). i == id) same) placement
 
   -- a record of another id
   set_other : (rs : List Record) (k : ℕ) (r x : Record) → IsRecord rs k r → x.id ≡ r.id → r.id ≢ id
@@ -151,16 +151,16 @@ module _ (id : ℕ) where
   set_here rs k r x rising is same named = stands_at (slice_set rs k x) k x id (rising_set rs k r x rising is same)
       (get_set_same rs k x (slice_get_within rs k r is)) (same ∙ named)
 
-  push_other : (rs : List Record) (own : ℕ) (level : Level) (place : Placement) → own ≢ id
-      → stands_in id (rs ++ new_record own level place ∷ []) ≡ stands_in id rs
-  push_other rs own level place ne = ap (λ o. option_map_or (λ (q : Record). whereabouts_of q.placement) o Absent)
-      (find_more (λ (q : Record). q.id == id) rs (new_record own level place) (false_ne own id ne))
+  push_other : (rs : List Record) (own : ℕ) (level : Level) (placement : Placement) → own ≢ id
+      → stands_in id (rs ++ new_record own level placement ∷ []) ≡ stands_in id rs
+  push_other rs own level placement ne = ap (λ o. option_map_or (λ (q : Record). whereabouts_of q.placement) o Absent)
+      (find_more (λ (q : Record). q.id == id) rs (new_record own level placement) (false_ne own id ne))
 
-pub new_stands : {R : Type 0} (id : ℕ) (level : Level) (place : Placement) (before : List Record) (t : SystemView R)
-    → HasRisingIds t.records → t.records ≡ before ++ new_record id level place ∷ [] → stands id t ≡ whereabouts_of place
-new_stands id level place before t rising records =
-    stands_at t.records (length before) (new_record id level place) id rising
-    (ap (λ rs. slice_get rs (length before)) records ∙ get_last before (new_record id level place)) refl
+pub new_stands : {R : Type 0} (id : ℕ) (level : Level) (placement : Placement) (before : List Record) (t : SystemView R)
+    → HasRisingIds t.records → t.records ≡ before ++ new_record id level placement ∷ [] → stands id t ≡ whereabouts_of placement
+new_stands id level placement before t rising records =
+    stands_at t.records (length before) (new_record id level placement) id rising
+    (ap (λ rs. slice_get rs (length before)) records ∙ get_last before (new_record id level placement)) refl
 
 -- ---- calls
 
@@ -184,23 +184,23 @@ module _ {R : Type 0} (firing : Raise R) where
   stands_then s t u a b id = b id ∙ a id
 
   -- where this one is
-  place_here : (s : SystemView R) (own n k : ℕ) (bound : Bool) (r : Record) → HasRisingIds s.records
+  placement_here : (s : SystemView R) (own n k : ℕ) (bound : Bool) (r : Record) → HasRisingIds s.records
       → HasPlacement own n bound s → IsRecord s.records k r → r.id ≡ own → r.placement ≡ On n bound
-  place_here s own n k bound r rising (j, q, is, named, place) here same =
+  placement_here s own n k bound r rising (j, q, is, named, placement) here same =
       let at = one_record s.records k j r q rising here is (named ∙ sym same) in
-      ap (λ (x : Record). x.placement) (same_some (sym here ∙ ap (λ i. slice_get s.records i) (sym at) ∙ is)) ∙ place
+      ap (λ (x : Record). x.placement) (same_some (sym here ∙ ap (λ i. slice_get s.records i) (sym at) ∙ is)) ∙ placement
 
   pub turn_stands : (n own : ℕ) (turn : Turn) (s t : SystemView R) → HasRisingIds s.records → TakesTurn firing n own turn s t
       → SameStands s t × HasRisingIds t.records
-  turn_stands n own StaysBound s t rising (place, same) =
+  turn_stands n own StaysBound s t rising (placement, same) =
       (stands_as s t same, subst (λ (u : SystemView R). HasRisingIds u.records) (sym same) rising)
-  turn_stands n own StaysPending s t rising (place, found, some, only) =
+  turn_stands n own StaysPending s t rising (placement, found, some, only) =
       (stands_same s t only.1, subst HasRisingIds (sym only.1) rising)
-  turn_stands n own StaysRefused s t rising (place, d, chosen, e, only) =
+  turn_stands n own StaysRefused s t rising (placement, d, chosen, e, only) =
       (stands_same s t only.1, subst HasRisingIds (sym only.1) rising)
-  turn_stands n own Moves s t rising (place, d, chosen, moves, (k, r, here, named, records, last)) = (
+  turn_stands n own Moves s t rising (placement, d, chosen, moves, (k, r, here, named, records, last)) = (
     λ id. ap (stands_in id) records ∙ set_same id s.records k r (with_placement (On d false) r) here refl
-        (sym (ap whereabouts_of (place_here s own n k false r rising place here named))),
+        (sym (ap whereabouts_of (placement_here s own n k false r rising placement here named))),
     subst HasRisingIds (sym records) (rising_set s.records k r (with_placement (On d false) r) rising here refl),
   )
 
@@ -296,15 +296,15 @@ module _ {R : Type 0} (firing : Raise R) where
       ap (stands_in id) records ∙ push_other id s.records own level _ other
   omni_stand level when skew now (Err e) s t id other (works, records, last) = stands_same s t records id
 
-  records_other : (own : ℕ) (place : Placement) (s t : SystemView R) (id : ℕ) → own ≢ id → Records own place s t
+  records_other : (own : ℕ) (placement : Placement) (s t : SystemView R) (id : ℕ) → own ≢ id → Records own placement s t
       → stands id t ≡ stands id s
-  records_other own place s t id ne (k, r, here, named, records, last) = ap (stands_in id) records
-      ∙ set_other id s.records k r (with_placement place r) here refl (λ e. ne (sym named ∙ e))
+  records_other own placement s t id ne (k, r, here, named, records, last) = ap (stands_in id) records
+      ∙ set_other id s.records k r (with_placement placement r) here refl (λ e. ne (sym named ∙ e))
 
-  records_here : (own : ℕ) (place : Placement) (s t : SystemView R) → HasRisingIds s.records → Records own place s t
-      → stands own t ≡ whereabouts_of place
-  records_here own place s t rising (k, r, here, named, records, last) = ap (stands_in own) records
-      ∙ set_here own s.records k r (with_placement place r) rising here refl named
+  records_here : (own : ℕ) (placement : Placement) (s t : SystemView R) → HasRisingIds s.records → Records own placement s t
+      → stands own t ≡ whereabouts_of placement
+  records_here own placement s t rising (k, r, here, named, records, last) = ap (stands_in own) records
+      ∙ set_here own s.records k r (with_placement placement r) rising here refl named
 
   binds_stand : (own n : ℕ) (answer : Result (Unit {0}) Refusal) (s t : SystemView R) (id : ℕ)
       → (Touches id (Bind own (Some n) answer) → ⊥) → Binds firing own n answer s t → stands id t ≡ stands id s

@@ -17,7 +17,7 @@ module _ {A B : Type 0} (P : A → B → Type 0) where
   each_more (z ∷ xs) [] x y e p = absurd e
   each_more (z ∷ xs) (w ∷ ys) x y e p = (e.0, each_more xs ys x y e.1 p)
 
-  -- the element at the place of y
+  -- the element at the position of y
   pub each_at : (xs : List A) (ys zs : List B) (y : B) (k : ℕ) (d : A) → EachTwo P xs (ys ++ y ∷ zs) → k ≡ length ys
       → P (get_or xs k d) y
   each_at [] [] zs y k d e is = absurd e

@@ -252,7 +252,7 @@ module _ {C R : Type 0} (handler : Calls C) (firing : Raise R) where
 
 -- ---- a fire that is refused
 
--- the answer at the place of the CPU
+-- the answer at the position of the CPU
 refused_there : (answers : List (Option (Result Fired FireRefused))) (n : ℕ) (why : Refusal) → refusal_at answers n ≡ Some why
     → (r : FireRefused) × (slice_get answers n ≡ Some (Some (Err r))) × (r.why ≡ why)
 refused_there [] n why is = absurd (none_some is)
@@ -344,7 +344,8 @@ module _ {C R : Type 0} (handler : Calls C) (firing : Raise R) where
       by (inl told) = absurd told
       by (inr (now, is, (awake, after, f, refused))) =
           let few : length all ≤ 65536 = form.few_steps in let short = length-take position all in
-          let before = fit_before all position h.last h.here.0 (sym h.here.1) (fit_drop all position (0, form.moments_in_order)) in
+          let before = fit_before all position h.last h.here.0 (sym h.here.1)
+          (fit_drop all position (0, form.moments_in_order)) in
           refused_by_handler (0 + length (take position all) * most_of_all) now h.before.side after taken
           (omega (arith, few, short)) (subst (λ (x : Step). IsBefore x) is before) awake f n why refused.here
 

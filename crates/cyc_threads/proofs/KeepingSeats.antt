@@ -92,7 +92,7 @@ each_of (x ∷ xs) (y ∷ ys) long f = (f zero x y refl refl, each_of xs ys (ome
 pub asked_all : (v w : List (CpuView RaiseEnd)) → AllAsked raise_end v w → HaveSameSeats v w
 asked_all v w a = each_of v w a.long (λ n x y p q. (let s = a.each n x y p q in settle_one x y s.0 s.1))
 
--- each place below the length has its element
+-- each position below the length has its element
 below : {A : Type 0} (xs : List A) (n : ℕ) (x : A) → slice_get xs n ≡ Some x → n < length xs
 below [] n x here = absurd (true≢false (ap is_some (sym here)))
 below (y ∷ xs) zero x here = omega arith

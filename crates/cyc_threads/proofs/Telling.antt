@@ -22,8 +22,8 @@ use Rattle.cyc_threads.specs.StepCalls.{CallsFor, Poll, Polls, SettlesAll, Waits
 use Rattle.cyc_threads.specs.Counting.{NameLine, Tells, TellsOf, Reports}
 
 -- there is room for one element more
-pub room_left : (long place all room : ℕ) → long ≡ place → place < all → all ≤ room → long < room
-room_left long place all room e f g = omega (arith, e, f, g)
+pub room_left : (long position all room : ℕ) → long ≡ position → position < all → all ≤ room → long < room
+room_left long position all room e f g = omega (arith, e, f, g)
 
 module _ {C R : Type 0} (firing : Raise R) where
   -- a run of polls, and one more

@@ -10,7 +10,7 @@ use Rattle.cyc_finder.specs.Indexes.{Entry, id_in, index_of, IsIndexed}
 use Rattle.cyc_finder.proofs.Entries.{index_found, index_missing, index_read}
 use Rattle.cyc_timers.specs.declared.table.Record.{Record}
 use Rattle.cyc_timers.specs.Rows.{Row, IsRow, IsTable, HasNo, row_of, rows_of}
-use Rattle.cyc_timers.proofs.Tables.{Standing, no_place, is_row, row_at, entry_here, first_entry}
+use Rattle.cyc_timers.proofs.Tables.{Standing, no_entry, is_row, row_at, entry_here, first_entry}
 
 -- a row of this id with this index is here
 abbrev pub IsFound : List Row → ℕ → ℕ → Type 0
@@ -20,11 +20,11 @@ IsFound rows id index = (k : ℕ) × (r : Row) × IsRow rows k r × (r.timer.id 
 pub one_position : (entries : List Entry) → Rises id_in entries → (id i j : ℕ) → IsAt id_in entries id i → IsAt id_in entries id j
     → i ≡ j
 one_position entries rises id i j a b =
-    let x = a.has_id no_place in let y = b.has_id no_place in
+    let x = a.has_id no_entry in let y = b.has_id no_entry in
     elim (cases_lt i j) [
-      | inl less ↦ absurd (let up = rises i j no_place less b.in_range in omega (arith, up, x, y))
+      | inl less ↦ absurd (let up = rises i j no_entry less b.in_range in omega (arith, up, x, y))
       | inr most ↦ elim (cases_lt j i) [
-        | inl less ↦ absurd (let up = rises j i no_place less a.in_range in omega (arith, up, x, y))
+        | inl less ↦ absurd (let up = rises j i no_entry less a.in_range in omega (arith, up, x, y))
         | inr none ↦ omega (arith, most, none)
       ]
     ]
@@ -34,17 +34,17 @@ module _ (slots : List (Option Expiration)) (records : List Record) (entries : L
   pub found_row : (id i : ℕ) → index_of id entries ≡ Some i → IsFound (rows_of slots records entries) id i
   found_row id i e = let (k, low, at) = index_found entries id i e in (
     k,
-    row_of slots records (get_or entries k no_place),
+    row_of slots records (get_or entries k no_entry),
     is_row slots records entries k low,
-    ap id_in (at no_place),
-    ap (λ (p : Entry). p.index) (at no_place),
+    ap id_in (at no_entry),
+    ap (λ (p : Entry). p.index) (at no_entry),
   )
 
   pub missing_row : (id : ℕ) → index_of id entries ≡ None → HasNo id (rows_of slots records entries)
   missing_row id none k d low same =
       let l = length-map entries (row_of slots records) in
       let low_k : k < length entries = omega (arith, l, low) in
-      index_missing entries t.rising id none k no_place low_k
+      index_missing entries t.rising id none k no_entry low_k
       (sym (ap (λ (x : Row). x.timer.id) (row_at slots records entries k d low_k)) ∙ same)
 
   pub find_some : (id : ℕ) (o : Option ℕ) → o ≡ index_of id entries
@@ -79,9 +79,9 @@ module _ (slots : List (Option Expiration)) (records : List Record) (entries : L
   pub not_indexed : (index : ℕ) → get_or slots index None ≡ None → ¬ IsIndexed index entries
   not_indexed index free (id, e) =
       let (k, low, at) = index_found entries id index e in
-      let (m, holds) = t.named k no_place low in
-      let x : Expiration = record { moment = m; id = (get_or entries k no_place).id } in
-      let no : Some x ≡ None = sym holds ∙ ap (λ (p : Entry). get_or slots p.index None) (at no_place) ∙ free in
+      let (m, holds) = t.named k no_entry low in
+      let x : Expiration = record { moment = m; id = (get_or entries k no_entry).id } in
+      let no : Some x ≡ None = sym holds ∙ ap (λ (p : Entry). get_or slots p.index None) (at no_entry) ∙ free in
       absurd (cc)
 
   -- the index that the look-up gives is that of the position
@@ -108,7 +108,7 @@ module _ (slots : List (Option Expiration)) (records : List Record) (entries : L
   all_passed passed all k d low =
       let l = length-map entries (row_of slots records) in
       let low_k : k < length entries = omega (arith, l, low) in
-      subst (IsPassed passed) (sym (ap (λ (x : Row). x.timer.id) (row_at slots records entries k d low_k))) (all k no_place low_k)
+      subst (IsPassed passed) (sym (ap (λ (x : Row). x.timer.id) (row_at slots records entries k d low_k))) (all k no_entry low_k)
 
   pub next_row : (passed : Option ℕ) (k : ℕ) → IsNextAfter id_in entries passed k
       → IsNextAfter (λ x. x.timer.id) (rows_of slots records entries) passed k
@@ -118,9 +118,9 @@ module _ (slots : List (Option Expiration)) (records : List Record) (entries : L
         subst (IsPassed passed)
         (sym (ap (λ (x : Row). x.timer.id)
         (row_at slots records entries j d (let r = next.in_range in omega (arith, r, less)))))
-        (next.passed_before j no_place less);
+        (next.passed_before j no_entry less);
     after_from = λ j d past low.
         (let low_j : j < length entries = omega (arith, low, l) in
         subst (ComesAfter passed) (sym (ap (λ (x : Row). x.timer.id) (row_at slots records entries j d low_j)))
-        (next.after_from j no_place past low_j));
+        (next.after_from j no_entry past low_j));
   }

@@ -115,7 +115,7 @@ after_level : (now : ℕ) (made : List Expiration) (o : Timer) → (after_expira
 unfolding after_expirations
 after_level now made o = refl
 
--- the cyclic at a place is the one of its id
+-- the cyclic at a position is the one of its id
 pub found_at : (ts : List Timer) (i : ℕ) (d : Timer) → HasDistinctIds ts → i < length ts
     → timer_of (get_or ts i d).id ts ≡ Some (get_or ts i d)
 found_at [] i d distinct low = absurd (omega arith)
@@ -129,7 +129,7 @@ found_at (x ∷ xs) (suc i) d distinct low =
     ∙ found_at xs i d (λ j k e low_j low_k q. (let same : suc j ≡ suc k = distinct (suc j) (suc k) e (omega arith) (omega arith) q
     in omega (arith, same))) (omega arith)
 
--- a cyclic that stands at a place now, as it was at the start
+-- a cyclic that stands at a position now, as it was at the start
 pub origin : (now : ℕ) (made : List Expiration) (ts cur : List Timer) (i : ℕ) (t : Timer) → Firing now made ts cur
     → HasDistinctIds ts → i < length cur → t ≡ get_or cur i t →
     (o : Timer) × (timer_of t.id ts ≡ Some o) × (o.level ≡ t.level)
@@ -145,7 +145,7 @@ origin now made ts cur i t f distinct low is =
       sym (after_level now made (get_or ts i t)) ∙ sym (ap (λ (x : Timer). x.level) from),
     )
 
--- the id at a place never changes
+-- the id at a position never changes
 pub same_id : (now : ℕ) (made : List Expiration) (ts cur : List Timer) (i : ℕ) (d : Timer) → cur ≡ all_after now made ts
     → i < length cur → (get_or cur i d).id ≡ (get_or ts i d).id
 unfolding all_after

@@ -12,7 +12,7 @@ use Rattle.cyc_finder.proofs.RisingIds.{rises_removed}
 use Rattle.cyc_finder.specs.Indexes.{Entry, id_in}
 use Rattle.cyc_timers.specs.declared.table.Record.{Record}
 use Rattle.cyc_timers.specs.Rows.{Row, joined, no_record, row_of, rows_of, IsTable}
-use Rattle.cyc_timers.proofs.Tables.{Standing, no_place, map_same, apart_index, slot_changed, tally}
+use Rattle.cyc_timers.proofs.Tables.{Standing, no_entry, map_same, apart_index, slot_changed, tally}
 
 -- where a position of the shorter list stood before
 record Source (entries : List Entry) (k j : ℕ) : Type 0 where
@@ -45,8 +45,8 @@ module _ (slots : List (Option Expiration)) (records : List Record) (entries : L
   -- the other entries have other indexes
   far : (j : ℕ) → j < length entries → j ≢ k → (d : Entry) → (get_or entries j d).index ≢ s.p.index
   far j low ne d same = apart_index slots records entries j k t low s.low ne
-      (ap (λ (x : Entry). x.index) (sym (get_or_default entries j d no_place low)) ∙ same
-      ∙ ap (λ (x : Entry). x.index) (sym (s.is no_place)))
+      (ap (λ (x : Entry). x.index) (sym (get_or_default entries j d no_entry low)) ∙ same
+      ∙ ap (λ (x : Entry). x.index) (sym (s.is no_entry)))
 
   from : (j : ℕ) → j < length (remove entries k) → Source entries k j
   from j low = source entries k j s.low low
@@ -55,10 +55,10 @@ module _ (slots : List (Option Expiration)) (records : List Record) (entries : L
   fewer_rows =
       let f' = row_of (set slots s.p.index None) records in
       let f = row_of slots records in
-      let same : map f' (remove entries k) ≡ map f (remove entries k) = map_same f' f (remove entries k) no_place (λ j low.
+      let same : map f' (remove entries k) ≡ map f (remove entries k) = map_same f' f (remove entries k) no_entry (λ j low.
       let o = from j low in
-      let x = get_or (remove entries k) j no_place in
-      let apart : x.index ≢ s.p.index = λ q. far o.was o.low o.other no_place (ap (λ (y : Entry). y.index) (sym (o.is no_place))
+      let x = get_or (remove entries k) j no_entry in
+      let apart : x.index ≢ s.p.index = λ q. far o.was o.low o.other no_entry (ap (λ (y : Entry). y.index) (sym (o.is no_entry))
       ∙ q) in
       λ y. joined x.id x.index (get_or-set_other slots s.p.index x.index None None apart y) (get_or records x.index no_record)) in
       same ∙ map-append f (take k entries) (drop (suc k) entries)
@@ -78,8 +78,8 @@ module _ (slots : List (Option Expiration)) (records : List Record) (entries : L
       | inl (same, is) ↦ absurd (let no : None ≡ Some e = is in cc)
       | inr (ne, is) ↦
           (let (j, low, at) = t.covered i e is in
-          let other : j ≢ k = λ q. ne (sym (at no_place) ∙ ap (λ n. (get_or entries n no_place).index) q
-          ∙ ap (λ (z : Entry). z.index) (s.is no_place)) in
+          let other : j ≢ k = λ q. ne (sym (at no_entry) ∙ ap (λ n. (get_or entries n no_entry).index) q
+          ∙ ap (λ (z : Entry). z.index) (s.is no_entry)) in
           let l = length-remove entries k s.low in let low_k = s.low in
           elim (cases_lt j k) [
             | inl less ↦ (

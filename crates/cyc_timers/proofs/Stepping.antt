@@ -110,13 +110,13 @@ rising_set : (rows : List Row) (i : ℕ) (r u : Row) → IsRow rows i r → u.ti
 rising_set rows i r u is same rising j k d less low =
     let l = length-set rows i u in
     let low_k : k < length rows = omega (arith, l, low) in
-    let a = id_at_place j (omega (arith, less, low_k)) in
-    let b = id_at_place k low_k in
+    let a = id_at_position j (omega (arith, less, low_k)) in
+    let b = id_at_position k low_k in
     let h = rising j k d less low_k in
     omega (arith, a, b, h)
   where
-    id_at_place : (x : ℕ) → x < length rows → (get_or (set rows i u) x d).timer.id ≡ (get_or rows x d).timer.id
-    id_at_place x low_x = elim (cases_eq x i) [
+    id_at_position : (x : ℕ) → x < length rows → (get_or (set rows i u) x d).timer.id ≡ (get_or rows x d).timer.id
+    id_at_position x low_x = elim (cases_eq x i) [
       | inl eq ↦ ap (λ n. (get_or (set rows i u) n d).timer.id) eq
           ∙ ap (λ (y : Row). y.timer.id) (get_or-set_same rows i u d is.0) ∙ same
           ∙ ap (λ (y : Row). y.timer.id) (sym (ap (λ n. get_or rows n d) eq ∙ get_or_default rows i d r is.0 ∙ is.1))

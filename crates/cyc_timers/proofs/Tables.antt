@@ -21,8 +21,8 @@ use Rattle.cyc_timers.specs.Rows.{Row, no_record, moment_in, joined, row_of, row
 use Rattle.cyc_timers.specs.Rows.{HasDistinctIndexes, IsFirstAt, IsRecordOf, at_moment, with_record, with_counts, TableView}
 use Rattle.cyc_timers.specs.Rows.{Cyclic, cyclic_of, cyclics_of, HasNo}
 
-abbrev pub no_place : Entry
-no_place = record { id = 1; index = 0 }
+abbrev pub no_entry : Entry
+no_entry = record { id = 1; index = 0 }
 
 -- an index that is in use is below the size
 pub slot_low : (slots : List (Option Expiration)) (i : ℕ) (e : Expiration) → get_or slots i None ≡ Some e → i < length slots
@@ -46,39 +46,39 @@ pub standing : (slots : List (Option Expiration)) (records : List Record) (entri
     → IsTable slots records entries → IsRow (rows_of slots records entries) k r → Standing slots records entries k r
 standing slots records entries k r t is =
     let low : k < length entries = (let l = length-map entries (row_of slots records) in let w = is.0 in omega (arith, l, w)) in
-    let (m, holds) = t.named k no_place low in
+    let (m, holds) = t.named k no_entry low in
     record {
-      p = get_or entries k no_place;
+      p = get_or entries k no_entry;
       low = low;
-      is = λ d. get_or_default entries k d no_place low;
-      row = sym is.1 ∙ get_or-map (row_of slots records) entries k no_place r low;
+      is = λ d. get_or_default entries k d no_entry low;
+      row = sym is.1 ∙ get_or-map (row_of slots records) entries k no_entry r low;
       m = m;
       holds = holds;
-      below = slot_low slots (get_or entries k no_place).index _ holds;
+      below = slot_low slots (get_or entries k no_entry).index _ holds;
     }
 
 -- the row at a position
 pub row_at : (slots : List (Option Expiration)) (records : List Record) (entries : List Entry) (k : ℕ) (d : Row)
-    → k < length entries → get_or (rows_of slots records entries) k d ≡ row_of slots records (get_or entries k no_place)
-row_at slots records entries k d low = get_or-map (row_of slots records) entries k no_place d low
+    → k < length entries → get_or (rows_of slots records entries) k d ≡ row_of slots records (get_or entries k no_entry)
+row_at slots records entries k d low = get_or-map (row_of slots records) entries k no_entry d low
 
 -- different entries have different ids, and so different indexes
 pub apart : (slots : List (Option Expiration)) (records : List Record) (entries : List Entry) (i j : ℕ)
     → IsTable slots records entries → i < length entries → j < length entries → i ≢ j →
-    (get_or entries i no_place).id ≢ (get_or entries j no_place).id
+    (get_or entries i no_entry).id ≢ (get_or entries j no_entry).id
 apart slots records entries i j t low_i low_j ne same = elim (cases_lt i j) [
-  | inl less ↦ let r = t.rising i j no_place less low_j in absurd (omega (arith, r, same))
-  | inr more ↦ let r = t.rising j i no_place (omega (arith, more, ne)) low_i in absurd (omega (arith, r, same))
+  | inl less ↦ let r = t.rising i j no_entry less low_j in absurd (omega (arith, r, same))
+  | inr more ↦ let r = t.rising j i no_entry (omega (arith, more, ne)) low_i in absurd (omega (arith, r, same))
 ]
 
 pub apart_index : (slots : List (Option Expiration)) (records : List Record) (entries : List Entry) (i j : ℕ)
     → IsTable slots records entries → i < length entries → j < length entries → i ≢ j →
-    (get_or entries i no_place).index ≢ (get_or entries j no_place).index
+    (get_or entries i no_entry).index ≢ (get_or entries j no_entry).index
 apart_index slots records entries i j t low_i low_j ne same =
-    let (m, holds) = t.named i no_place low_i in
-    let (n, holds') = t.named j no_place low_j in
-    let one : Some (record { moment = m; id = (get_or entries i no_place).id })
-    ≡ Some (record { moment = n; id = (get_or entries j no_place).id }) = sym holds ∙ ap (λ x. get_or slots x None) same
+    let (m, holds) = t.named i no_entry low_i in
+    let (n, holds') = t.named j no_entry low_j in
+    let one : Some (record { moment = m; id = (get_or entries i no_entry).id })
+    ≡ Some (record { moment = n; id = (get_or entries j no_entry).id }) = sym holds ∙ ap (λ x. get_or slots x None) same
     ∙ holds' in
     apart slots records entries i j t low_i low_j ne (id_of _ _ one)
   where
@@ -112,19 +112,19 @@ changed slots records entries k r s m kept t =
     let set_long = length-set old k new in
     same_lists (map f entries) (set old k new) (omega (arith, long, long_old, set_long)) (λ j d h.
     let low : j < length entries = omega (arith, h, long) in
-    let at = get_or-map f entries j no_place d low in
+    let at = get_or-map f entries j no_entry d low in
     elim (cases_eq j k) [
       | inl same ↦
-          let here : get_or entries j no_place ≡ s.p = ap (λ x. get_or entries x no_place) same ∙ s.is no_place in
+          let here : get_or entries j no_entry ≡ s.p = ap (λ x. get_or entries x no_entry) same ∙ s.is no_entry in
           let there = get_or-set_same slots i e None s.below in
           let kept_there = get_or-set_same records i kept no_record (let l = t.long in let b = s.below in omega (arith, l, b)) in
           at ∙ ap f here ∙ (λ x. joined s.p.id i (there x) (kept_there x))
           ∙ sym (get_or-set_same old k new d (let b = s.low in omega (arith, long_old, b)))
           ∙ ap (λ x. get_or (set old k new) x d) (sym same)
       | inr ne ↦
-          let p = get_or entries j no_place in
+          let p = get_or entries j no_entry in
           let far : p.index ≢ i = λ q. apart_index slots records entries j k t low s.low ne
-          (q ∙ ap (λ (x : Entry). x.index) (sym (s.is no_place))) in
+          (q ∙ ap (λ (x : Entry). x.index) (sym (s.is no_entry))) in
           at ∙ (λ x. joined p.id p.index (get_or-set_other slots i p.index e None far x)
           (get_or-set_other records i p.index kept no_record far x))
           ∙ sym (row_at slots records entries j d low) ∙ sym (get_or-set_other old k j new d ne)
@@ -168,10 +168,10 @@ table_changed slots records entries k r s m kept t low_m some most =
             )
         | inr ne ↦
             let (n, holds) = t.named j d low in
-            let same_d = get_or_default entries j d no_place low in
+            let same_d = get_or_default entries j d no_entry low in
             let far : (get_or entries j d).index ≢ i =
             λ q. apart_index slots records entries j k t low s.low ne (ap (λ (x : Entry). x.index) (sym same_d) ∙ q
-            ∙ ap (λ (x : Entry). x.index) (sym (s.is no_place))) in
+            ∙ ap (λ (x : Entry). x.index) (sym (s.is no_entry))) in
             (n, get_or-set_other slots i (get_or entries j d).index (Some new) None far ∙ holds)
       ];
       covered = λ j e h. elim (slot_changed slots i j (Some new) (Some e) s.below h) [
@@ -244,7 +244,7 @@ one_slot a b o h k = cc
 
 -- the row of an entry
 pub is_row : (slots : List (Option Expiration)) (records : List Record) (entries : List Entry) (k : ℕ) → k < length entries
-    → IsRow (rows_of slots records entries) k (row_of slots records (get_or entries k no_place))
+    → IsRow (rows_of slots records entries) k (row_of slots records (get_or entries k no_entry))
 is_row slots records entries k low = (
   let l = length-map entries (row_of slots records) in
       omega (arith, l, low),
@@ -265,9 +265,9 @@ timers_long rows = length-map (cyclics_of rows) (λ (c : Cyclic). c.timer) ∙ l
 -- the timer of a position
 pub timer_at : (slots : List (Option Expiration)) (records : List Record) (entries : List Entry) (k : ℕ) (d : Timer)
     → k < length entries → get_or (timers_of (rows_of slots records entries)) k d
-    ≡ (row_of slots records (get_or entries k no_place)).timer
+    ≡ (row_of slots records (get_or entries k no_entry)).timer
 timer_at slots records entries k d low =
-    let r = row_of slots records (get_or entries k no_place) in
+    let r = row_of slots records (get_or entries k no_entry) in
     let l = length-map entries (row_of slots records) in
     timer_of_row (rows_of slots records entries) k d r (omega (arith, l, low))
     ∙ ap (λ (x : Row). x.timer) (row_at slots records entries k r low)
@@ -286,22 +286,22 @@ root_is h records entries t (Some found) is =
     let slots = h.slots in
     let e : Expiration = record { moment = found.1; id = found.2 } in
     let (k, low, at) = t.covered found.0 e is.holds in
-    let p = get_or entries k no_place in
-    let holds : get_or slots p.index None ≡ Some e = ap (λ i. get_or slots i None) (at no_place) ∙ is.holds in
-    let (m, named) = t.named k no_place low in
+    let p = get_or entries k no_entry in
+    let holds : get_or slots p.index None ≡ Some e = ap (λ i. get_or slots i None) (at no_entry) ∙ is.holds in
+    let (m, named) = t.named k no_entry low in
     let same = one_slot (record { moment = m; id = p.id }) e _ named holds in
     let id : p.id ≡ found.2 = ap (λ (x : Expiration). x.id) same in
     let moment : moment_in (get_or slots p.index None) ≡ found.1 = ap moment_in holds in (
       k,
       row_of slots records p,
       is_row slots records entries k low,
-      at no_place,
+      at no_entry,
       moment,
       id,
       λ j d low_j.
           let low' : j < length entries = (let l = rows_long slots records entries in omega (arith, l, low_j)) in
-          let q = get_or entries j no_place in
-          let (n, there) = t.named j no_place low' in
+          let q = get_or entries j no_entry in
+          let (n, there) = t.named j no_entry low' in
           let before = is.least q.index (record { moment = n; id = q.id }) there in
           let left : next_of (get_or (timers_of (rows_of slots records entries)) k d) ≡ e =
           ap next_of (timer_at slots records entries k d low) ∙ (λ i. record { moment = moment i; id = id i }) in
@@ -319,7 +319,7 @@ rows_rise slots records entries t i j d less low =
     let low_j : j < length entries = omega (arith, l, low) in
     let a = ap (λ (x : Row). x.timer.id) (row_at slots records entries i d (omega (arith, less, low_j))) in
     let b = ap (λ (x : Row). x.timer.id) (row_at slots records entries j d low_j) in
-    let r = t.rising i j no_place less low_j in
+    let r = t.rising i j no_entry less low_j in
     omega (arith, a, b, r)
 
 pub indexes_apart : (slots : List (Option Expiration)) (records : List Record) (entries : List Entry)
@@ -342,8 +342,8 @@ pub indexes_low : (slots : List (Option Expiration)) (records : List Record) (en
 indexes_low slots records entries t k d low =
     let l = length-map entries (row_of slots records) in
     let low' : k < length entries = omega (arith, l, low) in
-    let (m, holds) = t.named k no_place low' in
-    let b = slot_low slots (get_or entries k no_place).index _ holds in
+    let (m, holds) = t.named k no_entry low' in
+    let b = slot_low slots (get_or entries k no_entry).index _ holds in
     let a = ap (λ (x : Row). x.index) (row_at slots records entries k d low') in
     omega (arith, a, b)
 
@@ -352,8 +352,8 @@ pub timers_sound : (slots : List (Option Expiration)) (records : List Record) (e
     → All IsSoundTimer (timers_of (rows_of slots records entries))
 timers_sound slots records entries t k d low =
     let low' : k < length entries = (let l = rows_long slots records entries in omega (arith, l, low)) in
-    let p = get_or entries k no_place in
-    let (m, holds) = t.named k no_place low' in
+    let p = get_or entries k no_entry in
+    let (m, holds) = t.named k no_entry low' in
     let b = slot_low slots p.index _ holds in
     let i = t.intervals p.index no_record (let l = t.long in omega (arith, l, b)) in
     let m' = t.moments p.index _ holds in
@@ -386,12 +386,12 @@ table_replaced slots new records entries k r s m t low is =
 -- what stands at a position
 pub standing_at : (slots : List (Option Expiration)) (records : List Record) (entries : List Entry) (k : ℕ)
     → IsTable slots records entries → k < length entries →
-    Standing slots records entries k (row_of slots records (get_or entries k no_place))
+    Standing slots records entries k (row_of slots records (get_or entries k no_entry))
 standing_at slots records entries k t low = standing slots records entries k _ t (is_row slots records entries k low)
 
-pub place_low : (v : TableView) (slots : List (Option Expiration)) (records : List Record) (entries : List Entry) (k : ℕ)
+pub position_low : (v : TableView) (slots : List (Option Expiration)) (records : List Record) (entries : List Entry) (k : ℕ)
     → rows_of slots records entries ≡ v.rows → k < length v.rows → k < length entries
-place_low v slots records entries k is low =
+position_low v slots records entries k is low =
     (let l = length-map entries (row_of slots records) in let e = ap length is in omega (arith, l, e, low))
 
 -- where the id stands its row is
@@ -399,7 +399,7 @@ pub row_here : (slots : List (Option Expiration)) (records : List Record) (entri
     → IsAt id_in entries id q →
     (r : Row) × IsRow (rows_of slots records entries) q r × (r.timer.id ≡ id)
 row_here slots records entries id q at =
-    (row_of slots records (get_or entries q no_place), is_row slots records entries q at.in_range, at.has_id no_place)
+    (row_of slots records (get_or entries q no_entry), is_row slots records entries q at.in_range, at.has_id no_entry)
 
 -- where the row stands the entry of its id does
 pub entry_here : (slots : List (Option Expiration)) (records : List Record) (entries : List Entry) (id k : ℕ) (r : Row)
@@ -425,6 +425,6 @@ no_row slots records entries id q gap k d low same =
     let low_k : k < length entries = omega (arith, l, low) in
     let at = ap (λ (x : Row). x.timer.id) (row_at slots records entries k d low_k) in
     elim (cases_lt k q) [
-      | inl less ↦ let b = gap.smaller_before k no_place less in absurd (omega (arith, b, at, same))
-      | inr more ↦ let a = gap.greater_after k no_place more low_k in absurd (omega (arith, a, at, same))
+      | inl less ↦ let b = gap.smaller_before k no_entry less in absurd (omega (arith, b, at, same))
+      | inr more ↦ let a = gap.greater_after k no_entry more low_k in absurd (omega (arith, a, at, same))
     ]

@@ -16,7 +16,7 @@ use Rattle.cyc_finder.proofs.RisingIds.{rises_inserted}
 use Rattle.cyc_finder.specs.Indexes.{Entry, id_in}
 use Rattle.cyc_timers.specs.declared.table.Record.{Record}
 use Rattle.cyc_timers.specs.Rows.{no_record, joined, row_of, rows_of, IsTable}
-use Rattle.cyc_timers.proofs.Tables.{no_place, slot_low, map_same, slot_changed, tally}
+use Rattle.cyc_timers.proofs.Tables.{no_entry, slot_low, map_same, slot_changed, tally}
 
 -- what a wider table has at an index
 pub wide_slot : (slots : List (Option Expiration)) (n i : ℕ) → get_or (slots ++ replicate n None) i None ≡ get_or slots i None
@@ -43,10 +43,10 @@ module _ (slots : List (Option Expiration)) (records : List Record) (entries : L
   wide_record i d low = get_or_append_left records (replicate n fill) d i low
 
   pub wide_rows : rows_of (slots ++ replicate n None) (records ++ replicate n fill) entries ≡ rows_of slots records entries
-  wide_rows = map_same (row_of (slots ++ replicate n None) (records ++ replicate n fill)) (row_of slots records) entries no_place
+  wide_rows = map_same (row_of (slots ++ replicate n None) (records ++ replicate n fill)) (row_of slots records) entries no_entry
       (λ k low.
-      let p = get_or entries k no_place in
-      let (m, holds) = t.named k no_place low in
+      let p = get_or entries k no_entry in
+      let (m, holds) = t.named k no_entry low in
       let low_i : p.index < length records = (let b = slot_low slots p.index _ holds in let l = t.long in omega (arith, b, l)) in
       λ x. joined p.id p.index (wide_slot slots n p.index x) (wide_record p.index no_record low_i x))
 
@@ -92,9 +92,9 @@ module _ (slots : List (Option Expiration)) (records : List Record) (entries : L
   p = record { id = id; index = index }
 
   -- no position had the index
-  pub fresh : (k : ℕ) → k < length entries → (get_or entries k no_place).index ≢ index
-  fresh k low same = (let (n, holds) = t.named k no_place low in let x : Expiration =
-      record { moment = n; id = (get_or entries k no_place).id } in let no : Some x ≡ None = sym holds
+  pub fresh : (k : ℕ) → k < length entries → (get_or entries k no_entry).index ≢ index
+  fresh k low same = (let (n, holds) = t.named k no_entry low in let x : Expiration =
+      record { moment = n; id = (get_or entries k no_entry).id } in let no : Some x ≡ None = sym holds
       ∙ ap (λ i. get_or slots i None) same ∙ free in absurd (cc))
 
   data Spot (k : ℕ) : Type 0 where
@@ -116,8 +116,8 @@ module _ (slots : List (Option Expiration)) (records : List Record) (entries : L
     ]
   ]
 
-  long_places : length (insert entries q (record { id = id; index = index })) ≡ length entries + 1
-  long_places = length-insert entries q p low_q
+  long_positions : length (insert entries q (record { id = id; index = index })) ≡ length entries + 1
+  long_positions = length-insert entries q p low_q
 
   some_is : (a b : Expiration) → Some a ≡ Some b → a ≡ b
   some_is a b h = cc
@@ -131,12 +131,12 @@ module _ (slots : List (Option Expiration)) (records : List Record) (entries : L
     covered = λ i f h. elim (slot_changed slots index i e (Some f) low_i h) [
       | inl (same, is) ↦ (
         q,
-        (let n = long_places in omega (arith, n, low_q)),
+        (let n = long_positions in omega (arith, n, low_q)),
         λ d. ap (λ (x : Entry). x.index)
             (get_or-insert_at entries q p d low_q) ∙ sym same,
       )
       | inr (ne, is) ↦
-          (let (k, low, at) = t.covered i f is in let n = long_places in
+          (let (k, low, at) = t.covered i f is in let n = long_positions in
           elim (cases_lt k q) [
             | inl less ↦ (
               k,
@@ -155,7 +155,7 @@ module _ (slots : List (Option Expiration)) (records : List Record) (entries : L
     long = (let a = length-set records index kept in let b = length-set slots index e in let l = t.long in
         omega (arith, a, b, l));
     len = (let s = sum_by-set tally slots index e None low_i in let was : tally (get_or slots index None) ≡ 0 = ap tally free in
-        let l = t.len in let n = long_places in omega (arith, s, was, l, n));
+        let l = t.len in let n = long_positions in omega (arith, s, was, l, n));
     moments = λ i f h. elim (slot_changed slots index i e (Some f) low_i h) [
       | inl (same, is) ↦ subst (λ (x : Expiration). x.moment ≤ never) (some_is (record { moment = m; id = id }) f is) low_m
       | inr (ne, is) ↦ t.moments i f is
@@ -173,8 +173,8 @@ module _ (slots : List (Option Expiration)) (records : List Record) (entries : L
           × (get_or (set slots index (Some (record { moment = m; id = id }))) x.index None
           ≡ Some (record { moment = n; id = x.id }))
       other j d low x is =
-          (let (n, holds) = t.named j no_place low in
-          let at : x ≡ get_or entries j no_place = is ∙ get_or_default entries j d no_place low in
+          (let (n, holds) = t.named j no_entry low in
+          let at : x ≡ get_or entries j no_entry = is ∙ get_or_default entries j d no_entry low in
           let far : x.index ≢ index = λ h. fresh j low (ap (λ (z : Entry). z.index) (sym at) ∙ h) in (
             n,
             get_or-set_other slots index x.index e None far ∙ ap (λ (z : Entry). get_or slots z.index None) at ∙ holds
@@ -191,7 +191,7 @@ module _ (slots : List (Option Expiration)) (records : List Record) (entries : L
         ap (λ (z : Entry). get_or (set slots index e) z.index None) (x d)
             ∙ get_or-set_same slots index e None low_i ∙ ap (λ (z : Entry). Some (record { moment = m; id = z.id })) (sym (x d)),
       )
-      named_at k d low (after j a c x) = other j d (let n = long_places in omega (arith, low, a, n)) _ (x d)
+      named_at k d low (after j a c x) = other j d (let n = long_positions in omega (arith, low, a, n)) _ (x d)
 
   pub new_rows : rows_of (set slots index (Some (record { moment = m; id = id }))) (set records index kept)
       (insert entries q (record { id = id; index = index }))
@@ -199,8 +199,8 @@ module _ (slots : List (Option Expiration)) (records : List Record) (entries : L
   new_rows =
       let f' = row_of (set slots index e) (set records index kept) in
       let f = row_of slots records in
-      let same : map f' entries ≡ map f entries = map_same f' f entries no_place (λ k low.
-      let x = get_or entries k no_place in
+      let same : map f' entries ≡ map f entries = map_same f' f entries no_entry (λ k low.
+      let x = get_or entries k no_entry in
       λ y. joined x.id x.index (get_or-set_other slots index x.index e None (fresh k low) y)
       (get_or-set_other records index x.index kept no_record (fresh k low) y)) in
       let new : f' p ≡ joined id index e kept =

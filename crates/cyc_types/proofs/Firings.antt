@@ -18,7 +18,7 @@ use Rattle.cyc_types.specs.Timers.{Timer, HasDistinctIds, IsSoundTimer, earliest
 use Rattle.cyc_types.proofs.Order.{ascending_least, length_ascending}
 use Rattle.cyc_types.proofs.Dues.{due_of_first, due_of_step, due_of_all, due_of_none, moment_more, length_due_of, due_small}
 
--- the timer at this place comes no later than any
+-- the timer at this position comes no later than any
 abbrev pub IsLeastAt : List Timer → ℕ → Type 0
 IsLeastAt ts i = (k : ℕ) (d : Timer) → k < length ts → is_before (next_of (get_or ts i d)) (next_of (get_or ts k d)) ≡ true
 

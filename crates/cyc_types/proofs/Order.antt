@@ -65,7 +65,7 @@ put_in_comm p q (x ∷ xs) = comm_at (put_in_comm p q xs) (is_before p x) (is_be
         ∙ ap (λ ys. x ∷ ys) rest
         ∙ ap (λ b. cond b (q ∷ x ∷ put_in_order p xs) (x ∷ put_in_order q (put_in_order p xs))) (sym hq)
 
--- the place of an expiration in the list does not matter
+-- the position of an expiration in the list does not matter
 pub ascending_middle : (xs : List Expiration) (p : Expiration) (ys : List Expiration)
     → ascending (xs ++ p ∷ ys) ≡ put_in_order p (ascending (xs ++ ys))
 ascending_middle [] p ys = refl

@@ -1,7 +1,7 @@
 -- Lists whose elements go two by two.
 use Rattle.std.specs.Prelude.{List, [], ◌∷◌}
 
--- two lists are of one length, and this holds of each two elements at one place
+-- two lists are of one length, and this holds of each two elements at one position
 abbrev pub EachTwo : {A B : Type 0} → (A → B → Type 0) → List A → List B → Type 0
 EachTwo P [] [] = Unit {0}
 EachTwo P [] (y ∷ ys) = ⊥

@@ -49,7 +49,7 @@ abbrev pub OneOpen : Handles → Type 0
 OneOpen g = (hard : Firing) (lock low : SoftSide) → g.firing ≡ Some hard → g.lock ≡ Some lock → g.low ≡ Some low
     → SameRings hard lock low
 
--- three open handles, and a place for the books
+-- three open handles, and room for the books
 abbrev pub CanClose : Handles → Option Books → Type 0
 CanClose g b = (g.firing ≢ None) × (g.lock ≢ None) × (g.low ≢ None) × (b ≡ None)
 

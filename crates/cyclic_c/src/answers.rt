@@ -1,7 +1,8 @@
 //! What the answers of a CPU write over the border.
 
 ghost use Rattle.std.specs.Prelude.{◌≡◌};
-ghost use Rattle.cyclic_c.specs.Exports.{id_named_by, found_in as number_found, kept_by, IsDoneAtOnce, WritesTotals, WritesReceipt};
+ghost use Rattle.cyclic_c.specs.Exports.{id_named_by, found_in as number_found, kept_by, IsDoneAtOnce, WritesTotals};
+ghost use Rattle.cyclic_c.specs.Exports.{WritesReceipt};
 ghost use Rattle.cyclic_c.specs.Exports.{WritesFired, fire_number, or_zero as number_or_zero};
 ghost use Rattle.cyc_border.specs.Numbers.{answer_of, number_of_refusal};
 ghost use Rattle.cyc_border.specs.declared.numbers.Denied.TheVariants.{Refused};

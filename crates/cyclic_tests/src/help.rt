@@ -65,9 +65,9 @@ pub(crate) fn tallies(alloc: Global, cpus: usize) -> Result<Vec<Tally>, Fail> {
 pub(crate) fn called(calls: &[Tally], kind: usize, number: u64) -> Result<u64, Fail> {
     let id = id(number)?;
     let mut all: u64 = 0;
-    for place in 0..calls.len() {
-        if place % 3 == kind {
-            all = all.wrapping_add(calls[place].count(id).unwrap_or(0));
+    for position in 0..calls.len() {
+        if position % 3 == kind {
+            all = all.wrapping_add(calls[position].count(id).unwrap_or(0));
         }
     }
     Ok(all)

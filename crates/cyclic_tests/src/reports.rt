@@ -12,10 +12,12 @@ use std::thread::Threads;
 
 /// A script on four CPUs.
 const FOUR: &str =
-    "{\"cpus\":4,\"steps\":[[\"add\",\"a\",\"high\",10,10],[\"add\",\"b\",\"lock\",5,10],[\"add\",\"c\",\"low\",0,7],[\"omni\",\"o\",\"low\",10,10,1],[\"advance\",100],[\"remove\",\"b\"],[\"juggle\",0],[\"advance\",200]]}";
+    "{\"cpus\":4,\"steps\":[[\"add\",\"a\",\"high\",10,10],[\"add\",\"b\",\"lock\",5,10],[\"add\",\"c\",\"low\",0,7],\
+     [\"omni\",\"o\",\"low\",10,10,1],[\"advance\",100],[\"remove\",\"b\"],[\"juggle\",0],[\"advance\",200]]}";
 
 const FOUR_TEXT: &str =
-    "a expired 20 called 20 lost 0 pending 0\nb expired 10 called 10 lost 0 pending 0\nc expired 28 called 28 lost 0 pending 0\no expired 77 called 77 lost 0 pending 0\n";
+    "a expired 20 called 20 lost 0 pending 0\nb expired 10 called 10 lost 0 pending 0\n\
+     c expired 28 called 28 lost 0 pending 0\no expired 77 called 77 lost 0 pending 0\n";
 
 /// What a run with handlers that count ended with, and what it wrote.
 fn counted<W: Threads + Wait + Sync>(
@@ -55,12 +57,12 @@ fn a_hundred_runs_write_the_same(rt: HostRuntime) -> Result<(), Fail> {
     Ok(())
 }
 
-/// The book of index 0 of the ring at this place.
-fn book(rings: &[Closed], place: usize) -> Result<Option<Book>, Fail> {
+/// The book of index 0 of the ring at this position.
+fn book(rings: &[Closed], position: usize) -> Result<Option<Book>, Fail> {
     let Some(index) = Index::new(0) else {
         return Err(Fail::from("an index"));
     };
-    match rings.get(place) {
+    match rings.get(position) {
         Some(ring) => Ok(ring.book(index)),
         None => Err(Fail::from("a ring")),
     }

@@ -6,7 +6,7 @@ use native.Mathlib.Nat.{pow-suc}
 use Rattle.cyc_level.specs.Limits.{greatest_bank, cyclics}
 use Rattle.ring_rule.specs.Words.{spread_index, slot_word}
 use Rattle.ring_rule.specs.Apart.{PendsAreApart, PlacesAreApart, BanksAreApart, WordsAreApart}
-use Rattle.ring_rule.proofs.Words.{pend_low, pend_distinct, place_high, place_low, turned_back, same_turn}
+use Rattle.ring_rule.proofs.Words.{pend_low, pend_distinct, slot_high, slot_low, turned_back, same_turn}
 
 -- equal indexes modulo a size have equal positions
 pub same_spread : (n i j : ℕ) → i % n ≡ j % n → spread_index n i ≡ spread_index n j
@@ -49,7 +49,7 @@ positions bank most = (
 )
 
 banks : BanksAreApart
-banks low high i j less most = (lower_bank low high i j less, place_high low i, place_low high j most)
+banks low high i j less most = (lower_bank low high i j less, slot_high low i, slot_low high j most)
 
 pub apart : WordsAreApart
 apart = (pends, positions, banks)

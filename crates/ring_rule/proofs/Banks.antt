@@ -21,7 +21,7 @@ use Rattle.ring_rule.specs.Trail.{consumer_index, producer_seen, bank_seen}
 use Rattle.ring_rule.specs.Log.{raise_side, drain_side}
 use Rattle.ring_rule.specs.Shown.{BankHolds, TrailsShow, StillHolds}
 use Rattle.ring_rule.specs.Steps.{TellsSwitch, TellsLoadSoftBank, TellsFollow}
-use Rattle.ring_rule.proofs.Words.{pend_low, place_low, keeps_all, holds_kept, stored_kept}
+use Rattle.ring_rule.proofs.Words.{pend_low, slot_low, keeps_all, holds_kept, stored_kept}
 use Rattle.ring_rule.proofs.Seats.{level, raises, drains, raise_goes, drain_goes}
 use Rattle.ring_rule.proofs.Now.{RingNow, ring_now, loaded, index_low}
 use Rattle.ring_rule.proofs.Stands.{firing_step, soft_step}
@@ -36,7 +36,7 @@ module _ (k : Setting) (ws : List ℕ) (rs : List RaiseStep) (ds : List DrainSte
   holds_low : (i v bank : ℕ) (xs : List ℕ) (from : ℕ) → bank ≤ greatest_bank → hard_word ≤ i → BankHolds ws l.cyclics bank from xs
       → BankHolds (set ws i v) l.cyclics bank from xs
   holds_low i v bank xs from most high h = holds_kept ws (set ws i v) l.cyclics l.cyclics (keeps_all l.cyclics) bank xs from
-      (λ j _ _. let low = place_low bank j most in other i v (slot_word bank j) (λ e. omega arith))
+      (λ j _ _. let low = slot_low bank j most in other i v (slot_word bank j) (λ e. omega arith))
       (other i v (producer_word bank) (λ e. omega arith)) h
 
   -- Switch
@@ -156,7 +156,7 @@ module _ (k : Setting) (ws : List ℕ) (rs : List RaiseStep) (ds : List DrainSte
     follow_still = let le = N.still in record {
       seen_is_enough = le.seen_is_enough;
       hand_stored = stored_kept ws ws'' l.cyclics l.cyclics (keeps_all l.cyclics) l.hard_bank _ _ _
-          (let low = place_low l.hard_bank (producer_index k.start rs) N.law.bank_bound in
+          (let low = slot_low l.hard_bank (producer_index k.start rs) N.law.bank_bound in
           other soft_word bank (slot_word l.hard_bank (producer_index k.start rs)) (λ e. omega arith)) le.hand_stored;
       fresh = λ b up top. other soft_word bank (producer_word b) (λ e. omega arith) ∙ le.fresh b up top;
       held_is = le.held_is;

@@ -19,7 +19,7 @@ use Rattle.ring_rule.specs.Trail.{firer_hand_of, hard_bank_of, producer_index, s
 use Rattle.ring_rule.specs.Log.{raise_side, drain_side}
 use Rattle.ring_rule.specs.Shown.{HoldsEntry, BankHolds, IsHandStored, TrailsShow, StillHolds}
 use Rattle.ring_rule.specs.Steps.{TellsPublish}
-use Rattle.ring_rule.proofs.Words.{pend_low, place_low, keeps_all, entry_kept, holds_kept}
+use Rattle.ring_rule.proofs.Words.{pend_low, slot_low, keeps_all, entry_kept, holds_kept}
 use Rattle.ring_rule.proofs.Seats.{level, raises, raise_goes}
 use Rattle.ring_rule.proofs.Now.{RingNow, ring_now, index_low}
 use Rattle.ring_rule.proofs.Stands.{firing_step}
@@ -75,8 +75,8 @@ module _ (k : Setting) (ws : List ℕ) (rs : List RaiseStep) (ds : List DrainSte
   put_there = subst (λ (x : Option ℕ × Option ℕ). IsHandStored ws l.cyclics l.hard_bank P x.0 x.1)
       (λ z. (there z, up z)) N.still.hand_stored
 
-  kept_place : (bank j : ℕ) → bank ≤ greatest_bank → get_or ws' (slot_word bank j) 0 ≡ get_or ws (slot_word bank j) 0
-  kept_place bank j most = let low = place_low bank j most in kept (slot_word bank j) (λ e. omega arith)
+  kept_slot : (bank j : ℕ) → bank ≤ greatest_bank → get_or ws' (slot_word bank j) 0 ≡ get_or ws (slot_word bank j) 0
+  kept_slot bank j most = let low = slot_low bank j most in kept (slot_word bank j) (λ e. omega arith)
 
   pub publishes_shown : TrailsShow k.start ws' (Published v ∷ rs) ds (after Publish l)
   publishes_shown = let sh = N.shows in let most = N.law.bank_bound in let behind = N.law.soft_behind in let p = sh.produced in
@@ -93,12 +93,12 @@ module _ (k : Setting) (ws : List ℕ) (rs : List RaiseStep) (ds : List DrainSte
             ∙ sh.pends j c e;
         unused = λ j less no. let x = pend_low j less in kept (pend_word j) (λ e. omega arith) ∙ sh.unused j less no;
         new_held = subst (λ (x : List ℕ). BankHolds ws' l.cyclics l.hard_bank base (l.new_list ++ x)) (sym is_listed)
-            (holds_snoc ws ws' l.cyclics l.hard_bank (λ j. kept_place l.hard_bank j most) id l.new_list base sh.new_held
+            (holds_snoc ws ws' l.cyclics l.hard_bank (λ j. kept_slot l.hard_bank j most) id l.new_list base sh.new_held
             (subst (λ (j : ℕ). HoldsEntry ws l.cyclics l.hard_bank j id) p put_there)
             (let wide = N.wide in get_or-set_same ws i v 0 (omega arith) ∙ ap (λ (j : ℕ). (j + 1) % 2 ^ 32) p));
         old_held = λ apart. holds_kept ws ws' l.cyclics l.cyclics (keeps_all l.cyclics) l.soft_bank l.old_list
             (consumer_index k.start ds)
-            (λ j _ _. kept_place l.soft_bank j (omega (arith, most, behind)))
+            (λ j _ _. kept_slot l.soft_bank j (omega (arith, most, behind)))
             (kept (producer_word l.soft_bank) (λ e. apart (omega arith))) (sh.old_held apart);
         produced = let long : length longer ≡ length l.new_list + 1 = ap (λ (x : List ℕ). length (l.new_list ++ x)) is_listed
             ∙ length-append l.new_list (id ∷ []) in omega (arith, p, long);

@@ -32,7 +32,7 @@ use Rattle.ring_rule.specs.Trail.{
 use Rattle.ring_rule.specs.Log.{raise_side, drain_side, stay_word}
 use Rattle.ring_rule.specs.Shown.{IsSameStay, BankHolds, TrailsShow, StillHolds}
 use Rattle.ring_rule.specs.Steps.{TellsLoad, TellsMark, TellsClear}
-use Rattle.ring_rule.proofs.Words.{pend_low, pend_distinct, place_high, keeps_all, holds_high}
+use Rattle.ring_rule.proofs.Words.{pend_low, pend_distinct, slot_high, keeps_all, holds_high}
 use Rattle.ring_rule.proofs.Seats.{level, raises, raise_goes}
 use Rattle.ring_rule.proofs.Stays.{behind, held_once}
 use Rattle.ring_rule.proofs.Now.{RingNow, ring_now, loaded, index_low, same_pend}
@@ -48,7 +48,7 @@ module _ (ws ws' : List ℕ) (m : Cyclics) (id : ℕ) (high : (j : ℕ) → cycl
   holds_cleared bank (x ∷ xs) i bare h = let ne : x ≢ id = λ e. let a = hand_here id in
       let b : in_hand id (Some x) ≡ in_hand id (Some id) = ap (λ (y : ℕ). in_hand id (Some y)) e in omega (arith, a, b, bare) in
       let c = h.0 in (
-        (c.0, at_other m id (λ _. None) x ne ∙ c.1, high (slot_word bank i) (place_high bank i) ∙ c.2),
+        (c.0, at_other m id (λ _. None) x ne ∙ c.1, high (slot_word bank i) (slot_high bank i) ∙ c.2),
         holds_cleared bank xs (i + 1) (omega (arith, bare)) h.1,
       )
 

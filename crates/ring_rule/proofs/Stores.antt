@@ -19,7 +19,7 @@ use Rattle.ring_rule.specs.Trail.{open_stay, ended_calls, firer_hand_of, hard_ba
 use Rattle.ring_rule.specs.Log.{raise_side, drain_side}
 use Rattle.ring_rule.specs.Shown.{IsHandStored, TrailsShow, StillHolds}
 use Rattle.ring_rule.specs.Steps.{TellsStore}
-use Rattle.ring_rule.proofs.Words.{pend_low, same_turn, place_high, place_low, keeps_all, holds_kept}
+use Rattle.ring_rule.proofs.Words.{pend_low, same_turn, slot_high, slot_low, keeps_all, holds_kept}
 use Rattle.ring_rule.proofs.Apart.{lower_bank}
 use Rattle.ring_rule.proofs.Seats.{level, raises, raise_goes}
 use Rattle.ring_rule.proofs.Stays.{behind}
@@ -27,8 +27,8 @@ use Rattle.ring_rule.proofs.Now.{RingNow, ring_now, index_low}
 use Rattle.ring_rule.proofs.Stands.{firing_step}
 
 -- two indexes of a bank less than its size apart lie in different words
-pub other_place : (bank i j : ℕ) → bank ≤ greatest_bank → i < j → j < i + 2 ^ bank → slot_word bank i ≢ slot_word bank j
-other_place bank i j most less near e = let same : i % 2 ^ bank ≡ j % 2 ^ bank =
+pub other_slot : (bank i j : ℕ) → bank ≤ greatest_bank → i < j → j < i + 2 ^ bank → slot_word bank i ≢ slot_word bank j
+other_slot bank i j most less near e = let same : i % 2 ^ bank ≡ j % 2 ^ bank =
     same_turn bank i j (omega (arith, most)) (omega (arith, e)) in let x = one_turn i j (2 ^ bank) (omega arith) near same in
     omega (arith, x)
 
@@ -55,10 +55,10 @@ module _ (k : Setting) (ws : List ℕ) (rs : List RaiseStep) (ds : List DrainSte
   known = behind (made_calls id ds) (ended_calls id rs) (open_stay id rs) (l.cyclics id) st is (N.shows.stays id)
 
   high : cyclics ≤ i
-  high = place_high l.hard_bank P
+  high = slot_high l.hard_bank P
 
   low : i < producer_word 0
-  low = place_low l.hard_bank P N.law.bank_bound
+  low = slot_low l.hard_bank P N.law.bank_bound
 
   kept : (j : ℕ) → j ≢ i → get_or ws' j 0 ≡ get_or ws j 0
   kept j ne = get_or-set_other ws i j v 0 ne
@@ -78,7 +78,7 @@ module _ (k : Setting) (ws : List ℕ) (rs : List RaiseStep) (ds : List DrainSte
     unused = λ j less no. let x = pend_low j less in kept (pend_word j) (λ e. omega arith) ∙ sh.unused j less no;
     new_held = holds_kept ws ws' l.cyclics l.cyclics (keeps_all l.cyclics) l.hard_bank l.new_list base
         (λ j from to. kept (slot_word l.hard_bank j) (let room = new_fits l N.law id (sh.firer_is ∙ up) in let p = sh.produced in
-        other_place l.hard_bank j P N.law.bank_bound (omega (arith, p)) (omega (arith, p, room))))
+        other_slot l.hard_bank j P N.law.bank_bound (omega (arith, p)) (omega (arith, p, room))))
         (kept (producer_word l.hard_bank) (λ e. omega arith)) sh.new_held;
     old_held = λ apart. holds_kept ws ws' l.cyclics l.cyclics (keeps_all l.cyclics) l.soft_bank l.old_list
         (consumer_index k.start ds)

@@ -20,11 +20,11 @@ pend_low i h = omega arith
 pub pend_distinct : (i j : ℕ) → i < cyclics → j < cyclics → pend_word i ≡ pend_word j → i ≡ j
 pend_distinct i j a b e = omega (arith, a, b, e)
 
-pub place_high : (bank i : ℕ) → cyclics ≤ slot_word bank i
-place_high bank i = let p : 0 < 2 ^ bank = pow_pos bank in omega (arith, p)
+pub slot_high : (bank i : ℕ) → cyclics ≤ slot_word bank i
+slot_high bank i = let p : 0 < 2 ^ bank = pow_pos bank in omega (arith, p)
 
-pub place_low : (bank i : ℕ) → bank ≤ greatest_bank → slot_word bank i < producer_word 0
-place_low bank i h = let p : 0 < 2 ^ bank = pow_pos bank in let q : 2 ^ bank ≤ 2 ^ greatest_bank =
+pub slot_low : (bank i : ℕ) → bank ≤ greatest_bank → slot_word bank i < producer_word 0
+slot_low bank i h = let p : 0 < 2 ^ bank = pow_pos bank in let q : 2 ^ bank ≤ 2 ^ greatest_bank =
     pow_mono {i = bank} {j = greatest_bank} h in
     let r : i * 9 % 2 ^ bank < 2 ^ bank = mod-lt (i * 9) p in let e : 2 ^ greatest_bank ≡ cyclics = refl in
     omega (arith, p, q, r, e)
@@ -80,11 +80,11 @@ module _ (ws ws' : List ℕ) (m m' : Cyclics) (keeps : Keeps m m') where
   -- the words behind the pend words stay as they were
   module _ (high : (j : ℕ) → cyclics ≤ j → get_or ws' j 0 ≡ get_or ws j 0) where
     pub holds_high : (bank : ℕ) (xs : List ℕ) (i : ℕ) → BankHolds ws m bank i xs → BankHolds ws' m' bank i xs
-    holds_high bank xs i = holds_kept bank xs i (λ j _ _. high (slot_word bank j) (place_high bank j))
+    holds_high bank xs i = holds_kept bank xs i (λ j _ _. high (slot_word bank j) (slot_high bank j))
         (high (producer_word bank) (omega arith))
 
     pub stored_high : (bank i : ℕ) (e h : Option ℕ) → IsHandStored ws m bank i e h → IsHandStored ws' m' bank i e h
-    stored_high bank i e h = stored_kept bank i e h (high (slot_word bank i) (place_high bank i))
+    stored_high bank i e h = stored_kept bank i e h (high (slot_word bank i) (slot_high bank i))
 
 -- a bank that holds a list ends behind it, and begins with its first id
 pub holds_end : (ws : List ℕ) (m : Cyclics) (bank : ℕ) (xs : List ℕ) (i : ℕ) → BankHolds ws m bank i xs

@@ -9,5 +9,5 @@ returns c =
     let less : ℕ = c.saturating_sub.result in
     let same = ap (count_leading_zeros 64) c.saturating_sub.ensures in
     let most = leading_le 64 less in
-    let b = zeros_bank c.args.places (64 - count_leading_zeros 64 less) c.requires (omega (arith, same, most)) in
+    let b = zeros_bank c.args.slots (64 - count_leading_zeros 64 less) c.requires (omega (arith, same, most)) in
     record { least = b.least; enough = b.enough; greatest = b.greatest; few = b.few }

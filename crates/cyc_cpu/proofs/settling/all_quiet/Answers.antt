@@ -33,9 +33,9 @@ module _ {R : Type 0} (firing : Raise R) where
   some_seen Low id n lock low lock' low' high may may' goes goes' some =
       let s = asked_some firing Low Low id n low low' refl (may' refl) goes' in omega (arith, s, some)
 
-at_row : (rows : List Row) (k place id : ℕ) (r : Row) → IsRow rows k r → r.timer.id ≡ id → k ≡ place
-    → IsAt (λ (x : Row). x.timer.id) rows id place
-at_row rows k place id r is named here = record {
+at_row : (rows : List Row) (k position id : ℕ) (r : Row) → IsRow rows k r → r.timer.id ≡ id → k ≡ position
+    → IsAt (λ (x : Row). x.timer.id) rows id position
+at_row rows k position id r is named here = record {
   in_range = (let l = is.0 in omega (arith, l, here));
   has_id = λ d. ap (λ j. (get_or rows j d).timer.id) (sym here)
       ∙ ap (λ (x : Row). x.timer.id) (get_or_default rows k d r is.0 ∙ is.1) ∙ named;

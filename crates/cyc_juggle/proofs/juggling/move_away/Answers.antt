@@ -19,12 +19,12 @@ loop-done-init g c = (
 
 pub unreachable-requires : goal.unreachable-requires
 unreachable-requires g c =
-    let (place, i, walk) = c.loop-done.invariant in let w = c.loop-done.cpus in let source = c.args.source in
+    let (position, i, walk) = c.loop-done.invariant in let w = c.loop-done.cpus in let source = c.args.source in
     let l = length_is c.args.cpus.now source c.cpu.result.now c.cpu.ensures in let len = c.len-done-end.ensures in
     let low = c.loop-done-test.true in
-    let here = low_too (ids_on source w) (ids_on source c.args.cpus.now) place c.loop-done._done i.rest
+    let here = low_too (ids_on source w) (ids_on source c.args.cpus.now) position c.loop-done._done i.rest
     (omega (arith, l, len, low)) in
-    some_next w source c.cpu-in-loop-done.result.now c.cpu-in-loop-done.ensures c.loop-done.passed place walk here
+    some_next w source c.cpu-in-loop-done.result.now c.cpu-in-loop-done.ensures c.loop-done.passed position walk here
     c.in_default.ensures.none
 
 pub visit-requires-clause-agrees : goal.visit-requires-clause-agrees
@@ -32,13 +32,13 @@ visit-requires-clause-agrees g c = let (last, a) = c.requires.agrees in (last, c
 
 pub visit-requires-clause-here : goal.visit-requires-clause-here
 visit-requires-clause-here g c =
-    let (place, i, walk) = c.loop-done.invariant in let w = c.loop-done.cpus in let source = c.args.source in
+    let (position, i, walk) = c.loop-done.invariant in let w = c.loop-done.cpus in let source = c.args.source in
     let l = length_is c.args.cpus.now source c.cpu.result.now c.cpu.ensures in let len = c.len-done-end.ensures in
     let low = c.loop-done-test.true in
-    let here = low_too (ids_on source w) (ids_on source c.args.cpus.now) place c.loop-done._done i.rest
+    let here = low_too (ids_on source w) (ids_on source c.args.cpus.now) position c.loop-done._done i.rest
     (omega (arith, l, len, low)) in
-    has_at w source place c.in-Some.id (next_spot w source c.cpu-in-loop-done.result.now c.cpu-in-loop-done.ensures
-    c.loop-done.passed place walk here c.in-Some.id c.in-Some.ensures.some)
+    has_at w source position c.in-Some.id (next_spot w source c.cpu-in-loop-done.result.now c.cpu-in-loop-done.ensures
+    c.loop-done.passed position walk here c.in-Some.id c.in-Some.ensures.some)
 
 pub visit-requires-clause-other : goal.visit-requires-clause-other
 visit-requires-clause-other g c = let (d, is) = c.requires.other in
@@ -55,17 +55,17 @@ visit-requires-clause-few g c =
 
 pub loop-done-preserved : goal.loop-done-preserved
 loop-done-preserved g c =
-    let (place, i, walk) = c.loop-done.invariant in let w = c.loop-done.cpus in let source = c.args.source in
+    let (position, i, walk) = c.loop-done.invariant in let w = c.loop-done.cpus in let source = c.args.source in
     let there = subst (λ n. source < n) (sym i.there) c.requires.there in
     let (cpu, at) = get_some w.cpus source there in
     let l = length_is c.args.cpus.now source c.cpu.result.now c.cpu.ensures in let len = c.len-done-end.ensures in
     let low = c.loop-done-test.true in
-    let here = low_too (ids_on source w) (ids_on source c.args.cpus.now) place c.loop-done._done i.rest
+    let here = low_too (ids_on source w) (ids_on source c.args.cpus.now) position c.loop-done._done i.rest
     (omega (arith, l, len, low)) in
-    let spot = next_spot w source c.cpu-in-loop-done.result.now c.cpu-in-loop-done.ensures c.loop-done.passed place walk here
+    let spot = next_spot w source c.cpu-in-loop-done.result.now c.cpu-in-loop-done.ensures c.loop-done.passed position walk here
     c.in-Some.id c.in-Some.ensures.some in
     let (turn, visits, counts) = c.visit.ensures.did in
-    walked_more g.R.Raise source c.args.cpus.now c.args.records.now c.loop-done._done place
+    walked_more g.R.Raise source c.args.cpus.now c.args.records.now c.loop-done._done position
     c.loop-done.report c.visit.new.report
     w c.visit.new.cpus c.loop-done.records c.visit.new.records i c.law-in-loop-done-2.ensures.rising
     (rise_on g.R.Raise.view w source cpu at (c.law-in-loop-done.ensures source cpu at)) there c.visit.ensures.agrees
@@ -73,18 +73,18 @@ loop-done-preserved g c =
 
 pub returns-clause-did : goal.returns-clause-did
 returns-clause-did g c =
-    let (place, i, walk) = c.loop-done.invariant in
+    let (position, i, walk) = c.loop-done.invariant in
     let l = length_is c.args.cpus.now c.args.source c.cpu.result.now c.cpu.ensures in let len = c.len-done-end.ensures in
     let done = c.loop-done-test.false in
-    walked_all g.R.Raise c.args.source c.args.cpus.now c.args.records.now c.loop-done._done place
+    walked_all g.R.Raise c.args.source c.args.cpus.now c.args.records.now c.loop-done._done position
     c.loop-done.report c.loop-done.cpus c.loop-done.records i (omega (arith, l, len, done))
 
 pub returns-clause-left : goal.returns-clause-left
 returns-clause-left g c =
-    let (place, i, walk) = c.loop-done.invariant in
+    let (position, i, walk) = c.loop-done.invariant in
     let l = length_is c.args.cpus.now c.args.source c.cpu.result.now c.cpu.ensures in let len = c.len-done-end.ensures in
     let done = c.loop-done-test.false in
-    walked_left g.R.Raise c.args.source c.args.cpus.now c.args.records.now c.loop-done._done place
+    walked_left g.R.Raise c.args.source c.args.cpus.now c.args.records.now c.loop-done._done position
     c.loop-done.report c.loop-done.cpus c.loop-done.records i (omega (arith, l, len, done))
 
 pub returns-clause-few : goal.returns-clause-few

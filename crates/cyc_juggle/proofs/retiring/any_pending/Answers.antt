@@ -38,20 +38,20 @@ returns-then-ne-clause-some g c records last =
 pub loop-position-preserved : goal.loop-position-preserved
 loop-position-preserved g c =
     let i = c.loop-position.invariant in let w = c.loop-position.cpus in let source = c.args.source in let v = c.args.cpus.now in
-    let x = c.cpu_mut.result.now in let id = c.in-Some.id in let place = c.loop-position._position in
+    let x = c.cpu_mut.result.now in let id = c.in-Some.id in let position = c.loop-position._position in
     let first = length_is v source c.cpu.result.now c.cpu.ensures in
     let same = ap length (i.asked.same.ids source) in let len = c.len-position-end.ensures in let less =
     c.loop-position-test.true in
-    let low : place < length (ids_on source w) = omega (arith, first, same, len, less) in
-    let spot = next_spot w source c.cpu-in-loop-position.result.now c.cpu-in-loop-position.ensures c.loop-position.passed place
+    let low : position < length (ids_on source w) = omega (arith, first, same, len, less) in
+    let spot = next_spot w source c.cpu-in-loop-position.result.now c.cpu-in-loop-position.ensures c.loop-position.passed position
     i.walk low id c.in-Some.ensures.some in
-    let more = asked_more g.R.Raise source v place id w x c.pending.new.self i.asked spot c.cpu_mut.ensures.cpu
+    let more = asked_more g.R.Raise source v position id w x c.pending.new.self i.asked spot c.cpu_mut.ensures.cpu
     (found_none g.R.Raise id x c.pending.new.self c.pending.result (sym c.ne.ensures ∙ c.if-ne.false) c.pending.ensures) in
     record {
       asked = more;
-      walk = subst (λ ids. WalksOver ids (Some id) (place + 1)) (sym (more.same.ids source))
-          (walks_past (ids_on source v) c.loop-position.passed place id
+      walk = subst (λ ids. WalksOver ids (Some id) (position + 1)) (sym (more.same.ids source))
+          (walks_past (ids_on source v) c.loop-position.passed position id
           (rise_on g.R.Raise.view v source c.cpu.result.now c.cpu.ensures (c.law.ensures source c.cpu.result.now c.cpu.ensures))
-          (ap (λ ids. slice_get ids place) (sym (i.asked.same.ids source)) ∙ spot)
-          (subst (λ ids. WalksOver ids c.loop-position.passed place) (i.asked.same.ids source) i.walk));
+          (ap (λ ids. slice_get ids position) (sym (i.asked.same.ids source)) ∙ spot)
+          (subst (λ ids. WalksOver ids c.loop-position.passed position) (i.asked.same.ids source) i.walk));
     }

@@ -12,11 +12,11 @@ returns-then-bound-clause-did g c last =
     let s = system_of c.args.cpus.now c.args.records.now first in
     let (named, known) = record_read c.args.id k q c.args.records.now.list c.law.ensures.rising c.in-Some.ensures.some
     c.at.ensures in
-    let place = home_of s c.args.source c.args.id k c.in-On.cpu c.in-On.bound q a c.law.ensures.rising c.at.ensures named
+    let placement = home_of s c.args.source c.args.id k c.in-On.cpu c.in-On.bound q a c.law.ensures.rising c.at.ensures named
     c.requires.here c.in-On.is in (
       omni_is s c.args.id k q c.law.ensures.rising c.at.ensures named
-          ∙ ap is_everywhere place,
-      ((k, q, c.at.ensures, named, place ∙ ap (λ b. On c.args.source b) c.if-bound.true), refl),
+          ∙ ap is_everywhere placement,
+      ((k, q, c.at.ensures, named, placement ∙ ap (λ b. On c.args.source b) c.if-bound.true), refl),
     )
 
 pub returns-else-bound-clause-did : goal.returns-else-bound-clause-did

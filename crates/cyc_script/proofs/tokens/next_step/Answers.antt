@@ -48,10 +48,10 @@ returns-in-Err c =
     let has = c.in_ok-step_parts.ensures.value in
     let fails : Fails cause.Memory c.in-Err.cause (step_of before (step_data c.step_parts.new.parts.items)) =
     rw (← c.as_slice.ensures.value) c.in-Err.ensures.reads in
-    let place : c.len-number.result ≡ length steps = grind arith in
+    let position : c.len-number.result ≡ length steps = grind arith in
     let some : length steps < most_steps = grind arith in
-    let at = c.at.ensures ∙ ap (λ k. refusal_of_step (k + 1) c.in-Err.cause) place in
-    let left : most_steps - (c.len-number.result + 1) ≡ most_steps - (length steps + 1) = omega (arith, place) in
+    let at = c.at.ensures ∙ ap (λ k. refusal_of_step (k + 1) c.in-Err.cause) position in
+    let left : most_steps - (c.len-number.result + 1) ≡ most_steps - (length steps + 1) = omega (arith, position) in
     record {
       value = fault_refused steps before has.0 c.args.reader.now c.step_parts.new.reader c.requires.going has.1 some _ left
           c.in-Err.cause c.at.result at (subst (Fails cause.Memory c.in-Err.cause) (has.2 before) fails) _ _

@@ -9,8 +9,8 @@ invariant-loop-hard g l = record {
   all : l.yielded ++ into_iter_items l.hard-iterator ≡ l.fn.hards.items;
   many : into_iter_len l.hard-iterator ≡ length (into_iter_items l.hard-iterator);
   many_leads : into_iter_len l.rest ≡ length (into_iter_items l.rest);
-  places : vec_len l.lanes + into_iter_len l.hard-iterator ≡ length l.online;
-  places_leads : vec_len l.lanes + into_iter_len l.rest ≡ length l.online;
+  positions : vec_len l.lanes + into_iter_len l.hard-iterator ≡ length l.online;
+  positions_leads : vec_len l.lanes + into_iter_len l.rest ≡ length l.online;
   room : length l.online ≤ vec_capacity l.lanes;
   hards : map (λ (x : Lane _ _). x.hard) l.lanes.items ≡ l.yielded;
   leads : map (λ (x : Lane _ _). x.lead) l.lanes.items ++ into_iter_items l.rest ≡ l.fn.leads.items;

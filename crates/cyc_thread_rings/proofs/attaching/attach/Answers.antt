@@ -8,7 +8,7 @@ use Rattle.cyc_thread_rings.proofs.Each.{each_at, each_low, each_long, each_of_m
 use Rattle.cyc_thread_rings.proofs.Each.{taken_none}
 use Rattle.cyc_thread_rings.proofs.attaching.attach.Goals as goal
 
--- the seats of the next CPU are those of the rings at its place
+-- the seats of the next CPU are those of the rings at its position
 seated_from : {C : Type 0} (rings : List (Levels Ring)) (all done rest rest' : List (Seated C)) (x : Seated C)
     → EachTwo AreSeated rings (map (λ (s : Seated C). s.seats) all) →
     done ++ rest ≡ all → rest ≡ x ∷ rest' → EachTwo (λ r (s : Seated C). AreSeated r s.seats) rings (done ++ x ∷ rest')
@@ -22,8 +22,8 @@ unreachable-requires g c =
     c.loop-seated.invariant.all c.in-Some.ensures.steps.0 in
     let low = each_low (λ r (s : Seated _). AreSeated r s.seats) c.args.rings.now c.loop-seated.yielded _ c.in-Some.seated each in
     let long = each_long IsAttached c.loop-seated.yielded c.loop-seated.attached.items c.loop-seated.invariant.done in
-    let place = c.len-position.ensures in let far = c.if-position-rings.true in let ok = c.loop-seated.attached.ok.0 in
-    omega (arith, low, long, place, far, ok)
+    let position = c.len-position.ensures in let far = c.if-position-rings.true in let ok = c.loop-seated.attached.ok.0 in
+    omega (arith, low, long, position, far, ok)
 
 pub attach_one-requires : goal.attach_one-requires
 attach_one-requires g c =

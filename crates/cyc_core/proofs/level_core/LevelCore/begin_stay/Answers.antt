@@ -53,21 +53,21 @@ invariant_of-self c =
     let position = c.free_position-position.result in
     let to = c.free_position-position.ensures in
     let more = c.free_position-position.new.kept.items in
-    let place = c.number.result in
+    let number = c.number.result in
     let at = c.number.ensures.value in
     let entry : Entry = record { id = c.args.id; index = position } in
     let new : Kept = record { id = c.args.id; sent = 0; lost = 0; count = 0; index = c.args.index; here = true } in
     let absent = absent_index kept entries c.args.id may.2 in
     let free = sym (ap kept_id (to.same position)) ∙ first_free _ _ position to.free in
-    let within = taken_low _ _ position place at to.free in
+    let within = taken_low _ _ position number at to.free in
     let made = level_admit (shown_core a) _ c.args.id c.args.index (read_as c.args.id position new)
-    (finds_admitted kept more entries c.insert.new.self.entries sound to.same c.args.id position place at new absent free
+    (finds_admitted kept more entries c.insert.new.self.entries sound to.same c.args.id position number at new absent free
     came.told within refl) refl in
     sound_by a _ (Admit c.args.id c.args.index) c.self.invariant may made
-    (admitted_kept kept more entries c.insert.new.self.entries sound to.same c.args.id position place at new absent free
+    (admitted_kept kept more entries c.insert.new.self.entries sound to.same c.args.id position number at new absent free
     came.told within refl
     (subst (Rises id_in) (sym is) (rises_inserted id_in entries c.args.id k gap sound.ordered entry refl)))
-    (taken_free more _ place position at new to.free refl within)
+    (taken_free more _ number position at new to.free refl within)
     (omega (arith, to.kept_room)) (omega (arith, to.free_room)) (omega (arith, came.room)) (omega arith) (omega arith)
 
 pub returns : goal.returns
@@ -81,12 +81,12 @@ returns c =
     let position = c.free_position-position.result in
     let to = c.free_position-position.ensures in
     let more = c.free_position-position.new.kept.items in
-    let place = c.number.result in
+    let number = c.number.result in
     let at = c.number.ensures.value in
     let new : Kept = record { id = c.args.id; sent = 0; lost = 0; count = 0; index = c.args.index; here = true } in
     let absent = absent_index kept entries c.args.id may.2 in
     let free = sym (ap kept_id (to.same position)) ∙ first_free _ _ position to.free in
-    let within = taken_low _ _ position place at to.free in
+    let within = taken_low _ _ position number at to.free in
     rw (← c.self.view_is) (level_admit (shown_core a) _ c.args.id c.args.index (read_as c.args.id position new)
-    (finds_admitted kept more entries c.insert.new.self.entries sound to.same c.args.id position place at new absent free
+    (finds_admitted kept more entries c.insert.new.self.entries sound to.same c.args.id position number at new absent free
     came.told within refl) refl)

@@ -10,8 +10,8 @@ not_true : (b : Bool) → not b ≡ true → b ≡ false
 not_true true h = absurd (let no : ⊥ = cc in no)
 not_true false h = refl
 
-pub returns-then-from-places : goal.returns-then-from-places
-returns-then-from-places c =
+pub returns-then-from-slots : goal.returns-then-from-slots
+returns-then-from-slots c =
     let l = level_of c.args.self.now in
     let a = c.self.inside in
     let sound = c.self.invariant.cyclics_kept in

@@ -37,7 +37,7 @@ expand-requires-then-needed-size g c =
 
 pub invariant_of-self : goal.invariant_of-self
 invariant_of-self g c =
-    let i = c.self.inside in let b = c.least_bank-bank.ensures in let p = c.places_of.ensures in
+    let i = c.self.inside in let b = c.least_bank-bank.ensures in let p = c.slots_of.ensures in
     let e = ap (λ (x : TableView). x.size) c.widen.ensures in
     let is : c.widen.new.self.size ≡ 2 ^ c.least_bank-bank.result = omega (arith, e, b, p) in
     subst (λ xs. IsHard g.R.Raise.view c.widen.new.self.size i.most i.removal (lock_and_low c.expand.new.self
@@ -52,14 +52,14 @@ widen-requires g c =
     let i = c.self.inside in let v = c.self.view_is in let now = c.args.self.now in
     let l = ap (λ (x : CpuView _). length x.cyclics) v in let m = length-map i.table.rows cyclic_of in
     let z = ap (λ (x : CpuView _). x.size) v in let r = ap (λ (x : CpuView _). x.room) v in
-    let b = c.least_bank-bank.ensures in let p = c.places_of.ensures in let few = b.few in
+    let b = c.least_bank-bank.ensures in let p = c.slots_of.ensures in let few = b.few in
     let same : c.len.result + c.args.more ≡ length now.cyclics + c.args.more = omega (arith, l, m) in
     let grows : now.size < length now.cyclics + c.args.more = omega (arith, l, m, z) in
     let bank = b.least ∙ ap bank_for same in
     let is = p ∙ ap (λ k. 2 ^ k) bank ∙ sym (size_grows now.size _ (bank_for (length now.cyclics + c.args.more)) grows) in
     record {
       few = subst (λ k. k ≤ _) (sym p) few;
-      reserved = subst (λ k. c.places_of.result ≤ k) (sym r) (subst (λ k. k ≤ now.room) (sym is) c.requires.reserved);
+      reserved = subst (λ k. c.slots_of.result ≤ k) (sym r) (subst (λ k. k ≤ now.room) (sym is) c.requires.reserved);
     }
 
 pub returns-then-needed-size : goal.returns-then-needed-size
@@ -67,7 +67,7 @@ returns-then-needed-size g c =
     let i = c.self.inside in let v = c.self.view_is in let now = c.args.self.now in
     let l = ap (λ (x : CpuView _). length x.cyclics) v in let m = length-map i.table.rows cyclic_of in
     let z = ap (λ (x : CpuView _). x.size) v in
-    let b = c.least_bank-bank.ensures in let p = c.places_of.ensures in let enough = b.enough in
+    let b = c.least_bank-bank.ensures in let p = c.slots_of.ensures in let enough = b.enough in
     let same : c.len.result + c.args.more ≡ length now.cyclics + c.args.more = omega (arith, l, m) in
     let grows : now.size < length now.cyclics + c.args.more = omega (arith, l, m, z) in
     let bank = b.least ∙ ap bank_for same in

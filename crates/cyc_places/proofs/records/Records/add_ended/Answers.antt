@@ -5,7 +5,7 @@ use Rattle.std.proofs.lemmas.Option.{same_Some}
 use Rattle.cyc_types.specs.Counting.{no_counts}
 use Rattle.cyc_places.specs.declared.record.Record.{Record}
 use Rattle.cyc_places.specs.Places.{RecordsView, IsRecord, AreCounts, with_ended, ended_on, summed}
-use Rattle.cyc_places.proofs.Edits.{value, at_place, counts_set, box_rises, box_counts, box_all, box_ids}
+use Rattle.cyc_places.proofs.Edits.{value, at_position, counts_set, box_rises, box_counts, box_all, box_ids}
 use Rattle.cyc_places.proofs.records.Records.add_ended.Goals as goal
 
 pub invariant_of-self : goal.invariant_of-self
@@ -13,7 +13,7 @@ invariant_of-self c =
     let kept = c.self.inside.list.items in let x = c.index_mut-record.result.now in let d = c.deref_mut.result.now in
     let e = c.deref_mut.ensures.value in
     let low = subst (λ (v : RecordsView). c.args.position < length v.list) (sym c.self.view_is) c.requires.here in
-    let at = at_place kept c.args.position x low c.index_mut-record.ensures.value in
+    let at = at_position kept c.args.position x low c.index_mut-record.ensures.value in
     let g = c.deref.ensures in
     let more = summed (ended_on c.args.cpu c.deref.result.now) c.args.counts in
     let y = with_value x (with_ended c.args.cpu more d) in
@@ -40,7 +40,7 @@ returns c r is =
     let kept = c.self.inside.list.items in let x = c.index_mut-record.result.now in let d = c.deref_mut.result.now in
     let e = c.deref_mut.ensures.value in
     let low = subst (λ (v : RecordsView). c.args.position < length v.list) (sym c.self.view_is) c.requires.here in
-    let at = at_place kept c.args.position x low c.index_mut-record.ensures.value in
+    let at = at_position kept c.args.position x low c.index_mut-record.ensures.value in
     let here = subst (λ (v : RecordsView). IsRecord v.list c.args.position r) (sym c.self.view_is) is in
     let was : x.value ≡ r = same_Some x.value r (sym at ∙ here) in
     let more = λ (q : Record). summed (ended_on c.args.cpu q) c.args.counts in

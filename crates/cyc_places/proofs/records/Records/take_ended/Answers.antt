@@ -5,7 +5,7 @@ use Rattle.std.proofs.lemmas.Option.{same_Some}
 use Rattle.cyc_types.specs.Counting.{no_counts}
 use Rattle.cyc_places.specs.declared.record.Record.{Record}
 use Rattle.cyc_places.specs.Places.{RecordsView, IsRecord, AreCounts, with_ended, ended_on}
-use Rattle.cyc_places.proofs.Edits.{value, at_place, counts_set, box_rises, box_counts, box_all, box_ids}
+use Rattle.cyc_places.proofs.Edits.{value, at_position, counts_set, box_rises, box_counts, box_all, box_ids}
 use Rattle.cyc_places.proofs.records.Records.take_ended.Goals as goal
 
 pub invariant_of-self : goal.invariant_of-self
@@ -13,7 +13,7 @@ invariant_of-self c =
     let kept = c.self.inside.list.items in let x = c.index_mut-record.result.now in let d = c.deref_mut.result.now in
     let e = c.deref_mut.ensures.value in
     let low = subst (λ (v : RecordsView). c.args.position < length v.list) (sym c.self.view_is) c.requires.here in
-    let at = at_place kept c.args.position x low c.index_mut-record.ensures.value in
+    let at = at_position kept c.args.position x low c.index_mut-record.ensures.value in
     let y = with_value x (with_ended c.args.cpu no_counts d) in
     let same = ap (λ (r : Record). r.id) e in
     let fit = subst (λ (r : Record). AreCounts r.ended) (sym e) (c.self.invariant.1 c.args.position x.value at) in
@@ -30,7 +30,7 @@ pub returns-clause-counts : goal.returns-clause-counts
 returns-clause-counts c r is =
     let kept = c.self.inside.list.items in let x = c.index_mut-record.result.now in
     let low = subst (λ (v : RecordsView). c.args.position < length v.list) (sym c.self.view_is) c.requires.here in
-    let at = at_place kept c.args.position x low c.index_mut-record.ensures.value in
+    let at = at_position kept c.args.position x low c.index_mut-record.ensures.value in
     ap (ended_on c.args.cpu) (c.deref.ensures
     ∙ same_Some x.value r (sym at ∙ subst (λ (v : RecordsView). IsRecord v.list c.args.position r) (sym c.self.view_is) is))
 
@@ -39,7 +39,7 @@ returns-clause-list c r is =
     let kept = c.self.inside.list.items in let x = c.index_mut-record.result.now in let d = c.deref_mut.result.now in
     let e = c.deref_mut.ensures.value in
     let low = subst (λ (v : RecordsView). c.args.position < length v.list) (sym c.self.view_is) c.requires.here in
-    let at = at_place kept c.args.position x low c.index_mut-record.ensures.value in
+    let at = at_position kept c.args.position x low c.index_mut-record.ensures.value in
     let here = subst (λ (v : RecordsView). IsRecord v.list c.args.position r) (sym c.self.view_is) is in
     let it : d ≡ r = e ∙ same_Some x.value r (sym at ∙ here) in
     map-set value kept c.args.position (with_value x (with_ended c.args.cpu no_counts d))

@@ -7,7 +7,7 @@ use Rattle.cyc_heap.specs.Heap.{HeapView, IsEmptyHeap, IsLeast}
 use Rattle.cyc_finder.specs.Indexes.{Entry}
 use Rattle.cyc_timers.specs.declared.table.Record.{Record}
 use Rattle.cyc_timers.specs.Rows.{Row, TableView, IsRow, IsTable, IsFirstAt, rows_of, timers_of}
-use Rattle.cyc_timers.proofs.Tables.{no_place, rows_long, root_is}
+use Rattle.cyc_timers.proofs.Tables.{no_entry, rows_long, root_is}
 use Rattle.cyc_timers.proofs.Stepping.{all_later}
 use Rattle.cyc_timers.proofs.table.Table.due_root.Goals as goal
 
@@ -20,9 +20,9 @@ none_due h records entries t now (Some found) is = tt
 none_due h records entries t now None (inl empty) = λ k d low. absurd (
     let l = rows_long h.slots records entries in
     let low' : k < length entries = omega (arith, l, low) in
-    let (m, there) = t.named k no_place low' in
-    let no : Some (record { moment = m; id = (get_or entries k no_place).id }) ≡ None
-    = sym there ∙ empty (get_or entries k no_place).index in
+    let (m, there) = t.named k no_entry low' in
+    let no : Some (record { moment = m; id = (get_or entries k no_entry).id }) ≡ None
+    = sym there ∙ empty (get_or entries k no_entry).index in
     cc)
 none_due h records entries t now None (inr (i, e, least, later)) =
     let (k, r, row, _, moment, _, first) = root_is h records entries t (Some (i, e.moment, e.id)) least in

@@ -5,7 +5,7 @@ use Rattle.cyc_finder.specs.Sorted.{IsPassed, IsNextAfter}
 use Rattle.cyc_finder.specs.Indexes.{Entry, id_in}
 use Rattle.cyc_timers.specs.declared.table.Record.{Record}
 use Rattle.cyc_timers.specs.Rows.{Row, TableView, IsRow, IsTable, row_of, rows_of}
-use Rattle.cyc_timers.proofs.Tables.{no_place, is_row}
+use Rattle.cyc_timers.proofs.Tables.{no_entry, is_row}
 use Rattle.cyc_timers.proofs.Finding.{all_passed, next_row}
 use Rattle.cyc_timers.proofs.table.Table.next_after.Goals as goal
 
@@ -27,10 +27,10 @@ module _ (slots : List (Option Expiration)) (records : List Record) (entries : L
   after_some None some = tt
   after_some (Some found) (k, next, at) = (
     k,
-    row_of slots records (get_or entries k no_place),
+    row_of slots records (get_or entries k no_entry),
     is_row slots records entries k next.in_range,
-    ap id_in (at no_place),
-    ap (λ (p : Entry). p.index) (at no_place),
+    ap id_in (at no_entry),
+    ap (λ (p : Entry). p.index) (at no_entry),
     next_row slots records entries t passed k next,
   )
 
