@@ -171,7 +171,8 @@ const FAULTY_STEPS: [(&str, Option<Refusal>); 24] = [
         None,
     ),
     (
-        "[\"omni\",\"a\",\"high\",1,1,9],[\"bind\",\"a\",4294967295],[\"unbind\",\"a\"],[\"reprogram\",\"a\",1,15],[\"juggle\",16],[\"offline\",0],[\"online\",0]",
+        "[\"omni\",\"a\",\"high\",1,1,9],[\"bind\",\"a\",4294967295],[\"unbind\",\"a\"],[\"reprogram\",\"a\",1,15],\
+         [\"juggle\",16],[\"offline\",0],[\"online\",0]",
         None,
     ),
     (

@@ -26,7 +26,8 @@ static RUNS: [(&str, &str, &str); 21] = [
     ),
     (
         "the_cyclic_in_hand_is_not_put_in_again",
-        "{\"cpus\":1,\"steps\":[[\"add\",\"a\",\"low\",1,1],[\"advance\",2],[\"softint\",0,\"low\",1],[\"advance\",3],[\"softint\",0,\"low\",8]]}",
+        "{\"cpus\":1,\"steps\":[[\"add\",\"a\",\"low\",1,1],[\"advance\",2],[\"softint\",0,\"low\",1],[\"advance\",3],\
+         [\"softint\",0,\"low\",8]]}",
         "1 ok\n2 fired 2 lost 0\n3 ran 1 more\n4 fired 1 lost 0\n5 ran 2 idle\na expired 3 called 3 lost 0 pending 0\n",
     ),
     (
@@ -51,27 +52,35 @@ static RUNS: [(&str, &str, &str); 21] = [
     ),
     (
         "more_than_a_second_late_skips",
-        "{\"cpus\":1,\"steps\":[[\"add\",\"a\",\"high\",100000000,100000000],[\"advance\",1200000001],[\"advance\",1299999999],[\"advance\",1300000000]]}",
+        "{\"cpus\":1,\"steps\":[[\"add\",\"a\",\"high\",100000000,100000000],[\"advance\",1200000001],[\"advance\",1299999999],\
+         [\"advance\",1300000000]]}",
         "1 ok\n2 fired 1 lost 0\n3 fired 0 lost 0\n4 fired 1 lost 0\na expired 2 called 2 lost 0 pending 0\n",
     ),
     (
         "a_one_shot_is_reprogrammed",
-        "{\"cpus\":1,\"steps\":[[\"add\",\"a\",\"high\",7,9223372036854775807],[\"advance\",100],[\"reprogram\",\"a\",150],[\"advance\",150],[\"reprogram\",\"a\",9223372036854775807],[\"advance\",9223372036854775806]]}",
+        "{\"cpus\":1,\"steps\":[[\"add\",\"a\",\"high\",7,9223372036854775807],[\"advance\",100],[\"reprogram\",\"a\",150],\
+         [\"advance\",150],[\"reprogram\",\"a\",9223372036854775807],[\"advance\",9223372036854775806]]}",
         "1 ok\n2 fired 1 lost 0\n3 ok\n4 fired 1 lost 0\n5 ok\n6 fired 0 lost 0\na expired 2 called 2 lost 0 pending 0\n",
     ),
     (
         "the_old_bank_is_drained_first",
-        "{\"cpus\":1,\"steps\":[[\"add\",\"a\",\"low\",1,10],[\"advance\",1],[\"add\",\"b\",\"low\",2,10],[\"advance\",2],[\"softint\",0,\"low\",1]]}",
-        "1 ok\n2 fired 1 lost 0\n3 ok\n4 fired 1 lost 0\n5 ran 1 more\na expired 1 called 1 lost 0 pending 0\nb expired 1 called 0 lost 0 pending 1\n",
+        "{\"cpus\":1,\"steps\":[[\"add\",\"a\",\"low\",1,10],[\"advance\",1],[\"add\",\"b\",\"low\",2,10],[\"advance\",2],\
+         [\"softint\",0,\"low\",1]]}",
+        "1 ok\n2 fired 1 lost 0\n3 ok\n4 fired 1 lost 0\n5 ran 1 more\na expired 1 called 1 lost 0 pending 0\n\
+         b expired 1 called 0 lost 0 pending 1\n",
     ),
     (
         "both_levels_must_follow",
-        "{\"cpus\":1,\"steps\":[[\"add\",\"a\",\"low\",1,10],[\"add\",\"b\",\"low\",2,10],[\"add\",\"c\",\"low\",3,10],[\"softint\",0,\"low\",8],[\"add\",\"d\",\"low\",3,10],[\"softint\",0,\"lock\",8],[\"add\",\"e\",\"low\",3,10]]}",
-        "1 ok\n2 ok\n3 refused 6\n4 ran 0 idle\n5 refused 6\n6 ran 0 idle\n7 ok\na expired 0 called 0 lost 0 pending 0\nb expired 0 called 0 lost 0 pending 0\nc expired 0 called 0 lost 0 pending 0\nd expired 0 called 0 lost 0 pending 0\ne expired 0 called 0 lost 0 pending 0\n",
+        "{\"cpus\":1,\"steps\":[[\"add\",\"a\",\"low\",1,10],[\"add\",\"b\",\"low\",2,10],[\"add\",\"c\",\"low\",3,10],\
+         [\"softint\",0,\"low\",8],[\"add\",\"d\",\"low\",3,10],[\"softint\",0,\"lock\",8],[\"add\",\"e\",\"low\",3,10]]}",
+        "1 ok\n2 ok\n3 refused 6\n4 ran 0 idle\n5 refused 6\n6 ran 0 idle\n7 ok\na expired 0 called 0 lost 0 pending 0\n\
+         b expired 0 called 0 lost 0 pending 0\nc expired 0 called 0 lost 0 pending 0\nd expired 0 called 0 lost 0 pending 0\n\
+         e expired 0 called 0 lost 0 pending 0\n",
     ),
     (
         "the_last_moment_is_never",
-        "{\"cpus\":1,\"steps\":[[\"add\",\"a\",\"high\",9223372036854775800,10],[\"advance\",9223372036854775806],[\"advance\",9223372036854775806]]}",
+        "{\"cpus\":1,\"steps\":[[\"add\",\"a\",\"high\",9223372036854775800,10],[\"advance\",9223372036854775806],\
+         [\"advance\",9223372036854775806]]}",
         "1 ok\n2 fired 1 lost 0\n3 fired 0 lost 0\na expired 1 called 1 lost 0 pending 0\n",
     ),
     (
@@ -81,8 +90,11 @@ static RUNS: [(&str, &str, &str); 21] = [
     ),
     (
         "each_level_has_its_own_buffer",
-        "{\"cpus\":1,\"steps\":[[\"add\",\"a\",\"lock\",1,10],[\"softint\",0,\"low\",8],[\"softint\",0,\"lock\",8],[\"add\",\"b\",\"low\",1,10],[\"softint\",0,\"low\",8],[\"softint\",0,\"lock\",8],[\"advance\",1],[\"softint\",0,\"lock\",8],[\"softint\",0,\"low\",8]]}",
-        "1 ok\n2 ran 0 idle\n3 ran 0 idle\n4 ok\n5 ran 0 idle\n6 ran 0 idle\n7 fired 2 lost 0\n8 ran 1 idle\n9 ran 1 idle\na expired 1 called 1 lost 0 pending 0\nb expired 1 called 1 lost 0 pending 0\n",
+        "{\"cpus\":1,\"steps\":[[\"add\",\"a\",\"lock\",1,10],[\"softint\",0,\"low\",8],[\"softint\",0,\"lock\",8],\
+         [\"add\",\"b\",\"low\",1,10],[\"softint\",0,\"low\",8],[\"softint\",0,\"lock\",8],[\"advance\",1],\
+         [\"softint\",0,\"lock\",8],[\"softint\",0,\"low\",8]]}",
+        "1 ok\n2 ran 0 idle\n3 ran 0 idle\n4 ok\n5 ran 0 idle\n6 ran 0 idle\n7 fired 2 lost 0\n8 ran 1 idle\n9 ran 1 idle\n\
+         a expired 1 called 1 lost 0 pending 0\nb expired 1 called 1 lost 0 pending 0\n",
     ),
     (
         "a_soft_interrupt_needs_its_cpu",
@@ -96,12 +108,14 @@ static RUNS: [(&str, &str, &str); 21] = [
     ),
     (
         "one_fire_after_a_resume_makes_all_that_is_due",
-        "{\"cpus\":1,\"steps\":[[\"add\",\"a\",\"high\",10,10],[\"suspend\"],[\"advance\",35],[\"suspend\"],[\"resume\"],[\"resume\"],[\"advance\",36]]}",
+        "{\"cpus\":1,\"steps\":[[\"add\",\"a\",\"high\",10,10],[\"suspend\"],[\"advance\",35],[\"suspend\"],[\"resume\"],\
+         [\"resume\"],[\"advance\",36]]}",
         "1 ok\n2 ok\n3 refused 25\n4 refused 25\n5 ok\n6 refused 26\n7 fired 3 lost 0\na expired 3 called 3 lost 0 pending 0\n",
     ),
     (
         "a_fire_after_a_resume_may_skip",
-        "{\"cpus\":1,\"steps\":[[\"add\",\"a\",\"high\",100000000,100000000],[\"suspend\"],[\"advance\",1200000001],[\"resume\"],[\"advance\",1200000001]]}",
+        "{\"cpus\":1,\"steps\":[[\"add\",\"a\",\"high\",100000000,100000000],[\"suspend\"],[\"advance\",1200000001],\
+         [\"resume\"],[\"advance\",1200000001]]}",
         "1 ok\n2 ok\n3 refused 25\n4 ok\n5 fired 1 lost 0\na expired 1 called 1 lost 0 pending 0\n",
     ),
     (
@@ -111,7 +125,8 @@ static RUNS: [(&str, &str, &str); 21] = [
     ),
     (
         "calls_are_made_while_suspended",
-        "{\"cpus\":1,\"steps\":[[\"add\",\"a\",\"low\",10,10],[\"advance\",10],[\"suspend\"],[\"softint\",0,\"low\",8],[\"remove\",\"a\"]]}",
+        "{\"cpus\":1,\"steps\":[[\"add\",\"a\",\"low\",10,10],[\"advance\",10],[\"suspend\"],[\"softint\",0,\"low\",8],\
+         [\"remove\",\"a\"]]}",
         "1 ok\n2 fired 1 lost 0\n3 ok\n4 ran 1 idle\n5 removed a 1\na expired 1 called 1 lost 0 pending 0\n",
     ),
 ];
@@ -252,7 +267,8 @@ fn a_cpu_holds_4096_cyclics_and_another_after_a_removal(rt: HostRuntime) {
         ),
         // while a removal is open it is full too, and that is named first
         (
-            "[\"reprogram\",\"c0\",0],[\"advance\",0],[\"remove\",\"c0\"],[\"add\",\"c4096\",\"low\",1,1],[\"softint\",0,\"low\",8]",
+            "[\"reprogram\",\"c0\",0],[\"advance\",0],[\"remove\",\"c0\"],[\"add\",\"c4096\",\"low\",1,1],\
+             [\"softint\",0,\"low\",8]",
             "4119 ok\n4120 fired 1 lost 0\n4121 kept 1\n4122 refused 5\n4123 ran 1 idle\n4123 removed c0 1\n",
             1,
         ),

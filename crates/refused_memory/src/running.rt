@@ -13,10 +13,12 @@ use std::thread::Threads;
 
 /// Four CPUs, a cyclic of each level, and an omnipresent one.
 const SCRIPT: &str =
-    "{\"cpus\":4,\"steps\":[[\"add\",\"a\",\"high\",10,10],[\"add\",\"b\",\"lock\",5,10],[\"add\",\"c\",\"low\",0,7],[\"omni\",\"o\",\"low\",10,10,1],[\"advance\",100],[\"remove\",\"b\"],[\"juggle\",0],[\"advance\",200]]}";
+    "{\"cpus\":4,\"steps\":[[\"add\",\"a\",\"high\",10,10],[\"add\",\"b\",\"lock\",5,10],[\"add\",\"c\",\"low\",0,7],\
+     [\"omni\",\"o\",\"low\",10,10,1],[\"advance\",100],[\"remove\",\"b\"],[\"juggle\",0],[\"advance\",200]]}";
 
 const TEXT: &str =
-    "a expired 20 called 20 lost 0 pending 0\nb expired 10 called 10 lost 0 pending 0\nc expired 28 called 28 lost 0 pending 0\no expired 77 called 77 lost 0 pending 0\n";
+    "a expired 20 called 20 lost 0 pending 0\nb expired 10 called 10 lost 0 pending 0\n\
+     c expired 28 called 28 lost 0 pending 0\no expired 77 called 77 lost 0 pending 0\n";
 
 /// Handlers for the workers of each CPU.
 fn handlers(alloc: Global, script: &Script) -> Result<Vec<Tally>, Refusal>

@@ -12,7 +12,8 @@ use std::alloc::Global;
 
 /// Two CPUs: a cyclic that moves keeps the moments of its series.
 const SCRIPT: &str =
-    "{\"cpus\":2,\"steps\":[[\"add\",\"a\",\"low\",10,10],[\"advance\",10],[\"juggle\",0],[\"softint\",0,\"low\",8],[\"juggle\",0],[\"advance\",20],[\"softint\",1,\"low\",8]]}";
+    "{\"cpus\":2,\"steps\":[[\"add\",\"a\",\"low\",10,10],[\"advance\",10],[\"juggle\",0],[\"softint\",0,\"low\",8],\
+     [\"juggle\",0],[\"advance\",20],[\"softint\",1,\"low\",8]]}";
 
 /// Scripts whose keys stand otherwise, and one whose last step is none, each with how many steps are read, or why none are.
 pub(crate) const CEILING_BEHIND: (&str, Result<usize, Refusal>) = (
@@ -31,7 +32,8 @@ pub(crate) const NULL_LAST: (&str, Result<usize, Refusal>) = (
 );
 
 const TEXT: &str =
-    "1 ok\n2 fired 1 lost 0\n3 moved 0 bound 0 pending 1 refused 0\n4 ran 1 idle\n5 moved 1 bound 0 pending 0 refused 0\n6 fired 1 lost 0\n7 ran 1 idle\na expired 2 called 2 lost 0 pending 0\n";
+    "1 ok\n2 fired 1 lost 0\n3 moved 0 bound 0 pending 1 refused 0\n4 ran 1 idle\n5 moved 1 bound 0 pending 0 refused 0\n\
+     6 fired 1 lost 0\n7 ran 1 idle\na expired 2 called 2 lost 0 pending 0\n";
 
 /// A sink that compares what it is given with a text. It takes no memory.
 #[derive(Drop)]
