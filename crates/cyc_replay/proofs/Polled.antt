@@ -36,7 +36,7 @@ use Rattle.cyc_replay.proofs.Remembering.{SameNames, remembers_on, remembers_end
 use Rattle.cyc_replay.specs.Words.{Comes, TakesWord}
 use Rattle.cyc_replay.proofs.Doing.{word_done}
 use Rattle.cyc_replay.proofs.Named.{reached_good}
-use Rattle.cyc_replay.specs.Interrupting.{HasInterrupted, IsPolling}
+use Rattle.cyc_replay.specs.Interrupting.{HasInterrupted, polls_of, IsPolling}
 use Rattle.cyc_words.specs.declared.named.Named.{Named}
 use Rattle.cyc_words.specs.declared.named.Named.TheVariants.{Removed}
 use Rattle.cyc_words.specs.Names.{news, noted}
@@ -60,7 +60,7 @@ module _ (texts : List (List ℕ)) (step : ℕ) (i : SoftintStep) (s : State) wh
 
   -- before the first poll
   pub polling_begins : (made : Ran) (first m : Machine) → HasInterrupted step i made s first m
-      → HavePolled texts step [] [] (interrupt step i s).state m.system → IsPolling texts step [] [] i s m
+      → HavePolled texts step [] [] (interrupt step i s).state m.system → IsPolling texts step (polls_of [] []) i s m
   polling_begins made first m h polled = record {
     reached = h.reached;
     accepted = h.served.accepted;
@@ -70,7 +70,7 @@ module _ (texts : List (List ℕ)) (step : ℕ) (i : SoftintStep) (s : State) wh
   }
 
   -- one more
-  module _ (ids lines : List ℕ) (id : ℕ) (m : Machine) (p : IsPolling texts step ids lines i s m) where
+  module _ (ids lines : List ℕ) (id : ℕ) (m : Machine) (p : IsPolling texts step (polls_of ids lines) i s m) where
     good_now : Good (left ids)
     good_now = (well_polls texts step ids (interrupt step i s).state
         (well_interrupt step i s (reached_good step s p.reached) p.accepted).1).1
@@ -91,7 +91,7 @@ module _ (texts : List (List ℕ)) (step : ℕ) (i : SoftintStep) (s : State) wh
         (interrupt step i s).state n.system
         → Keeps (left ids) n.system → n.clock ≡ m.clock → n.tally ≡ m.tally → numbers_of n.names ≡ numbers_of m.names
         → Remembers (left (ids ++ id ∷ [])) n
-        → IsPolling texts step (ids ++ id ∷ []) (lines ++ polled_line step (text_of_id id texts s.names) answer) i s n
+        → IsPolling texts step (polls_of (ids ++ id ∷ []) (lines ++ polled_line step (text_of_id id texts s.names) answer)) i s n
     polling_next answer n next kept clock tally names remembers = record {
       reached = p.reached;
       accepted = p.accepted;
@@ -180,20 +180,22 @@ module _ (texts : List (List ℕ)) (step : ℕ) (i : SoftintStep) (s : State) wh
 
   -- where it answers not, and where it does
   pub answered_none : (ids lines : List ℕ) (id : ℕ) (answer : Option Receipt) (line : List ℕ) (n : Machine) → answer ≡ None
-      → IsPolling texts step (ids ++ id ∷ []) (lines ++ polled_line step (text_of_id id texts s.names) answer) i s n
-      → (more : List ℕ) × (line ≡ line ++ more) × IsPolling texts step (ids ++ id ∷ []) (lines ++ more) i s n
+      → IsPolling texts step (polls_of (ids ++ id ∷ []) (lines ++ polled_line step (text_of_id id texts s.names) answer)) i s n
+      → (more : List ℕ) × (line ≡ line ++ more) × IsPolling texts step (polls_of (ids ++ id ∷ []) (lines ++ more)) i s n
   answered_none ids lines id answer line n none p = (
     [],
     sym (append-nil line),
-    subst (λ o. IsPolling texts step (ids ++ id ∷ [])
-        (lines ++ polled_line step (text_of_id id texts s.names) o) i s n) none p,
+    subst (λ o. IsPolling texts step (polls_of (ids ++ id ∷ [])
+        (lines ++ polled_line step (text_of_id id texts s.names) o)) i s n)
+        none p,
   )
 
   pub answered_some : (ids lines : List ℕ) (id : ℕ) (receipt : Receipt) (line after text : List ℕ) (calls : ℕ) (n : Machine)
-      → IsPolling texts step (ids ++ id ∷ []) (lines ++ polled_line step (text_of_id id texts s.names) (Some receipt)) i s n
+      → IsPolling texts step (polls_of (ids ++ id ∷ [])
+      (lines ++ polled_line step (text_of_id id texts s.names) (Some receipt))) i s n
       → ((t : State) → ShowsMachine t n → text ≡ text_of_id id texts t.names) → calls ≡ receipt.sent - receipt.lost
       → after ≡ line ++ removed step text calls
-      → (more : List ℕ) × (after ≡ line ++ more) × IsPolling texts step (ids ++ id ∷ []) (lines ++ more) i s n
+      → (more : List ℕ) × (after ≡ line ++ more) × IsPolling texts step (polls_of (ids ++ id ∷ []) (lines ++ more)) i s n
   answered_some ids lines id receipt line after text calls n p is told same =
       let text_is : text ≡ text_of_id id texts s.names = is (left (ids ++ id ∷ [])) p.holds
       ∙ ap (text_of_id id texts) p.polled.names in (
@@ -203,7 +205,7 @@ module _ (texts : List (List ℕ)) (step : ℕ) (i : SoftintStep) (s : State) wh
       )
 
   -- the ids that are polled
-  module _ (m : Machine) (p : IsPolling texts step [] [] i s m) where
+  module _ (m : Machine) (p : IsPolling texts step (polls_of [] []) i s m) where
     good : Good (interrupt step i s).state
     good = (well_interrupt step i s (reached_good step s p.reached) p.accepted).1
 
@@ -227,17 +229,17 @@ module _ (texts : List (List ℕ)) (step : ℕ) (i : SoftintStep) (s : State) wh
         → ((j k : ℕ) → last < k → removal_on j m.system.cpus ≡ Some k → id ≤ k)
         → (begun line after : List ℕ) (before now : Machine)
         → ((lines : List ℕ) × (line ≡ begun ++ lines)
-        × IsPolling texts step (up_to last (leaving_ids (interrupt step i s).state)) lines i s before)
-        → ((ids lines : List ℕ) → IsPolling texts step ids lines i s before
-        → (more : List ℕ) × (after ≡ line ++ more) × IsPolling texts step (ids ++ id ∷ []) (lines ++ more) i s now)
+        × IsPolling texts step (polls_of (up_to last (leaving_ids (interrupt step i s).state)) lines) i s before)
+        → ((ids lines : List ℕ) → IsPolling texts step (polls_of ids lines) i s before
+        → (more : List ℕ) × (after ≡ line ++ more) × IsPolling texts step (polls_of (ids ++ id ∷ []) (lines ++ more)) i s now)
         → (lines : List ℕ) × (after ≡ begun ++ lines)
-        × IsPolling texts step (up_to id (leaving_ids (interrupt step i s).state)) lines i s now
+        × IsPolling texts step (polls_of (up_to id (leaving_ids (interrupt step i s).state)) lines) i s now
     polled_more last id n less is least begun line after before now (lines, same, so_far) next =
         let ids = up_to last (leaving_ids (interrupt step i s).state) in
         let (more, then_same, p_next) = next ids lines so_far in (
           lines ++ more,
           then_same ∙ ap (λ xs. xs ++ more) same ∙ append_assoc begun lines more,
-          subst (λ ks. IsPolling texts step ks (lines ++ more) i s now) (sym (one_on last id n less is least)) p_next,
+          subst (λ ks. IsPolling texts step (polls_of ks (lines ++ more)) i s now) (sym (one_on last id n less is least)) p_next,
         )
 
     pub all_last : (last : ℕ) → ((n k : ℕ) → last < k → removal_on n m.system.cpus ≡ Some k → ⊥)
@@ -250,7 +252,7 @@ module _ (texts : List (List ℕ)) (step : ℕ) (i : SoftintStep) (s : State) wh
 
   -- after the last
   pub softint_taken : (lines line : List ℕ) (made : Ran) (first second : RunningSystem TallyView Tables) (m : Machine)
-      → IsPolling texts step (leaving_ids (interrupt step i s).state) lines i s m
+      → IsPolling texts step (polls_of (leaving_ids (interrupt step i s).state) lines) i s m
       → IsInterrupted tally_count (record { texts = texts; step = step; asks = i; made = made; lines = lines }) s first second
       m.system
       → line ≡ ran step made.calls made.idle ++ lines → TakesWord texts step (Softint i) line s m

@@ -19,11 +19,17 @@ pub record HasInterrupted (step : ℕ) (i : SoftintStep) (made : Ran) (s : State
   pub served : IsServed tally_count i made s (running_system first.tally first.system) (running_system m.tally m.system)
   pub holds : ShowsMachine (interrupt step i s).state m
 
--- After the soft interrupt of this step, which s is before, the open removals of these ids were polled, in order, and these lines
--- were written: the machine is now as the definition's.
-pub record IsPolling (texts : List (List ℕ)) (step : ℕ) (ids lines : List ℕ) (i : SoftintStep) (s : State)
-    (m : Machine) : Type 0 where
+-- the ids of open removals that were polled, in order, and the lines that were written of them
+pub record PollsMade : Type 0 where
+  pub ids : List ℕ
+  pub lines : List ℕ
+
+abbrev pub polls_of : List ℕ → List ℕ → PollsMade
+polls_of ids lines = record { ids = ids; lines = lines }
+
+-- After the soft interrupt of this step, which s is before, these polls were made: the machine is now as the definition's.
+pub record IsPolling (texts : List (List ℕ)) (step : ℕ) (p : PollsMade) (i : SoftintStep) (s : State) (m : Machine) : Type 0 where
   pub reached : IsReached step s
   pub accepted : softint_refusal i s ≡ None
-  pub polled : HavePolled texts step ids lines (interrupt step i s).state m.system
-  pub holds : ShowsMachine (each (poll_id plain texts step) ids (interrupt step i s).state).state m
+  pub polled : HavePolled texts step p.ids p.lines (interrupt step i s).state m.system
+  pub holds : ShowsMachine (each (poll_id plain texts step) p.ids (interrupt step i s).state).state m

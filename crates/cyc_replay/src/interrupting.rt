@@ -18,7 +18,7 @@ ghost use Rattle.cyc_replay.specs.Words.{TakesWord};
 ghost use Rattle.cyc_cpu.specs.Soft.{raise_tables};
 ghost use Rattle.cyc_system.specs.Calls.{PollRemove};
 ghost use Rattle.cyc_words.specs.Doing.{DoesCall, word_state};
-ghost use Rattle.cyc_replay.specs.Interrupting.{HasInterrupted, IsPolling};
+ghost use Rattle.cyc_replay.specs.Interrupting.{HasInterrupted, polls_of, IsPolling};
 
 use crate::lines::{name_text, write_answer};
 use crate::machine::{Machine, id_in, name_of};
@@ -152,8 +152,9 @@ fn poll_named(
 fn poll_removal(machine: &mut Machine, id: CyclicId) -> Option<Receipt>
     requires open { (n : ℕ) × (removal_on n machine.old.system.cpus ≡ Some id) }
     ensures polls { (texts : List (List ℕ)) (step : ℕ) (ids lines : List ℕ) (i : SoftintStep) (s : State)
-        → IsPolling texts step ids lines i s machine.old
-        → IsPolling texts step (ids ++ id ∷ []) (lines ++ polled_line step (text_of_id id texts s.names) result) i s machine.new }
+        → IsPolling texts step (polls_of ids lines) i s machine.old
+        → IsPolling texts step (polls_of (ids ++ id ∷ []) (lines ++ polled_line step (text_of_id id texts s.names) result))
+        i s machine.new }
     ensures others { (n k : ℕ) → k ≢ id → (removal_on n machine.new.system.cpus ≡ Some k) ↔
         (removal_on n machine.old.system.cpus ≡ Some k) }
 {
@@ -181,9 +182,9 @@ fn poll_one(
 ) -> Result<(), AllocError>
     requires open { (n : ℕ) × (removal_on n machine.old.system.cpus ≡ Some id) }
     ensures polls { OnOk result ((ids lines : List ℕ) (i : SoftintStep) (s : State)
-        → IsPolling (map string_bytes names.now) step ids lines i s machine.old
+        → IsPolling (map string_bytes names.now) step (polls_of ids lines) i s machine.old
         → (more : List ℕ) × (string_bytes line.new ≡ string_bytes line.old ++ more)
-        × IsPolling (map string_bytes names.now) step (ids ++ id ∷ []) (lines ++ more) i s machine.new) }
+        × IsPolling (map string_bytes names.now) step (polls_of (ids ++ id ∷ []) (lines ++ more)) i s machine.new) }
     ensures others { (n k : ℕ) → k ≢ id → (removal_on n machine.new.system.cpus ≡ Some k) ↔
         (removal_on n machine.old.system.cpus ≡ Some k) }
 {
@@ -201,9 +202,10 @@ fn poll_all(
     line: &mut String,
     step: u32,
 ) -> Result<(), AllocError>
-    ensures polls { OnOk result ((i : SoftintStep) (s : State) → IsPolling (map string_bytes names.now) step [] [] i s machine.old
+    ensures polls { OnOk result ((i : SoftintStep) (s : State)
+        → IsPolling (map string_bytes names.now) step (polls_of [] []) i s machine.old
         → (lines : List ℕ) × (string_bytes line.new ≡ string_bytes line.old ++ lines)
-        × IsPolling (map string_bytes names.now) step (leaving_ids (interrupt step i s).state) lines i s machine.new) }
+        × IsPolling (map string_bytes names.now) step (polls_of (leaving_ids (interrupt step i s).state) lines) i s machine.new) }
 {
     let mut last: u64 = 0;
     while let Some(id) = next_open(&machine.system, last) {

@@ -1,6 +1,6 @@
 use Rattle.std.proofs.Common.{◌≡◌, ◌≢◌, ◌++◌, [], ◌<◌, ℕ, List, map, string_bytes, append-nil, sym, subst, arith}
 use Rattle.cyc_model.specs.Softint.{interrupt, leaving_ids}
-use Rattle.cyc_replay.specs.Interrupting.{IsPolling}
+use Rattle.cyc_replay.specs.Interrupting.{polls_of, IsPolling}
 use Rattle.cyc_replay.proofs.OpenRemovals.{up_to}
 use Rattle.cyc_replay.proofs.Polled.{none_first, polled_more, all_last}
 use Rattle.cyc_replay.proofs.interrupting.poll_all.Goals as goal
@@ -12,7 +12,7 @@ loop-id-init c =
       polling = λ i s p. (
         [],
         sym (append-nil (string_bytes c.args.line.now)),
-        subst (λ ids. IsPolling texts c.args.step ids [] i s m) (sym (none_first texts c.args.step i s m p)) p,
+        subst (λ ids. IsPolling texts c.args.step (polls_of ids []) i s m) (sym (none_first texts c.args.step i s m p)) p,
       );
       ahead = λ n k above. (λ h. h, λ h. h);
     }
@@ -24,7 +24,7 @@ loop-id-preserved c =
     let (less, (n, at), least) = next in
     record {
       polling = λ i s p. subst (λ k. (lines : List ℕ) × (string_bytes c.poll_one.new.line ≡ string_bytes c.args.line.now ++ lines)
-          × IsPolling texts c.args.step (up_to k (leaving_ids (interrupt c.args.step i s).state)) lines i s
+          × IsPolling texts c.args.step (polls_of (up_to k (leaving_ids (interrupt c.args.step i s).state)) lines) i s
           c.poll_one.new.machine) (sym value)
           (polled_more texts c.args.step i s m p l.last id n less ((inv.ahead n id less).0 at)
           (λ j k above is. least j k above ((inv.ahead j k above).1 is))
@@ -44,7 +44,7 @@ returns c = record {
       let (lines, same, so_far) = l.invariant.polling i s p in (
         lines,
         same,
-        subst (λ ids. IsPolling texts c.args.step ids lines i s l.machine)
+        subst (λ ids. IsPolling texts c.args.step (polls_of ids lines) i s l.machine)
             (all_last texts c.args.step i s m p l.last
             (λ n k above is. c.in_default.ensures.none n k above ((l.invariant.ahead n k above).1 is))) so_far,
       );
