@@ -1,9 +1,8 @@
 -- What the fields show after an edit, and that each event leaves a reached level.
-use Rattle.std.proofs.Common.{◌≡◌, ◌≢◌, ℕ, zero, suc, ◌<◌, ◌≤◌, eqb, cond, Bool, true, false, not, List, [], ◌∷◌, ◌++◌, length}
+use Rattle.std.proofs.Common.{◌≡◌, ◌≢◌, ℕ, zero, suc, ◌<◌, ◌≤◌, eqb, cond, Bool, true, false, List, [], ◌∷◌, ◌++◌, length}
 use Rattle.std.proofs.Common.{drop, Option, Some, None, IsSome, IsSomeAnd, refl, sym, ap, ◌∙◌, subst, arith}
 use Rattle.std.proofs.Common.{vec_capacity, option_to_list}
 use Rattle.std.specs.Prelude.{Result, Ok, Err, is_ok, OnOk}
-use Rattle.std.specs.Bool.{then_some}
 use Rattle.std.specs.Option.{option_map}
 use Rattle.std.specs.VecDeque.{deque_capacity}
 use Rattle.std.proofs.lemmas.Bool.Decides.{nat_tests}
@@ -89,16 +88,15 @@ cyclics_changed xs ys id o f found same = λ z q. (ap (option_map cyclic_of_entr
     by q true e = same ∙ ap (λ (k : ℕ). f (cyclics_of_table xs k)) (let is : id ≡ q = grind (arith, nat_tests) in is)
     by q false e = refl
 
-hand_expired : (n id : ℕ) (hand : Option ℕ) → hand ≡ None → then_some (eqb n 0) id ≡ hand_after_expire n id hand
-hand_expired zero id hand free = refl
-hand_expired (suc n) id hand free = let no : eqb (suc n) 0 ≡ false = grind (arith, nat_tests) in ap (λ b. then_some b id) no
-    ∙ sym free
+-- a hand that an Expire leaves as it is, and one that a Finish does
+pub hand_as_it_was : (n id : ℕ) (hand : Option ℕ) → n ≢ 0 → hand ≡ hand_after_expire n id hand
+hand_as_it_was zero id hand some = absurd (some refl)
+hand_as_it_was (suc n) id hand some = refl
 
-hand_finished : (n id : ℕ) → 0 < n → then_some (not (eqb n 1)) id ≡ hand_after_finish n (Some id)
-hand_finished zero id some = absurd (omega arith)
-hand_finished (suc zero) id some = refl
-hand_finished (suc (suc n)) id some = let no : eqb (suc (suc n)) 1 ≡ false = grind (arith, nat_tests) in
-    ap (λ b. then_some (not b) id) no
+pub hand_goes_on : (n : ℕ) (hand : Option ℕ) → 0 < n → n ≢ 1 → hand ≡ hand_after_finish n hand
+hand_goes_on zero hand some more = absurd (omega arith)
+hand_goes_on (suc zero) hand some more = absurd (more refl)
+hand_goes_on (suc (suc n)) hand some more = refl
 
 -- what holds of the cyclic holds of the entry
 pub found_fact : (t : Tables) (id : ℕ) (c : Admitted) → lookup id t.table ≡ Some c → (P : AdmittedCyclic → Type 0)
@@ -117,11 +115,11 @@ module _ (t : Tables) (ys : List Admitted) (id : ℕ) (c d : Admitted) (found : 
       (ap Some made ∙ sym (ap (λ (o : Option Admitted). option_map f (option_map cyclic_of_entry o)) found))
 
   pub level_expire : (hand : Option ℕ) → cyclic_of_entry d ≡ cyclic_after_expire (cyclic_of_entry c)
-      → hand ≡ then_some (eqb c.count 0) id
-      → t.firer_hand ≡ None → level_of (record t { table = ys; firer_hand = hand }) ≡ after (Expire id) (level_of t)
-  level_expire hand made is free =
+      → hand ≡ hand_after_expire c.count id t.firer_hand
+      → level_of (record t { table = ys; firer_hand = hand }) ≡ after (Expire id) (level_of t)
+  level_expire hand made is =
       let in_hand : hand ≡ hand_after_expire (count (level_of t) id) id t.firer_hand = is
-      ∙ hand_expired c.count id t.firer_hand free ∙ ap (λ (n : ℕ). hand_after_expire n id t.firer_hand) (sym found_count) in
+      ∙ ap (λ (n : ℕ). hand_after_expire n id t.firer_hand) (sym found_count) in
       let map = written cyclic_after_expire made in
       λ z. record (level_of t) { cyclics = map z; firer_hand = in_hand z }
 
@@ -130,10 +128,10 @@ module _ (t : Tables) (ys : List Admitted) (id : ℕ) (c d : Admitted) (found : 
   level_lose made = let map = written cyclic_after_lose made in λ z. record (level_of t) { cyclics = map z }
 
   pub level_finish : (hand : Option ℕ) → cyclic_of_entry d ≡ cyclic_after_finish (cyclic_of_entry c) → t.drainer_hand ≡ Some id
-      → 0 < c.count → hand ≡ then_some (not (eqb c.count 1)) id
+      → hand ≡ hand_after_finish c.count (Some id)
       → level_of (record t { table = ys; drainer_hand = hand }) ≡ after Finish (level_of t)
-  level_finish hand made holds some is =
-      let in_hand : hand ≡ hand_after_finish (count (level_of t) id) t.drainer_hand = is ∙ hand_finished c.count id some
+  level_finish hand made holds is =
+      let in_hand : hand ≡ hand_after_finish (count (level_of t) id) t.drainer_hand = is
       ∙ ap (λ (n : ℕ). hand_after_finish n (Some id)) (sym found_count)
       ∙ ap (hand_after_finish (count (level_of t) id)) (sym holds) in
       let map = written cyclic_after_finish made in

@@ -152,6 +152,11 @@ took_none l m (Stayed stays is) none = by (l.hard_bank == l.soft_bank) refl
     by false e = absurd (let none_old : l.old_list ≡ [] = sym (ap (λ (b : Bool). cond b l.new_list l.old_list) e) ∙ left_none in
         let same = equal_banks l.hard_bank l.soft_bank (stays none_old) in let wrong : ⊥ = cc in wrong)
 
+-- where the banks differ the soft side empties the old list
+pub old_listed : (l : SoftLevel) → l.hard_bank ≢ l.soft_bank → l.old_list ≢ [] → soft_list l ≢ []
+old_listed l apart some none =
+    some (sym (ap (λ (b : Bool). cond b l.new_list l.old_list) (unlike_banks l.hard_bank l.soft_bank apart)) ∙ none)
+
 -- a look that takes the first cyclic
 pub took_first : (l m n : SoftLevel) → Looked l m → l.drainer_hand ≡ None → soft_list m ≢ [] → n ≡ after Take m
     → FoldsTo Happens l (take_events l.old_list l.new_list (l.hard_bank == l.soft_bank)) n

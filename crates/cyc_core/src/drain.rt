@@ -26,7 +26,11 @@ impl Drain for LevelCore {
 
     #[inline(always)]
     fn take(&mut self) -> Option<CyclicId> {
-        if self.hard_bank != self.soft_bank && self.old_list.is_empty() {
+        if self.hard_bank != self.soft_bank {
+            if !self.old_list.is_empty() {
+                self.take_first();
+                return self.drainer_hand;
+            }
             self.follow();
         }
         if self.is_soft_list_empty() {

@@ -53,7 +53,9 @@ impl LevelCore {
         let kept = &mut self.kept[entry.position.number() as usize];
         kept.sent = entry.sent + 1;
         kept.count = entry.count + 1;
-        self.firer_hand = (entry.count == 0).then_some(entry.id);
+        if entry.count == 0 {
+            self.firer_hand = Some(entry.id);
+        }
     }
 
     pub(crate) fn lose(&mut self, entry: Admitted)
@@ -96,7 +98,9 @@ impl LevelCore {
     {
         let kept = &mut self.kept[entry.position.number() as usize];
         kept.count = entry.count - 1;
-        self.drainer_hand = (entry.count != 1).then_some(entry.id);
+        if entry.count == 1 {
+            self.drainer_hand = None;
+        }
     }
 
     pub(crate) fn begin_removal(&mut self, id: CyclicId)
@@ -140,8 +144,8 @@ impl LevelCore {
         if self.firer_hand.is_some() || self.find(id).is_some() {
             return false;
         }
-        let places: u32 = 1 << self.hard_bank;
-        u32::from(index.number()) < places && !is_index_kept(&self.kept, index)
+        let slots: u32 = 1 << self.hard_bank;
+        u32::from(index.number()) < slots && !is_index_kept(&self.kept, index)
     }
 
     fn may_expire(&self, id: CyclicId) -> bool
