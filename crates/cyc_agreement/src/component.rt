@@ -23,7 +23,7 @@ pub(crate) fn component_start(number: u32, start: Moment, skew: Moment) -> Momen
 
 /// The first expiration of the component on the CPU of this number, where it comes there at `now`. Only one whose own start is
 /// 0 is aligned to a multiple of the interval.
-pub(crate) fn component_first(
+pub fn component_first(
     number: u32,
     start: Moment,
     interval: Interval,

@@ -45,7 +45,7 @@ impl<R: Raise> System<R> {
     pub fn online(&mut self, cpu: u32, now: Moment) -> Result<(), Refusal>
         ensures { Changes R.Raise self.old (Online cpu now result) self.new }
     {
-        cyc_agreement::online(&mut self.cpus, &mut self.records, cpu, now)
+        cyc_juggle::online(&mut self.cpus, &mut self.records, cpu, now)
     }
 
     /// Moves the cyclics of a CPU to others (`cyclic_juggle`). By rising id, each that is not omnipresent is counted as bound;

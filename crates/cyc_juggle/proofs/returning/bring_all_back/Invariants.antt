@@ -1,5 +1,5 @@
 use Rattle.cyc_agreement.proofs.Bringing.{Bringing}
-use Rattle.cyc_agreement.proofs.returning.bring_all_back.Given as goal
+use Rattle.cyc_juggle.proofs.returning.bring_all_back.Given as goal
 
 abbrev pub invariant-loop-position : goal.invariant-loop-position
 invariant-loop-position g l =

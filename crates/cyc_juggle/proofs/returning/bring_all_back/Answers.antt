@@ -3,8 +3,8 @@ use Rattle.cyc_agreement.specs.Cpus.{CpusView}
 use Rattle.cyc_agreement.proofs.Spots.{get_some}
 use Rattle.cyc_agreement.proofs.Bringing.{Bringing, bringing_start, bringing_more, bringing_same, bringing_done, so_far, many}
 use Rattle.cyc_agreement.proofs.Bringing.{old_at, now_at, still_staying, may_come}
-use Rattle.cyc_agreement.proofs.returning.bring_all_back.Goals as goal
-use Rattle.cyc_agreement.proofs.returning.bring_all_back.Goals.{then-is_staying, else-is_staying}
+use Rattle.cyc_juggle.proofs.returning.bring_all_back.Goals as goal
+use Rattle.cyc_juggle.proofs.returning.bring_all_back.Goals.{then-is_staying, else-is_staying}
 
 pub loop-position-init : goal.loop-position-init
 loop-position-init g c = bringing_start g.R.Raise c.args.number c.args.now c.args.cpus.now

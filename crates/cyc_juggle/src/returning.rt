@@ -15,9 +15,7 @@ ghost use Rattle.cyc_agreement.specs.Refusals.{Unless, no_cpu};
 ghost use Rattle.cyc_agreement.specs.Online.{online_cpu, is_staying as is_staying_of, staying, return_at, returns, after_return};
 ghost use Rattle.cyc_agreement.specs.Online.{GoesOnline};
 
-use crate::component::component_first;
-use crate::cpus::Cpus;
-use crate::finding::is_leaving;
+use cyc_agreement::{Cpus, component_first, is_leaving};
 use cyc_places::{Placement, Record, Records};
 use cyc_types::{Moment, Raise, Refusal, When};
 

@@ -3,8 +3,8 @@ use Rattle.std.proofs.lemmas.List.{take_all}
 use Rattle.cyc_agreement.proofs.Spots.{get_some}
 use Rattle.cyc_agreement.specs.Online.{is_staying}
 use Rattle.cyc_agreement.proofs.Prefixes.{passing_count, passing_low}
-use Rattle.cyc_agreement.proofs.returning.count_staying.Goals as goal
-use Rattle.cyc_agreement.proofs.returning.count_staying.Goals.{then-is_staying, else-is_staying}
+use Rattle.cyc_juggle.proofs.returning.count_staying.Goals as goal
+use Rattle.cyc_juggle.proofs.returning.count_staying.Goals.{then-is_staying, else-is_staying}
 
 pub overflow_add-count : goal.overflow_add-count
 overflow_add-count g c = let l = passing_low (is_staying c.args.cpus.now) c.loop-position.position c.args.records.now.list in

@@ -4,7 +4,7 @@ use Rattle.cyc_places.specs.Places.{is_everywhere}
 use Rattle.cyc_agreement.proofs.Lists.{false_true}
 use Rattle.cyc_agreement.proofs.Spots.{same_some}
 use Rattle.cyc_agreement.proofs.Returned.{one_back}
-use Rattle.cyc_agreement.proofs.returning.bring_back.Goals as goal
+use Rattle.cyc_juggle.proofs.returning.bring_back.Goals as goal
 
 pub unreachable-requires : goal.unreachable-requires
 unreachable-requires g c = false_true (sym (ap is_everywhere c.in_default.is)

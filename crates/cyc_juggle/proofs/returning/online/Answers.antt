@@ -10,7 +10,7 @@ use Rattle.cyc_places.specs.Places.{ended_on}
 use Rattle.cyc_agreement.specs.Online.{is_staying, switched_on}
 use Rattle.cyc_agreement.proofs.Going.{empty, online_refused, holds_refused, empty_ready, most_ready, room_ready, at_ready}
 use Rattle.cyc_agreement.proofs.Going.{low_after, online_done, holds_done}
-use Rattle.cyc_agreement.proofs.returning.online.Goals as goal
+use Rattle.cyc_juggle.proofs.returning.online.Goals as goal
 
 pub returns-in_err-reserve-clause-did : goal.returns-in_err-reserve-clause-did
 returns-in_err-reserve-clause-did g c last =
