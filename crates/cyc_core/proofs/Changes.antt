@@ -1,8 +1,9 @@
 -- What the fields show after an edit, and that each event leaves a reached level.
-use Rattle.std.proofs.Common.{◌≡◌, ◌≢◌, ℕ, zero, suc, ◌<◌, ◌≤◌, eqb, cond, Bool, true, false, List, [], ◌∷◌, ◌++◌, length}
+use Rattle.std.proofs.Common.{◌≡◌, ◌≢◌, ℕ, zero, suc, ◌<◌, ◌≤◌, eqb, cond, Bool, true, false, not, List, [], ◌∷◌, ◌++◌, length}
 use Rattle.std.proofs.Common.{drop, Option, Some, None, IsSome, IsSomeAnd, refl, sym, ap, ◌∙◌, subst, arith}
 use Rattle.std.proofs.Common.{vec_capacity, option_to_list}
 use Rattle.std.specs.Prelude.{Result, Ok, Err, is_ok, OnOk}
+use Rattle.std.specs.Bool.{then_some}
 use Rattle.std.specs.Option.{option_map}
 use Rattle.std.specs.VecDeque.{deque_capacity}
 use Rattle.std.proofs.lemmas.Bool.Decides.{nat_tests}
@@ -44,8 +45,8 @@ pub sound_by : (a b : Inside) (event : Event) → IsSoundCore a → Enabled even
     → FreePositions b.kept.items b.free.items → vec_capacity a.kept ≤ vec_capacity b.kept
     → vec_capacity a.free ≤ vec_capacity b.free
     → a.ids.room ≤ b.ids.room → deque_capacity a.old_list ≤ deque_capacity b.old_list
-    → deque_capacity a.new_list ≤ deque_capacity b.new_list → IsSoundCore b
-sound_by a b event h may made here left kept free ids old new = record {
+    → deque_capacity a.new_list ≤ deque_capacity b.new_list → length b.hints.items ≡ cyclics → IsSoundCore b
+sound_by a b event h may made here left kept free ids old new hints = record {
   reached = reached_on (level_of (shown_core a)) (level_of (shown_core b)) event h.reached may made;
   cyclics_kept = here;
   positions_free = left;
@@ -56,6 +57,7 @@ sound_by a b event h may made here left kept free ids old new = record {
   ids_room = (let r = h.ids_room in omega (arith, r, ids));
   old_room = (let r = h.old_room in omega (arith, r, old));
   new_room = (let r = h.new_room in omega (arith, r, new));
+  hints_long = hints;
 }
 
 -- the same, where the lists' memory is not what it was
@@ -63,8 +65,8 @@ pub sound_roomy : (a b : Inside) (event : Event) → IsSoundCore a → Enabled e
     → level_of (shown_core b) ≡ after event (level_of (shown_core a)) → AreKept b.kept.items b.ids.entries →
     FreePositions b.kept.items b.free.items → cyclics ≤ vec_capacity b.kept → cyclics ≤ vec_capacity b.free → cyclics ≤ b.ids.room
     → cyclics ≤ deque_capacity b.old_list →
-    cyclics ≤ deque_capacity b.new_list → IsSoundCore b
-sound_roomy a b event h may made here left kept free ids old new = record {
+    cyclics ≤ deque_capacity b.new_list → length b.hints.items ≡ cyclics → IsSoundCore b
+sound_roomy a b event h may made here left kept free ids old new hints = record {
   reached = reached_on (level_of (shown_core a)) (level_of (shown_core b)) event h.reached may made;
   cyclics_kept = here;
   positions_free = left;
@@ -75,6 +77,7 @@ sound_roomy a b event h may made here left kept free ids old new = record {
   ids_room = ids;
   old_room = old;
   new_room = new;
+  hints_long = hints;
 }
 
 -- a table that changed at one id shows a map that changed there
@@ -88,15 +91,16 @@ cyclics_changed xs ys id o f found same = λ z q. (ap (option_map cyclic_of_entr
     by q true e = same ∙ ap (λ (k : ℕ). f (cyclics_of_table xs k)) (let is : id ≡ q = grind (arith, nat_tests) in is)
     by q false e = refl
 
--- a hand that an Expire leaves as it is, and one that a Finish does
-pub hand_as_it_was : (n id : ℕ) (hand : Option ℕ) → n ≢ 0 → hand ≡ hand_after_expire n id hand
-hand_as_it_was zero id hand some = absurd (some refl)
-hand_as_it_was (suc n) id hand some = refl
+hand_expired : (n id : ℕ) (hand : Option ℕ) → hand ≡ None → then_some (eqb n 0) id ≡ hand_after_expire n id hand
+hand_expired zero id hand free = refl
+hand_expired (suc n) id hand free = let no : eqb (suc n) 0 ≡ false = grind (arith, nat_tests) in ap (λ b. then_some b id) no
+    ∙ sym free
 
-pub hand_goes_on : (n : ℕ) (hand : Option ℕ) → 0 < n → n ≢ 1 → hand ≡ hand_after_finish n hand
-hand_goes_on zero hand some more = absurd (omega arith)
-hand_goes_on (suc zero) hand some more = absurd (more refl)
-hand_goes_on (suc (suc n)) hand some more = refl
+hand_finished : (n id : ℕ) → 0 < n → then_some (not (eqb n 1)) id ≡ hand_after_finish n (Some id)
+hand_finished zero id some = absurd (omega arith)
+hand_finished (suc zero) id some = refl
+hand_finished (suc (suc n)) id some = let no : eqb (suc (suc n)) 1 ≡ false = grind (arith, nat_tests) in
+    ap (λ b. then_some (not b) id) no
 
 -- what holds of the cyclic holds of the entry
 pub found_fact : (t : Tables) (id : ℕ) (c : Admitted) → lookup id t.table ≡ Some c → (P : AdmittedCyclic → Type 0)
@@ -115,11 +119,11 @@ module _ (t : Tables) (ys : List Admitted) (id : ℕ) (c d : Admitted) (found : 
       (ap Some made ∙ sym (ap (λ (o : Option Admitted). option_map f (option_map cyclic_of_entry o)) found))
 
   pub level_expire : (hand : Option ℕ) → cyclic_of_entry d ≡ cyclic_after_expire (cyclic_of_entry c)
-      → hand ≡ hand_after_expire c.count id t.firer_hand
-      → level_of (record t { table = ys; firer_hand = hand }) ≡ after (Expire id) (level_of t)
-  level_expire hand made is =
+      → hand ≡ then_some (eqb c.count 0) id
+      → t.firer_hand ≡ None → level_of (record t { table = ys; firer_hand = hand }) ≡ after (Expire id) (level_of t)
+  level_expire hand made is free =
       let in_hand : hand ≡ hand_after_expire (count (level_of t) id) id t.firer_hand = is
-      ∙ ap (λ (n : ℕ). hand_after_expire n id t.firer_hand) (sym found_count) in
+      ∙ hand_expired c.count id t.firer_hand free ∙ ap (λ (n : ℕ). hand_after_expire n id t.firer_hand) (sym found_count) in
       let map = written cyclic_after_expire made in
       λ z. record (level_of t) { cyclics = map z; firer_hand = in_hand z }
 
@@ -128,10 +132,10 @@ module _ (t : Tables) (ys : List Admitted) (id : ℕ) (c d : Admitted) (found : 
   level_lose made = let map = written cyclic_after_lose made in λ z. record (level_of t) { cyclics = map z }
 
   pub level_finish : (hand : Option ℕ) → cyclic_of_entry d ≡ cyclic_after_finish (cyclic_of_entry c) → t.drainer_hand ≡ Some id
-      → hand ≡ hand_after_finish c.count (Some id)
+      → 0 < c.count → hand ≡ then_some (not (eqb c.count 1)) id
       → level_of (record t { table = ys; drainer_hand = hand }) ≡ after Finish (level_of t)
-  level_finish hand made holds is =
-      let in_hand : hand ≡ hand_after_finish (count (level_of t) id) t.drainer_hand = is
+  level_finish hand made holds some is =
+      let in_hand : hand ≡ hand_after_finish (count (level_of t) id) t.drainer_hand = is ∙ hand_finished c.count id some
       ∙ ap (λ (n : ℕ). hand_after_finish n (Some id)) (sym found_count)
       ∙ ap (hand_after_finish (count (level_of t) id)) (sym holds) in
       let map = written cyclic_after_finish made in

@@ -6,5 +6,6 @@ pub mod FiringLaws
 pub mod DrainingLaws
 pub mod PlaceLaws
 pub mod Idle
+pub mod Hints
 pub use Rattle.cyc_level.proofs.Keeps
 pub use Rattle.cyc_level.proofs.Maps

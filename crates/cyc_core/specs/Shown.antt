@@ -1,5 +1,5 @@
 -- What the fields of a `LevelCore` show, and what holds of them at all times.
-use Rattle.std.specs.Prelude.{◌≡◌, ◌↔◌, ℕ, ◌-◌, ◌<◌, ◌≤◌, ◌==◌, ◌&&◌, if◌then◌else◌, Bool, false, Option, Some, List, map, length}
+use Rattle.std.specs.Prelude.{◌≡◌, ◌↔◌, ℕ, ◌+◌, ◌-◌, ◌/◌, ◌%◌, ◌<◌, ◌≤◌, ◌==◌, ◌&&◌, if◌then◌else◌, Bool, false, Option, Some, List, map, length}
 use Rattle.std.specs.Prelude.{slice_index_or, vec_capacity}
 use Rattle.std.specs.Bool.{then_some}
 use Rattle.std.specs.VecDeque.{deque_capacity}
@@ -57,6 +57,10 @@ shown_core a = record {
   drainer_hand = a.drainer_hand;
 }
 
+-- where the hint of an id stands, among as many as there may be cyclics
+abbrev pub hint_at : ℕ → ℕ
+hint_at id = (id + id / cyclics) % cyclics
+
 -- the ids rise, and a cyclic is kept at a position exactly where the finder names this for its id
 pub record AreKept (kept : List Kept) (entries : List Entry) : Type 0 where
   pub ordered : Rises finder.id_in entries
@@ -69,7 +73,7 @@ pub record FreePositions (kept : List Kept) (free : List ℕ) : Type 0 where
   pub once : (p : ℕ) → p < length kept → times_in p free ≡ (if (slice_index_or kept p nothing_kept).here then 0 else 1)
   pub few : length kept ≤ cyclics
 
--- the level is reached by enabled events, each cyclic is kept at its position, and all memory is there
+-- the level is reached by enabled events, each cyclic is kept at its position, and all memory and all hints are there
 pub record IsSoundCore (a : Inside) : Type 0 where
   pub reached : LevelIsReached (level_of (shown_core a))
   pub cyclics_kept : AreKept a.kept.items a.ids.entries
@@ -80,3 +84,4 @@ pub record IsSoundCore (a : Inside) : Type 0 where
   pub ids_room : cyclics ≤ a.ids.room
   pub old_room : cyclics ≤ deque_capacity a.old_list
   pub new_room : cyclics ≤ deque_capacity a.new_list
+  pub hints_long : length a.hints.items ≡ cyclics

@@ -53,9 +53,7 @@ impl LevelCore {
         let kept = &mut self.kept[entry.position.number() as usize];
         kept.sent = entry.sent + 1;
         kept.count = entry.count + 1;
-        if entry.count == 0 {
-            self.firer_hand = Some(entry.id);
-        }
+        self.firer_hand = (entry.count == 0).then_some(entry.id);
     }
 
     pub(crate) fn lose(&mut self, entry: Admitted)
@@ -98,9 +96,7 @@ impl LevelCore {
     {
         let kept = &mut self.kept[entry.position.number() as usize];
         kept.count = entry.count - 1;
-        if entry.count == 1 {
-            self.drainer_hand = None;
-        }
+        self.drainer_hand = (entry.count != 1).then_some(entry.id);
     }
 
     pub(crate) fn begin_removal(&mut self, id: CyclicId)

@@ -1,6 +1,6 @@
 //! One soft level as a plain object, and the laws that hold of it at any time.
 
-ghost use Rattle.std.specs.Prelude.{◌≡◌, ℕ, ◌<◌, ◌≤◌, IfOk, IfErr, IfSome, IsSome, Some, []};
+ghost use Rattle.std.specs.Prelude.{◌≡◌, ℕ, ◌<◌, ◌≤◌, IfOk, IfErr, IfSome, IsSome, Some, [], length};
 ghost use Rattle.std.specs.Option.{option_map};
 ghost use Rattle.cyc_types.specs.Limits.{cyclics};
 ghost use Rattle.cyc_level.specs.Level.{empty_level};
@@ -9,6 +9,7 @@ ghost use Rattle.cyc_level.specs.Conservation.{IsConserved};
 ghost use Rattle.cyc_finder.specs.Indexes.{index_of};
 ghost use Rattle.cyc_core.specs.Tables.{cyclic_of_entry, level_of, lookup};
 ghost use Rattle.cyc_core.specs.Reached.{LevelIsReached};
+ghost use Rattle.cyc_core.specs.Shown.{hint_at};
 
 use crate::admitted::{Admitted, Kept, is_kept_at};
 use cyc_finder::Finder;
@@ -61,24 +62,29 @@ impl Model for LevelCore {
 /// Where the hint of an id stands: at its low bits, with those above them added, so that ids that are 4,096 apart have hints of
 /// their own too.
 #[inline(always)]
-fn hint_of(id: CyclicId) -> usize {
+fn hint_of(id: CyclicId) -> usize
+    ensures at { result ≡ hint_at id }
+    ensures low { result < cyclics }
+{
     let number = id.number();
     let hints = u64::from(CYCLICS);
-    (number.wrapping_add(number / hints) % hints) as usize
+    ((number + number / hints) % hints) as usize
 }
 
 /// The id was admitted to this position.
 #[inline(always)]
-pub(crate) fn set_hint(hints: &mut [Index], id: CyclicId, position: Index) {
-    if let Some(hint) = hints.get_mut(hint_of(id)) {
-        *hint = position;
-    }
+pub(crate) fn set_hint(hints: &mut [Index], id: CyclicId, position: Index)
+    requires { length hints.old ≡ cyclics }
+{
+    hints[hint_of(id)] = position;
 }
 
 /// As many hints as there may be cyclics, which say nothing yet.
 #[cold]
 #[inline(never)]
-fn no_hints(alloc: Global) -> Result<Vec<Index>, AllocError> {
+fn no_hints(alloc: Global) -> Result<Vec<Index>, AllocError>
+    ensures { IfOk result (λ hints. length hints.items ≡ cyclics) }
+{
     let first = Index::new(0).unwrap();
     let mut hints = Vec::new(alloc);
     hints.resize(usize::from(CYCLICS), first)?;
@@ -149,7 +155,7 @@ impl LevelCore {
     pub(crate) fn hinted(&self, id: CyclicId) -> Option<Index>
         ensures { IfSome result (λ position. option_map (λ entry. entry.position) (lookup id self.now.table) ≡ Some position) }
     {
-        let hint = *self.hints.get(hint_of(id))?;
+        let hint = self.hints[hint_of(id)];
         if is_kept_at(&self.kept, hint, id) {
             return Some(hint);
         }

@@ -14,5 +14,5 @@ mod raise;
 
 pub use books::{Books, Place};
 pub use events::{NotEnabled, NotEnabledAt};
-pub use laws::idle_is_empty;
+pub use laws::{hints_are_apart, idle_is_empty};
 pub use level_core::LevelCore;

@@ -9,4 +9,4 @@ invariant_of-self c =
     sound_by c.self.inside _ (Mark c.args.id) c.self.invariant may refl c.self.invariant.cyclics_kept
     c.self.invariant.positions_free
     (omega arith) (omega arith) (omega arith)
-    (omega arith) (omega arith)
+    (omega arith) (omega arith) c.self.invariant.hints_long

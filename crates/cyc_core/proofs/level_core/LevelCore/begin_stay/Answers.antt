@@ -1,4 +1,5 @@
 use Rattle.std.proofs.Common.{arith, ap, refl, subst, sym, ◌∙◌, true}
+use Rattle.std.specs.List.{length_refill}
 use Rattle.cyc_level.specs.declared.Event.TheVariants.{Admit}
 use Rattle.cyc_finder.specs.Sorted.{Rises}
 use Rattle.cyc_finder.specs.Indexes.{Entry, id_in}
@@ -69,6 +70,7 @@ invariant_of-self c =
     (subst (Rises id_in) (sym is) (rises_inserted id_in entries c.args.id k gap sound.ordered entry refl)))
     (taken_free more _ number position at new to.free refl within)
     (omega (arith, to.kept_room)) (omega (arith, to.free_room)) (omega (arith, came.room)) (omega arith) (omega arith)
+    (sym (length_refill a.hints.len a.hints.items _ a.hints.ok.0) ∙ a.hints.ok.0 ∙ c.self.invariant.hints_long)
 
 pub returns : goal.returns
 returns c =

@@ -60,6 +60,7 @@ invariant_of-self c =
     (left_at kept entries sound c.args.id c.remove-position.result c.number.result c.number.ensures.value gone.index a.free.items
     c.push_reserved.new.self.items new c.push_reserved.ensures.items c.self.invariant.positions_free refl)
     (omega arith) (omega (arith, c.push_reserved.ensures.capacity)) (omega (arith, gone.room)) (omega arith) (omega arith)
+    c.self.invariant.hints_long
 
 pub returns : goal.returns
 returns c =

@@ -1,14 +1,13 @@
-use Rattle.std.proofs.Common.{◌≡◌, ◌-◌, ◌∙◌, Some, None, ap, arith, refl, sym}
+use Rattle.std.proofs.Common.{◌-◌, ap, arith, refl}
 use Rattle.std.specs.Prelude.{is_some}
 use Rattle.std.specs.Option.{option_map}
 use Rattle.cyc_level.specs.declared.Event.TheVariants.{Finish}
-use Rattle.cyc_level.specs.Events.{hand_after_finish}
 use Rattle.cyc_core.specs.declared.admitted.Kept.{Kept}
 use Rattle.cyc_core.specs.Tables.{cyclic_of_entry, level_of}
 use Rattle.cyc_core.specs.Shown.{shown_core, read_as}
 use Rattle.cyc_core.proofs.Keeping.{position_low, read_there, counts_read, counted, counted_kept, read_finished}
 use Rattle.cyc_core.proofs.Free.{counted_free}
-use Rattle.cyc_core.proofs.Changes.{hand_goes_on, held_count, level_finish, sound_by, reached_lawful}
+use Rattle.cyc_core.proofs.Changes.{held_count, level_finish, sound_by, reached_lawful}
 use Rattle.cyc_core.proofs.level_core.LevelCore.finish_call.Goals as goal
 
 pub index_mut-kept-requires : goal.index_mut-kept-requires
@@ -37,102 +36,46 @@ invariant_of-self c =
     let entries = a.ids.entries in
     let sound = c.self.invariant.cyclics_kept in
     let entry = c.args.entry in
-    let number = c.number.result in
+    let place = c.number.result in
     let is = c.number.ensures.value in
     let here = rw (← c.self.view_is) at c.requires.here in
-    let held = rw (← c.self.view_is) at c.requires.hand in
+    let hand = rw (← c.self.view_is) at c.requires.hand in
     let law = reached_lawful (level_of t) c.self.invariant.reached in
-    let some = held_count (level_of t) law entry.id (cyclic_of_entry entry) (ap (option_map cyclic_of_entry) here) held in
+    let some = held_count (level_of t) law entry.id (cyclic_of_entry entry) (ap (option_map cyclic_of_entry) here) hand in
     let read = c.index_mut-kept.result.now in
     let new : Kept = record read { count = entry.count - 1 } in
-    let same = counts_read kept entries sound entry number is here read c.index_mut-kept.ensures.value in
+    let same = counts_read kept entries sound entry place is here read c.index_mut-kept.ensures.value in
     let even = law.conserved entry.id (cyclic_of_entry entry) (ap (option_map cyclic_of_entry) here) in
     let made = read_finished entry read entry.id entry.position same some even in
-    let hand : None ≡ hand_after_finish entry.count (Some entry.id) =
-    sym (ap (λ n. hand_after_finish n (Some entry.id)) c.if-entry-eq1.true) in
-    sound_by a _ Finish c.self.invariant (ap is_some held)
+    sound_by a _ Finish c.self.invariant (ap is_some hand)
     (level_finish t _ entry.id entry (read_as entry.id entry.position new) here
-    (counted kept entries sound entry number is here read c.index_mut-kept.ensures.value new refl refl) _ made held hand)
-    (counted_kept kept entries sound entry number is here read c.index_mut-kept.ensures.value new refl refl)
-    (counted_free kept a.free.items number number refl new c.self.invariant.positions_free
-    (position_low kept entries sound entry number is here)
-    (ap (λ (k : Kept). k.here) (read_there kept entries sound entry number is here read c.index_mut-kept.ensures.value)))
-    (omega arith) (omega arith) (omega arith) (omega arith) (omega arith)
+    (counted kept entries sound entry place is here read c.index_mut-kept.ensures.value new refl refl) _ made
+    hand some c.then_some-self-inside.ensures)
+    (counted_kept kept entries sound entry place is here read c.index_mut-kept.ensures.value new refl refl)
+    (counted_free kept a.free.items place place refl new c.self.invariant.positions_free
+    (position_low kept entries sound entry place is here)
+    (ap (λ (k : Kept). k.here) (read_there kept entries sound entry place is here read c.index_mut-kept.ensures.value)))
+    (omega arith) (omega arith) (omega arith) (omega arith) (omega arith) c.self.invariant.hints_long
 
-pub invariant_of-self-else-entry-eq1 : goal.invariant_of-self-else-entry-eq1
-invariant_of-self-else-entry-eq1 c =
+pub returns : goal.returns
+returns c =
     let a = c.self.inside in
     let t = shown_core a in
     let kept = a.kept.items in
     let entries = a.ids.entries in
     let sound = c.self.invariant.cyclics_kept in
     let entry = c.args.entry in
-    let number = c.number.result in
+    let place = c.number.result in
     let is = c.number.ensures.value in
     let here = rw (← c.self.view_is) at c.requires.here in
-    let held = rw (← c.self.view_is) at c.requires.hand in
+    let hand = rw (← c.self.view_is) at c.requires.hand in
     let law = reached_lawful (level_of t) c.self.invariant.reached in
-    let some = held_count (level_of t) law entry.id (cyclic_of_entry entry) (ap (option_map cyclic_of_entry) here) held in
+    let some = held_count (level_of t) law entry.id (cyclic_of_entry entry) (ap (option_map cyclic_of_entry) here) hand in
     let read = c.index_mut-kept.result.now in
     let new : Kept = record read { count = entry.count - 1 } in
-    let same = counts_read kept entries sound entry number is here read c.index_mut-kept.ensures.value in
+    let same = counts_read kept entries sound entry place is here read c.index_mut-kept.ensures.value in
     let even = law.conserved entry.id (cyclic_of_entry entry) (ap (option_map cyclic_of_entry) here) in
     let made = read_finished entry read entry.id entry.position same some even in
-    let hand : a.drainer_hand ≡ hand_after_finish entry.count (Some entry.id) =
-    hand_goes_on entry.count a.drainer_hand some c.if-entry-eq1.false ∙ ap (hand_after_finish entry.count) held in
-    sound_by a _ Finish c.self.invariant (ap is_some held)
-    (level_finish t _ entry.id entry (read_as entry.id entry.position new) here
-    (counted kept entries sound entry number is here read c.index_mut-kept.ensures.value new refl refl) _ made held hand)
-    (counted_kept kept entries sound entry number is here read c.index_mut-kept.ensures.value new refl refl)
-    (counted_free kept a.free.items number number refl new c.self.invariant.positions_free
-    (position_low kept entries sound entry number is here)
-    (ap (λ (k : Kept). k.here) (read_there kept entries sound entry number is here read c.index_mut-kept.ensures.value)))
-    (omega arith) (omega arith) (omega arith) (omega arith) (omega arith)
-
-pub returns-then-entry-eq1 : goal.returns-then-entry-eq1
-returns-then-entry-eq1 c =
-    let a = c.self.inside in
-    let t = shown_core a in
-    let kept = a.kept.items in
-    let entries = a.ids.entries in
-    let sound = c.self.invariant.cyclics_kept in
-    let entry = c.args.entry in
-    let number = c.number.result in
-    let is = c.number.ensures.value in
-    let here = rw (← c.self.view_is) at c.requires.here in
-    let held = rw (← c.self.view_is) at c.requires.hand in
-    let law = reached_lawful (level_of t) c.self.invariant.reached in
-    let some = held_count (level_of t) law entry.id (cyclic_of_entry entry) (ap (option_map cyclic_of_entry) here) held in
-    let read = c.index_mut-kept.result.now in
-    let new : Kept = record read { count = entry.count - 1 } in
-    let same = counts_read kept entries sound entry number is here read c.index_mut-kept.ensures.value in
-    let even = law.conserved entry.id (cyclic_of_entry entry) (ap (option_map cyclic_of_entry) here) in
-    let made = read_finished entry read entry.id entry.position same some even in
-    let hand : None ≡ hand_after_finish entry.count (Some entry.id) =
-    sym (ap (λ n. hand_after_finish n (Some entry.id)) c.if-entry-eq1.true) in
     rw (← c.self.view_is) (level_finish t _ entry.id entry (read_as entry.id entry.position new) here
-    (counted kept entries sound entry number is here read c.index_mut-kept.ensures.value new refl refl) _ made held hand)
-
-pub returns-else-entry-eq1 : goal.returns-else-entry-eq1
-returns-else-entry-eq1 c =
-    let a = c.self.inside in
-    let t = shown_core a in
-    let kept = a.kept.items in
-    let entries = a.ids.entries in
-    let sound = c.self.invariant.cyclics_kept in
-    let entry = c.args.entry in
-    let number = c.number.result in
-    let is = c.number.ensures.value in
-    let here = rw (← c.self.view_is) at c.requires.here in
-    let held = rw (← c.self.view_is) at c.requires.hand in
-    let law = reached_lawful (level_of t) c.self.invariant.reached in
-    let some = held_count (level_of t) law entry.id (cyclic_of_entry entry) (ap (option_map cyclic_of_entry) here) held in
-    let read = c.index_mut-kept.result.now in
-    let new : Kept = record read { count = entry.count - 1 } in
-    let same = counts_read kept entries sound entry number is here read c.index_mut-kept.ensures.value in
-    let even = law.conserved entry.id (cyclic_of_entry entry) (ap (option_map cyclic_of_entry) here) in
-    let made = read_finished entry read entry.id entry.position same some even in
-    let hand : a.drainer_hand ≡ hand_after_finish entry.count (Some entry.id) =
-    hand_goes_on entry.count a.drainer_hand some c.if-entry-eq1.false ∙ ap (hand_after_finish entry.count) held in
-    rw (← c.self.view_is) (level_finish t _ entry.id entry (read_as entry.id entry.position new) here
-    (counted kept entries sound entry number is here read c.index_mut-kept.ensures.value new refl refl) _ made held hand)
+    (counted kept entries sound entry place is here read c.index_mut-kept.ensures.value new refl refl) _ made
+    hand some c.then_some-self-inside.ensures)

@@ -8,4 +8,4 @@ invariant_of-self c =
     let may = rw (← c.self.view_is) at c.requires in
     sound_by c.self.inside _ Follow c.self.invariant may refl c.self.invariant.cyclics_kept c.self.invariant.positions_free
     (omega arith) (omega arith) (omega arith)
-    (omega arith) (omega arith)
+    (omega arith) (omega arith) c.self.invariant.hints_long

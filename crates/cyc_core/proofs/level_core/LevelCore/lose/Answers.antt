@@ -71,7 +71,7 @@ invariant_of-self c =
     (counted_free kept a.free.items number number refl new c.self.invariant.positions_free
     (position_low kept entries sound entry number is here)
     (ap (λ (k : Kept). k.here) (read_there kept entries sound entry number is here read c.index_mut-kept.ensures.value)))
-    (omega arith) (omega arith) (omega arith) (omega arith) (omega arith)
+    (omega arith) (omega arith) (omega arith) (omega arith) (omega arith) c.self.invariant.hints_long
 
 pub returns : goal.returns
 returns c =

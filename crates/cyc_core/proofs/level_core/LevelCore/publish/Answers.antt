@@ -22,4 +22,4 @@ invariant_of-self c =
     ∙ level_publish t c.in-Some.id c.in-Some.is in
     sound_by c.self.inside _ Publish c.self.invariant may made c.self.invariant.cyclics_kept c.self.invariant.positions_free
     (omega arith) (omega arith) (omega arith)
-    (omega arith) (omega (arith, pushed.capacity))
+    (omega arith) (omega (arith, pushed.capacity)) c.self.invariant.hints_long

@@ -21,6 +21,7 @@ invariant_of-self c =
     sound_roomy c.self.inside _ (Switch c.args.bank) c.self.invariant may
     (level_switch t c.args.bank _ _ old new) c.self.invariant.cyclics_kept c.self.invariant.positions_free
     c.self.invariant.kept_room c.self.invariant.free_room c.self.invariant.ids_room old_room new_room
+    c.self.invariant.hints_long
 
 pub returns : goal.returns
 returns c =

@@ -13,7 +13,7 @@ invariant_of-self c =
     sound_by c.self.inside _ Take c.self.invariant may
     (level_take_new t _ _ same popped.items popped.rest) c.self.invariant.cyclics_kept c.self.invariant.positions_free
     (omega arith) (omega arith) (omega arith)
-    (omega arith) (omega (arith, popped.capacity))
+    (omega arith) (omega (arith, popped.capacity)) c.self.invariant.hints_long
 
 pub invariant_of-self-2 : goal.invariant_of-self-2
 invariant_of-self-2 c =
@@ -24,4 +24,4 @@ invariant_of-self-2 c =
     sound_by c.self.inside _ Take c.self.invariant may
     (level_take_old t _ _ differ popped.items popped.rest) c.self.invariant.cyclics_kept c.self.invariant.positions_free
     (omega arith) (omega arith) (omega arith)
-    (omega (arith, popped.capacity)) (omega arith)
+    (omega (arith, popped.capacity)) (omega arith) c.self.invariant.hints_long
