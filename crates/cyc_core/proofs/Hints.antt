@@ -2,10 +2,10 @@
 use Rattle.std.proofs.Common.{◌≢◌, ℕ, ◌+◌, ◌/◌, ◌<◌, arith}
 use Rattle.std.proofs.Math.Nat.{div-add-mod, mod-lt}
 use Rattle.cyc_types.specs.Limits.{cyclics}
-use Rattle.cyc_core.specs.Shown.{hint_at}
+use Rattle.cyc_core.specs.Shown.{level_hint}
 
 -- two numbers that are less than 4,096 apart leave other remainders
-pub apart : (low high : ℕ) → low < high → high + 1 < low + cyclics → hint_at low ≢ hint_at high
+pub apart : (low high : ℕ) → low < high → high + 1 < low + cyclics → level_hint low ≢ level_hint high
 apart low high less near same =
     let some : 0 < cyclics = omega arith in
     let l = div-add-mod low cyclics in

@@ -58,8 +58,8 @@ shown_core a = record {
 }
 
 -- where the hint of an id stands, among as many as there may be cyclics
-abbrev pub hint_at : ℕ → ℕ
-hint_at id = (id + id / cyclics) % cyclics
+abbrev pub level_hint : ℕ → ℕ
+level_hint id = (id + id / cyclics) % cyclics
 
 -- the ids rise, and a cyclic is kept at a position exactly where the finder names this for its id
 pub record AreKept (kept : List Kept) (entries : List Entry) : Type 0 where

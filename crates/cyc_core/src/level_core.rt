@@ -9,7 +9,7 @@ ghost use Rattle.cyc_level.specs.Conservation.{IsConserved};
 ghost use Rattle.cyc_finder.specs.Indexes.{index_of};
 ghost use Rattle.cyc_core.specs.Tables.{cyclic_of_entry, level_of, lookup};
 ghost use Rattle.cyc_core.specs.Reached.{LevelIsReached};
-ghost use Rattle.cyc_core.specs.Shown.{hint_at};
+ghost use Rattle.cyc_core.specs.Shown.{level_hint};
 
 use crate::admitted::{Admitted, Kept, is_kept_at};
 use cyc_finder::Finder;
@@ -63,7 +63,7 @@ impl Model for LevelCore {
 /// their own too.
 #[inline(always)]
 fn hint_of(id: CyclicId) -> usize
-    ensures at { result ≡ hint_at id }
+    ensures at { result ≡ level_hint id }
     ensures low { result < cyclics }
 {
     let number = id.number();
