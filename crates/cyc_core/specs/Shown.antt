@@ -1,6 +1,6 @@
 -- What the fields of a `LevelCore` show, and what holds of them at all times.
-use Rattle.std.specs.Prelude.{◌≡◌, ◌↔◌, ℕ, ◌+◌, ◌-◌, ◌/◌, ◌%◌, ◌<◌, ◌≤◌, ◌==◌, ◌&&◌, if◌then◌else◌, Bool, false, Option, Some, List, map, length}
-use Rattle.std.specs.Prelude.{slice_index_or, vec_capacity}
+use Rattle.std.specs.Prelude.{◌≡◌, ◌↔◌, ℕ, ◌+◌, ◌-◌, ◌/◌, ◌%◌, ◌<◌, ◌≤◌, ◌==◌, ◌&&◌, if◌then◌else◌, Bool, false}
+use Rattle.std.specs.Prelude.{Option, Some, List, map, length, slice_index_or, vec_capacity}
 use Rattle.std.specs.Bool.{then_some}
 use Rattle.std.specs.VecDeque.{deque_capacity}
 use Rattle.cyc_types.specs.Limits.{cyclics, last_id}

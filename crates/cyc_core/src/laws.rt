@@ -14,8 +14,8 @@ pub fn idle_is_empty()
         × (after.new_list ≡ []) }
 {}
 
-/// Two ids that are less than 4,095 apart have hints of their own: where ids rise by one, as many cyclics as a level may have, but for
-/// the last, don't take each other's.
+/// Two ids that are less than 4,095 apart have hints of their own: where ids rise by one, as many cyclics as a level may have,
+/// but for the last, don't take each other's.
 pub fn hints_are_apart()
     ensures { (low high : ℕ) → low < high → high + 1 < low + cyclics → level_hint low ≢ level_hint high }
 {}
