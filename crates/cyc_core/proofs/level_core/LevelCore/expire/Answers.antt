@@ -43,22 +43,22 @@ invariant_of-self c =
     let entries = a.ids.entries in
     let sound = c.self.invariant.cyclics_kept in
     let entry = c.args.entry in
-    let place = c.number.result in
+    let number = c.number.result in
     let is = c.number.ensures.value in
     let may = rw (← c.self.view_is) at c.requires.enabled in
     let here = rw (← c.self.view_is) at c.requires.here in
     let read = c.index_mut-kept.result.now in
     let new : Kept = record read { sent = entry.sent + 1; count = entry.count + 1 } in
-    let same = counts_read kept entries sound entry place is here read c.index_mut-kept.ensures.value in
+    let same = counts_read kept entries sound entry number is here read c.index_mut-kept.ensures.value in
     let made = read_expired entry read entry.id entry.position same in
     sound_by a _ (Expire entry.id) c.self.invariant may
     (level_expire (shown_core a) _ entry.id entry (read_as entry.id entry.position new) here
-    (counted kept entries sound entry place is here read c.index_mut-kept.ensures.value new refl refl) _ made
+    (counted kept entries sound entry number is here read c.index_mut-kept.ensures.value new refl refl) _ made
     c.then_some-self-inside.ensures may.0)
-    (counted_kept kept entries sound entry place is here read c.index_mut-kept.ensures.value new refl refl)
-    (counted_free kept a.free.items place place refl new c.self.invariant.positions_free
-    (position_low kept entries sound entry place is here)
-    (ap (λ (k : Kept). k.here) (read_there kept entries sound entry place is here read c.index_mut-kept.ensures.value)))
+    (counted_kept kept entries sound entry number is here read c.index_mut-kept.ensures.value new refl refl)
+    (counted_free kept a.free.items number number refl new c.self.invariant.positions_free
+    (position_low kept entries sound entry number is here)
+    (ap (λ (k : Kept). k.here) (read_there kept entries sound entry number is here read c.index_mut-kept.ensures.value)))
     (omega arith) (omega arith) (omega arith) (omega arith) (omega arith) c.self.invariant.hints_long
 
 pub returns : goal.returns
@@ -68,14 +68,14 @@ returns c =
     let entries = a.ids.entries in
     let sound = c.self.invariant.cyclics_kept in
     let entry = c.args.entry in
-    let place = c.number.result in
+    let number = c.number.result in
     let is = c.number.ensures.value in
     let may = rw (← c.self.view_is) at c.requires.enabled in
     let here = rw (← c.self.view_is) at c.requires.here in
     let read = c.index_mut-kept.result.now in
     let new : Kept = record read { sent = entry.sent + 1; count = entry.count + 1 } in
-    let same = counts_read kept entries sound entry place is here read c.index_mut-kept.ensures.value in
+    let same = counts_read kept entries sound entry number is here read c.index_mut-kept.ensures.value in
     let made = read_expired entry read entry.id entry.position same in
     rw (← c.self.view_is) (level_expire (shown_core a) _ entry.id entry (read_as entry.id entry.position new) here
-    (counted kept entries sound entry place is here read c.index_mut-kept.ensures.value new refl refl) _ made
+    (counted kept entries sound entry number is here read c.index_mut-kept.ensures.value new refl refl) _ made
     c.then_some-self-inside.ensures may.0)

@@ -36,7 +36,7 @@ invariant_of-self c =
     let entries = a.ids.entries in
     let sound = c.self.invariant.cyclics_kept in
     let entry = c.args.entry in
-    let place = c.number.result in
+    let number = c.number.result in
     let is = c.number.ensures.value in
     let here = rw (← c.self.view_is) at c.requires.here in
     let hand = rw (← c.self.view_is) at c.requires.hand in
@@ -44,17 +44,17 @@ invariant_of-self c =
     let some = held_count (level_of t) law entry.id (cyclic_of_entry entry) (ap (option_map cyclic_of_entry) here) hand in
     let read = c.index_mut-kept.result.now in
     let new : Kept = record read { count = entry.count - 1 } in
-    let same = counts_read kept entries sound entry place is here read c.index_mut-kept.ensures.value in
+    let same = counts_read kept entries sound entry number is here read c.index_mut-kept.ensures.value in
     let even = law.conserved entry.id (cyclic_of_entry entry) (ap (option_map cyclic_of_entry) here) in
     let made = read_finished entry read entry.id entry.position same some even in
     sound_by a _ Finish c.self.invariant (ap is_some hand)
     (level_finish t _ entry.id entry (read_as entry.id entry.position new) here
-    (counted kept entries sound entry place is here read c.index_mut-kept.ensures.value new refl refl) _ made
+    (counted kept entries sound entry number is here read c.index_mut-kept.ensures.value new refl refl) _ made
     hand some c.then_some-self-inside.ensures)
-    (counted_kept kept entries sound entry place is here read c.index_mut-kept.ensures.value new refl refl)
-    (counted_free kept a.free.items place place refl new c.self.invariant.positions_free
-    (position_low kept entries sound entry place is here)
-    (ap (λ (k : Kept). k.here) (read_there kept entries sound entry place is here read c.index_mut-kept.ensures.value)))
+    (counted_kept kept entries sound entry number is here read c.index_mut-kept.ensures.value new refl refl)
+    (counted_free kept a.free.items number number refl new c.self.invariant.positions_free
+    (position_low kept entries sound entry number is here)
+    (ap (λ (k : Kept). k.here) (read_there kept entries sound entry number is here read c.index_mut-kept.ensures.value)))
     (omega arith) (omega arith) (omega arith) (omega arith) (omega arith) c.self.invariant.hints_long
 
 pub returns : goal.returns
@@ -65,7 +65,7 @@ returns c =
     let entries = a.ids.entries in
     let sound = c.self.invariant.cyclics_kept in
     let entry = c.args.entry in
-    let place = c.number.result in
+    let number = c.number.result in
     let is = c.number.ensures.value in
     let here = rw (← c.self.view_is) at c.requires.here in
     let hand = rw (← c.self.view_is) at c.requires.hand in
@@ -73,9 +73,9 @@ returns c =
     let some = held_count (level_of t) law entry.id (cyclic_of_entry entry) (ap (option_map cyclic_of_entry) here) hand in
     let read = c.index_mut-kept.result.now in
     let new : Kept = record read { count = entry.count - 1 } in
-    let same = counts_read kept entries sound entry place is here read c.index_mut-kept.ensures.value in
+    let same = counts_read kept entries sound entry number is here read c.index_mut-kept.ensures.value in
     let even = law.conserved entry.id (cyclic_of_entry entry) (ap (option_map cyclic_of_entry) here) in
     let made = read_finished entry read entry.id entry.position same some even in
     rw (← c.self.view_is) (level_finish t _ entry.id entry (read_as entry.id entry.position new) here
-    (counted kept entries sound entry place is here read c.index_mut-kept.ensures.value new refl refl) _ made
+    (counted kept entries sound entry number is here read c.index_mut-kept.ensures.value new refl refl) _ made
     hand some c.then_some-self-inside.ensures)
