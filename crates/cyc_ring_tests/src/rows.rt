@@ -158,58 +158,36 @@ pub(crate) struct Worked {
     pub(crate) books: Books,
 }
 
+/// A worked ring, whole.
+fn worked_ring(ceiling: u32, start: u32, calls: &'static [Call], books: Books) -> Worked {
+    Worked {
+        ceiling,
+        start,
+        calls,
+        books,
+    }
+}
+
 /// All worked rings, whole.
 pub(crate) fn worked_rings() -> [Worked; 5] {
-    let books = [
-        [Some(Counts::one_outstanding(1, 1)), None],
-        [Some(Counts::one_outstanding(2, 1)), None],
-        [None, None],
-        switched(),
-        [Some(Counts::done(1, 1, 0)), None],
-    ];
     [
-        Worked {
-            ceiling: 2,
-            start: 4294967295,
-            calls: &AT_THE_CEILING,
-            books: books[0],
-        },
-        Worked {
-            ceiling: 2,
-            start: 0,
-            calls: &MARKED,
-            books: books[1],
-        },
-        Worked {
-            ceiling: 2,
-            start: 0,
-            calls: &FOUND,
-            books: books[2],
-        },
-        Worked {
-            ceiling: 5,
-            start: 0,
-            calls: &SWITCHED,
-            books: books[3],
-        },
-        Worked {
-            ceiling: 5,
-            start: 4294967295,
-            calls: &SKIPPED,
-            books: books[4],
-        },
+        worked_ring(
+            2,
+            4294967295,
+            &AT_THE_CEILING,
+            [Some(Counts::one_outstanding(1, 1)), None],
+        ),
+        worked_ring(2, 0, &MARKED, [Some(Counts::one_outstanding(2, 1)), None]),
+        worked_ring(2, 0, &FOUND, [None, None]),
+        worked_ring(5, 0, &SWITCHED, switched()),
+        worked_ring(5, 4294967295, &SKIPPED, [Some(Counts::done(1, 1, 0)), None]),
     ]
 }
 
 /// The first so many calls of a worked ring of ceiling 2, and the book after them.
 fn early(start: u32, calls: &'static [Call], count: usize, first: Option<Counts>) -> Worked {
     let (calls, _) = calls.split_at(count.min(calls.len()));
-    Worked {
-        ceiling: 2,
-        start,
-        calls,
-        books: [first, None],
-    }
+    worked_ring(2, start, calls, [first, None])
 }
 
 /// Worked rings that are closed before all their calls are made: after the first calls at the ceiling, after the removal there,
