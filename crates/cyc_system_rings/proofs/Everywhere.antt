@@ -20,7 +20,7 @@ use Rattle.cyc_system_laws.proofs.Pieces.{made_of}
 use Rattle.cyc_system_laws.specs.Sound.{IsSound}
 use Rattle.cyc_system_laws.specs.Keeping.{EndsRemoval, TouchesRecord}
 use Rattle.cyc_system_rings.specs.Leading.{Make}
-use Rattle.cyc_system_rings.proofs.Raising.{changes_long}
+use Rattle.cyc_system_laws.proofs.Lengths.{changes_long}
 use Rattle.cyc_system_rings.specs.Events.{given_everywhere, if_own, event_in}
 use Rattle.cyc_system_rings.proofs.Runs.{add_next, omni_next, refused_begin, refused_poll, others_pass, its_own}
 use Rattle.cyc_system_rings.proofs.Components.{set_single}

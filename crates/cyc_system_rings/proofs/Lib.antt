@@ -29,6 +29,7 @@ pub use Rattle.cyc_system_laws.proofs.Where
 pub use Rattle.cyc_system_workers.proofs.Presence
 pub use Rattle.cyc_system_laws.proofs.Who
 pub use Rattle.cyc_system_laws.proofs.Pieces
+pub use Rattle.cyc_system_laws.proofs.Lengths
 pub use Rattle.cyc_system_laws.proofs.Suspending
 pub use Rattle.cyc_system_laws.proofs.Counts
 pub use Rattle.cyc_system_laws.proofs.Kept

@@ -2,7 +2,6 @@
 use Rattle.std.proofs.Common.{◌≡◌, ◌∙◌, ℕ, zero, suc, ◌+◌, Some, List, [], ◌∷◌, length, refl, sym, ap, subst, arith}
 use Rattle.std.specs.Prelude.{map, sum_by, ◌<◌, Bool, true, false}
 use Rattle.std.specs.List.{slice_get, FoldsTo}
-use Rattle.std.proofs.lemmas.List.{length-set}
 use Rattle.std.proofs.lemmas.List.Sums.{sum_by-cons}
 use Rattle.cyc_types.specs.declared.Calls.{Ghosts as Calls}
 use Rattle.cyc_types.specs.declared.Raise.{Ghosts as Raise}
@@ -20,6 +19,7 @@ use Rattle.cyc_system_laws.specs.System.{SystemView}
 use Rattle.cyc_system_laws.specs.SystemCalls.{SystemCall, Changes}
 use Rattle.cyc_system_laws.specs.Parts.{CpusCall, OnCpu, SetOnline, DoesPart}
 use Rattle.cyc_system_laws.proofs.Pieces.{made_of}
+use Rattle.cyc_system_laws.proofs.Lengths.{changes_long}
 use Rattle.cyc_system_laws.proofs.Flow.{sum_set}
 use Rattle.cyc_system_workers.specs.declared.side.SystemSide.{SystemSide}
 use Rattle.cyc_system_rings.specs.Leading.{LeadCall, Make, FireAll, AskAll, Leads}
@@ -71,20 +71,6 @@ sums_even f g h (x ∷ xs) (y ∷ ys) (l ∷ ls) (m ∷ ms) a b c each =
     let p = sum_by-cons f y ys in let q = sum_by-cons g x xs in let r = sum_by-cons h l ls in
     let t = sum_by-cons f x xs in let u = sum_by-cons g y ys in let v = sum_by-cons h m ms in
     omega (arith, rest, one, p, q, r, t, u, v)
-
-module _ {R : Type 0} (firing : Raise R) where
-  part_long : (p : CpusCall) (v w : CpusView R) → DoesPart firing v p w → length w.cpus ≡ length v.cpus
-  part_long (OnCpu c) v w d = ap (λ (u : CpusView R). length u.cpus) d.rest ∙ length-set v.cpus c.cpu d.after
-  part_long (SetOnline n online) v w e = ap (λ (u : CpusView R). length u.cpus) e
-
-  parts_long : (way : List CpusCall) (v w : CpusView R) → FoldsTo (DoesPart firing) v way w → length w.cpus ≡ length v.cpus
-  parts_long [] v w e = ap (λ (u : CpusView R). length u.cpus) (sym e)
-  parts_long (p ∷ way) v w (u, first, rest) = parts_long way u w rest ∙ part_long p v u first
-
-  -- no call makes a CPU come or go
-  pub changes_long : (s t : SystemView R) (call : SystemCall) → Changes firing s call t
-      → length t.cpus.cpus ≡ length s.cpus.cpus
-  changes_long s t call d = let m = made_of firing s t call d in parts_long m.way s.cpus t.cpus m.works
 
 module _ {C R : Type 0} (handler : Calls C) (firing : Raise R) where
   -- there is still something to lead each CPU

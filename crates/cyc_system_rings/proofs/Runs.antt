@@ -57,7 +57,8 @@ use Rattle.cyc_system_laws.proofs.Found.{stays_found}
 use Rattle.cyc_system_laws.proofs.Given.{receipt_all}
 use Rattle.cyc_types.specs.declared.receipt.Receipt.{Receipt}
 use Rattle.cyc_system_rings.specs.Leading.{LeadCall, Make, FireAll, AskAll}
-use Rattle.cyc_system_rings.proofs.Raising.{sums_same, changes_long, stands}
+use Rattle.cyc_system_laws.proofs.Lengths.{changes_long}
+use Rattle.cyc_system_rings.proofs.Raising.{sums_same, stands}
 use Rattle.cyc_system_rings.specs.Events.{given_everywhere, if_own, event_in, events_in, AllAccepted, AcceptedSteps, KeepsIt}
 use Rattle.cyc_system_rings.proofs.Fires.{sums_into, later, fired_later, none_weigh}
 use Rattle.cyc_system_rings.proofs.Singles.{ok_err, of_stay, IsSingle, single_kept, single_added, single_set}

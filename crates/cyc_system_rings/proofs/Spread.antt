@@ -45,7 +45,7 @@ use Rattle.cyc_system_laws.specs.Sound.{IsSound}
 use Rattle.cyc_system_laws.specs.Keeping.{TouchesRecord}
 use Rattle.cyc_system_laws.proofs.Counts.{within}
 use Rattle.cyc_system_laws.proofs.Looked.{look_kept}
-use Rattle.cyc_system_rings.proofs.Raising.{changes_long}
+use Rattle.cyc_system_laws.proofs.Lengths.{changes_long}
 use Rattle.cyc_system_rings.specs.Events.{given_everywhere}
 use Rattle.cyc_system_rings.proofs.Singles.{ok_err, find_end}
 use Rattle.cyc_system_rings.proofs.Beside.{IsPlain, removals_same, online_after, HereNeeds, here_may, here_same, single_has}

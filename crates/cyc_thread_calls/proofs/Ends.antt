@@ -25,7 +25,7 @@ use Rattle.cyc_threads.specs.SystemSide.{SystemSide}
 use Rattle.cyc_threads.specs.Advanced.{Advanced}
 use Rattle.cyc_threads.specs.Advancing.{AllFire, moment_asked, FiresIf}
 use Rattle.cyc_system_rings.specs.Leading.{LeadCall, Make, FireAll, AskAll, LeadSteps}
-use Rattle.cyc_system_rings.proofs.Raising.{changes_long}
+use Rattle.cyc_threads.proofs.Lengths.{changes_long}
 
 module _ {R : Type 0} (firing : Raise R) (P : R → Type 0)
     (goes_on : (e f : R) (way : List FiringCall) → Goes firing e way f → P e → P f) where

@@ -22,7 +22,7 @@ use Rattle.cyc_threads.specs.Calls.{SystemCall, Changes}
 use Rattle.cyc_threads.proofs.Pieces.{made_of}
 use Rattle.cyc_threads.specs.Keeping.{TouchesRecord}
 use Rattle.cyc_threads.proofs.Looked.{look_kept}
-use Rattle.cyc_system_rings.proofs.Raising.{changes_long}
+use Rattle.cyc_threads.proofs.Lengths.{changes_long}
 use Rattle.cyc_words.specs.declared.named.Named.{Named}
 use Rattle.cyc_words.specs.declared.named.Named.TheVariants.{Nothing, Cyclic, Leaving, Removed}
 use Rattle.cyc_threads.specs.declared.progress.Progress.{Progress}

@@ -46,10 +46,10 @@ pub use Rattle.cyc_system_rings.proofs.Suspending
 pub use Rattle.cyc_threads.proofs.Lists
 pub use Rattle.cyc_threads.proofs.Spots
 pub use Rattle.cyc_threads.proofs.Pieces
+pub use Rattle.cyc_threads.proofs.Lengths
 pub use Rattle.cyc_system_rings.proofs.Singles
 pub use Rattle.cyc_threads.proofs.Recording
 pub use Rattle.cyc_threads.proofs.Looked
-pub use Rattle.cyc_system_rings.proofs.Raising
 pub use Rattle.cyc_threads.proofs.Folds
 pub use Rattle.cyc_threads.proofs.Staying
 pub use Rattle.cyc_threads.proofs.Presence

@@ -10,7 +10,7 @@ use Rattle.cyc_types.specs.Series.{never}
 use Rattle.cyc_places.specs.Places.{HasRisingIds}
 use Rattle.cyc_thread_calls.proofs.Spots.{none_some, same_some}
 use Rattle.cyc_thread_calls.proofs.Pieces.{made_of}
-use Rattle.cyc_thread_calls.proofs.Raising.{changes_long}
+use Rattle.cyc_thread_calls.proofs.Lengths.{changes_long}
 use Rattle.cyc_thread_calls.specs.System.{SystemView}
 use Rattle.cyc_thread_calls.specs.Calls.{SystemCall}
 use Rattle.cyc_thread_calls.specs.Named.{Named}

@@ -61,7 +61,7 @@ use Rattle.cyc_threads.specs.Words.{TakesStep, waits_first}
 use Rattle.cyc_threads.specs.Steps.{IsBefore, TakesSteps, StepHalts, IsHalted}
 use Rattle.cyc_threads.specs.Running.{most}
 use Rattle.cyc_threads.proofs.Following.{begins_all, does_all}
-use Rattle.cyc_threads.proofs.Ready.{changes_long}
+use Rattle.cyc_system_laws.proofs.Lengths.{changes_long}
 use Rattle.cyc_threads.proofs.Taking.{fit_before, fit_drop}
 use Rattle.cyc_threads.proofs.Fires.{most_of_all, sums_grow, each_grows, all_grow, timer_few}
 

@@ -18,6 +18,7 @@ pub mod Ran
 pub use Rattle.cyc_system_laws.proofs.Spots
 pub use Rattle.cyc_system_laws.proofs.Lists
 pub use Rattle.cyc_system_laws.proofs.Pieces
+pub use Rattle.cyc_system_laws.proofs.Lengths
 pub use Rattle.cyc_system_laws.proofs.Recording
 pub use Rattle.cyc_system_laws.proofs.Answering
 pub use Rattle.cyc_system_laws.proofs.Sums

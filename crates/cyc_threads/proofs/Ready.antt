@@ -2,31 +2,16 @@
 use Rattle.std.proofs.Common.{inl, inr, ◌≡◌, ℕ, List, [], ◌∷◌, length, sym, ap, ◌∙◌}
 use Rattle.std.specs.Prelude.{Bool, true, false}
 use Rattle.std.specs.List.{FoldsTo}
-use Rattle.std.proofs.lemmas.List.{length-set}
 use Rattle.cyc_types.specs.declared.Calls.{Ghosts as Calls}
 use Rattle.cyc_types.specs.declared.Raise.{Ghosts as Raise}
 use Rattle.cyc_script.specs.declared.step.Step.{Step}
-use Rattle.cyc_system_laws.specs.Cpus.{CpusView}
-use Rattle.cyc_system_workers.specs.System.{SystemView}
-use Rattle.cyc_system_workers.specs.Calls.{SystemCall, Changes, PollRemove}
-use Rattle.cyc_system_laws.specs.Parts.{CpusCall, OnCpu, SetOnline, DoesPart}
-use Rattle.cyc_system_laws.proofs.Pieces.{made_of}
+use Rattle.cyc_system_workers.specs.Calls.{SystemCall, PollRemove}
+use Rattle.cyc_system_laws.proofs.Lengths.{changes_long}
 use Rattle.cyc_system_workers.specs.declared.side.SystemSide.{SystemSide}
 use Rattle.cyc_threads.specs.declared.progress.Progress.{Progress}
 use Rattle.cyc_threads.specs.StepCalls.{CallsFor, Poll, Polls, Waits, Fires, Advances, HasLeads}
 use Rattle.cyc_threads.proofs.Worded.{does_by}
 use Rattle.cyc_threads.specs.Words.{DoesStep, Begins, TakesStep, waits_first}
-
-module _ {R : Type 0} (firing : Raise R) where
-  parts_long : (way : List CpusCall) (v w : CpusView R) → FoldsTo (DoesPart firing) v way w → length w.cpus ≡ length v.cpus
-  parts_long [] v w e = ap (λ (z : CpusView R). length z.cpus) (sym e)
-  parts_long (OnCpu c ∷ way) v w (u, d, rest) =
-      parts_long way u w rest ∙ ap (λ (z : CpusView R). length z.cpus) d.rest ∙ length-set v.cpus c.cpu d.after
-  parts_long (SetOnline n online ∷ way) v w (u, e, rest) =
-      parts_long way u w rest ∙ ap (λ (z : CpusView R). length z.cpus) e
-
-  pub changes_long : (s t : SystemView R) (call : SystemCall) → Changes firing s call t → length t.cpus.cpus ≡ length s.cpus.cpus
-  changes_long s t call d = let m = made_of firing s t call d in parts_long m.way s.cpus t.cpus m.works
 
 module _ {C R : Type 0} (handler : Calls C) (firing : Raise R) where
   calls_ready : (name : ℕ) (call : SystemCall) (s t : Progress R C) → CallsFor firing name call s t → HasLeads s → HasLeads t
