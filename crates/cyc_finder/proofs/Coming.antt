@@ -9,21 +9,21 @@ use Rattle.std.proofs.lemmas.List.{get_or-set_same, get_or-set_other, length-set
 use Rattle.std.proofs.lemmas.List.Edits.{length-insert, get_or-insert_below, get_or-insert_at, get_or-insert_above}
 use Rattle.std.proofs.lemmas.List.Edits.{length-remove, get_or-remove_below, get_or-remove_above}
 use Rattle.std.proofs.lemmas.List.Elements.{filter_map-append}
-use Rattle.cyc_finder.specs.declared.slots.Slot.{Slot}
+use Rattle.cyc_finder.specs.Slots.{SlotView}
 use Rattle.cyc_finder.specs.Sorted.{Rises, IsGap}
 use Rattle.cyc_finder.specs.Indexes.{Entry, id_in}
 use Rattle.cyc_finder.specs.Slots.{slot_id, entry_of, entries_of, IsGoneSlot}
 use Rattle.cyc_finder.proofs.RisingIds.{is_at_position, rises_removed, rises_inserted}
 use Rattle.cyc_finder.proofs.Here.{rank, some_slot, split, gap_is, come}
 
-abbrev pub IsHere : Slot → Type 0
+abbrev pub IsHere : SlotView → Type 0
 IsHere slot = slot.index ≢ None
 
 -- the slots from a position on move up by one over another
-module _ (xs mid : List Slot) (p g : ℕ) (s : Slot) (up : p ≤ g) (low : g < length xs) (long : length mid ≡ length xs)
+module _ (xs mid : List SlotView) (p g : ℕ) (s : SlotView) (up : p ≤ g) (low : g < length xs) (long : length mid ≡ length xs)
     (copied : CopiedTo xs mid p (p + 1) (g - p)) (below : SameBelow xs mid (p + 1))
     (behind : SameFrom xs mid (p + 1 + (g - p))) where
-  abbrev ys : List Slot
+  abbrev ys : List SlotView
   ys = remove xs g
 
   shorter : length ys + 1 ≡ length xs
@@ -32,21 +32,21 @@ module _ (xs mid : List Slot) (p g : ℕ) (s : Slot) (up : p ≤ g) (low : g < l
   in_ys : p ≤ length ys
   in_ys = (let l = shorter in omega (arith, l, up, low))
 
-  above : (k : ℕ) (d : Slot) → p < k → get_or (insert ys p s) k d ≡ get_or ys (k - 1) d
+  above : (k : ℕ) (d : SlotView) → p < k → get_or (insert ys p s) k d ≡ get_or ys (k - 1) d
   above k d past = ap (λ n. get_or (insert ys p s) n d) (let n : k ≡ k - 1 + 1 = omega (arith, past) in n)
       ∙ get_or-insert_above ys p s d (k - 1) (omega (arith, past)) in_ys
 
-  moved_to : (k : ℕ) (d : Slot) → p < k → k ≤ g → get_or mid k d ≡ get_or ys (k - 1) d
+  moved_to : (k : ℕ) (d : SlotView) → p < k → k ≤ g → get_or mid k d ≡ get_or ys (k - 1) d
   moved_to k d past most = copied k d (omega (arith, past)) (omega (arith, past, most))
       ∙ ap (λ n. get_or xs n d) (let n : p + (k - (p + 1)) ≡ k - 1 = omega (arith, past) in n)
       ∙ sym (get_or-remove_below xs g d (k - 1) (omega (arith, past, most)) low)
 
-  stays : (k : ℕ) (d : Slot) → g < k → get_or mid k d ≡ get_or ys (k - 1) d
+  stays : (k : ℕ) (d : SlotView) → g < k → get_or mid k d ≡ get_or ys (k - 1) d
   stays k d past = behind k d (omega (arith, past, up))
       ∙ ap (λ n. get_or xs n d) (let n : k ≡ k - 1 + 1 = omega (arith, past) in n)
       ∙ sym (get_or-remove_above xs g d (k - 1) (omega (arith, past)) low)
 
-  each : (k : ℕ) (d : Slot) → get_or (set mid p s) k d ≡ get_or (insert ys p s) k d
+  each : (k : ℕ) (d : SlotView) → get_or (set mid p s) k d ≡ get_or (insert ys p s) k d
   each k d = elim (cases_lt k p) [
     | inl less ↦
         get_or-set_other mid p k s d (λ same. absurd (omega (arith, same, less))) ∙ below k d (omega (arith, less))
@@ -69,29 +69,29 @@ module _ (xs mid : List Slot) (p g : ℕ) (s : Slot) (up : p ≤ g) (low : g < l
       (λ k d _. each k d)
 
 -- where a slot comes in that would stand at the gap
-abbrev pub IsWay : List Slot → ℕ → ℕ → Type 0
+abbrev pub IsWay : List SlotView → ℕ → ℕ → Type 0
 IsWay xs gap p = (p ≡ gap) ⊎ ((p + 1 ≡ gap) × HoldsAt IsGoneSlot xs p)
 
 -- a cyclic of this id, which would stand at the gap, comes in at p, and none is gone from there up to g
-pub record Comes (xs : List Slot) (id gap p g : ℕ) : Type 0 where
+pub record Comes (xs : List SlotView) (id gap p g : ℕ) : Type 0 where
   pub rises : Rises slot_id xs
   pub at : IsGap slot_id xs id gap
   pub way : IsWay xs gap p
   pub up : p ≤ g
   pub here : AllWithin IsHere xs p g
 
-module _ {xs : List Slot} {id gap p g : ℕ} (c : Comes xs id gap p g) where
+module _ {xs : List SlotView} {id gap p g : ℕ} (c : Comes xs id gap p g) where
   in_way : p ≤ gap
   in_way = elim c.way [ inl same ↦ omega (arith, same) | inr (next, gone) ↦ omega (arith, next) ]
 
-  before_way : (j : ℕ) (d : Slot) → j < p → (get_or xs j d).id < id
+  before_way : (j : ℕ) (d : SlotView) → j < p → (get_or xs j d).id < id
   before_way j d less = c.at.smaller_before j d (let w = in_way in omega (arith, less, w))
 
-  behind_way : (j : ℕ) (d : Slot) → p < j → j < length xs → id < (get_or xs j d).id
+  behind_way : (j : ℕ) (d : SlotView) → p < j → j < length xs → id < (get_or xs j d).id
   behind_way j d past low = c.at.greater_after j d
       (elim c.way [ inl same ↦ omega (arith, same, past) | inr (next, gone) ↦ omega (arith, next, past) ]) low
 
-  at_way : (j : ℕ) (d : Slot) → p ≤ j → j < g → j < length xs → id < (get_or xs j d).id
+  at_way : (j : ℕ) (d : SlotView) → p ≤ j → j < g → j < length xs → id < (get_or xs j d).id
   at_way j d from less low = elim (cases_lt p j) [
     | inl past ↦ behind_way j d past low
     | inr most ↦
@@ -118,14 +118,14 @@ module _ {xs : List Slot} {id gap p g : ℕ} (c : Comes xs id gap p g) where
     gap_left = let l = length-remove xs g low in record {
       in_range = omega (arith, l, c.up, low);
       smaller_before = λ j d less.
-          subst (λ (s : Slot). s.id < id) (sym (get_or-remove_below xs g d j (omega (arith, less, c.up)) low))
+          subst (λ (s : SlotView). s.id < id) (sym (get_or-remove_below xs g d j (omega (arith, less, c.up)) low))
           (before_way j d less);
       greater_after = λ j d from small. elim (cases_lt j g) [
         | inl less ↦
-            subst (λ (s : Slot). id < s.id) (sym (get_or-remove_below xs g d j less low))
+            subst (λ (s : SlotView). id < s.id) (sym (get_or-remove_below xs g d j less low))
             (at_way j d from less (omega (arith, less, low)))
         | inr most ↦
-            subst (λ (s : Slot). id < s.id) (sym (get_or-remove_above xs g d j most low))
+            subst (λ (s : SlotView). id < s.id) (sym (get_or-remove_above xs g d j most low))
             (behind_way (j + 1) d (omega (arith, from)) (omega (arith, l, small)))
       ];
     }
@@ -135,13 +135,13 @@ module _ {xs : List Slot} {id gap p g : ℕ} (c : Comes xs id gap p g) where
 
     rest_entries : entries_of (remove xs g) ≡ entries_of xs
     rest_entries = filter_map-append entry_of (take g xs) (drop (suc g) xs)
-        ∙ ap (λ (s : Slot). entries_of (take g xs) ++ entries_of (s ∷ drop (suc g) xs)) (sym gone_slot)
+        ∙ ap (λ (s : SlotView). entries_of (take g xs) ++ entries_of (s ∷ drop (suc g) xs)) (sym gone_slot)
         ∙ sym (split xs g some_slot low)
       where
         gone_slot : get_or xs g some_slot ≡ record { id = (get_or xs g some_slot).id; index = None }
         gone_slot = λ y. record { id = (get_or xs g some_slot).id; index = gone some_slot y }
 
-    pub comes_rises : (s : Slot) → s.id ≡ id → Rises slot_id (insert (remove xs g) p s)
+    pub comes_rises : (s : SlotView) → s.id ≡ id → Rises slot_id (insert (remove xs g) p s)
     comes_rises s same = rises_inserted slot_id (remove xs g) id p gap_left rest_rises s same
 
     pub comes_in : (i : ℕ) → (k : ℕ) × IsGap id_in (entries_of xs) id k

@@ -8,9 +8,9 @@ ghost use Rattle.cyc_finder.specs.Sorted.{IsAt, IsGap, IsNextAfter, IsPassed};
 ghost use Rattle.cyc_finder.specs.Indexes.{Entry, new_finder, hints, hint_at, id_in, index_of, IsIndexed};
 
 use crate::hints::Hints;
+use crate::slot::Slot;
 use crate::slots::{
-    First, Slot, after, first_with, first_without, make_way, next_here, position_of, put, quick,
-    sought,
+    First, after, first_with, first_without, make_way, next_here, position_of, put, quick, sought,
 };
 use crate::sorted::search_new;
 use cyc_types::{CyclicId, Index};
@@ -105,7 +105,7 @@ impl Finder {
         ensures { result ≡ index_of id self.now.entries }
     {
         match position_of(&self.slots, self.first.base, &self.hints, id) {
-            Some(position) => self.slots[position].index,
+            Some(position) => Some(self.slots[position].index_here()),
             None => None,
         }
     }
@@ -119,7 +119,7 @@ impl Finder {
             → ¬ IsAt id_in self.now.entries id (id - first.id)) }
     {
         match quick(&self.slots, self.first.base, &self.hints, id) {
-            Some(position) => self.slots[position].index,
+            Some(position) => Some(self.slots[position].index_here()),
             None => None,
         }
     }
@@ -134,7 +134,7 @@ impl Finder {
         match sought(&self.slots, &self.hints, id) {
             Ok(position) => {
                 self.hints.set(id, position);
-                self.slots[position].index
+                self.slots[position].index()
             }
             Err(_) => None,
         }
@@ -145,7 +145,7 @@ impl Finder {
         ensures { IsTrue result ↔ IsSome (index_of id self.now.entries) }
     {
         match search_new(&self.slots, id) {
-            Ok(position) => self.slots[position].index.is_some(),
+            Ok(position) => self.slots[position].is_here(),
             Err(_) => false,
         }
     }
@@ -165,10 +165,7 @@ impl Finder {
             return None;
         }
         let slot = self.slots[position];
-        match slot.index {
-            Some(index) => Some((slot.id, index)),
-            None => unreachable!(),
-        }
+        Some((slot.id(), slot.index_here()))
     }
 
     /// The id gets the index, which no other id has. Takes no memory. O(log n) on average where the id is above all that came,
@@ -204,10 +201,8 @@ impl Finder {
             unreachable!()
         };
         let slot = &mut self.slots[position];
-        let Some(index) = slot.index else {
-            unreachable!()
-        };
-        *slot = Slot { id, index: None };
+        let index = slot.index_here();
+        *slot = Slot::gone(id);
         first_without(&self.slots, &mut self.first, position);
         index
     }

@@ -21,7 +21,7 @@ fn reach<T: HasId>(things: &[T], id: CyclicId, middle: usize, lower: usize, uppe
     ensures { (IsUpTo T.id_of things.now id middle × (result ≡ upper))
         ⊎ (IsAbove T.id_of things.now id middle × (result ≡ lower)) }
 {
-    if things[middle].id().number() <= id.number() {
+    if things[middle].is_up_to(id) {
         upper
     } else {
         lower

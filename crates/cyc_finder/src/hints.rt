@@ -3,7 +3,7 @@
 ghost use Rattle.std.specs.Prelude.{◌≤◌, length};
 
 use crate::finder::{HINTS, hint_of};
-use crate::slots::Slot;
+use crate::slot::Slot;
 use cyc_types::CyclicId;
 use std::alloc::{AllocError, Global};
 
@@ -98,14 +98,14 @@ impl Hints {
         requires { to ≤ length slots.now }
     {
         for at in from..to.min(from.saturating_add(HINTS)) {
-            self.set(slots[at].id, at);
+            self.set(slots[at].id(), at);
         }
     }
 
     /// All slots are where they are.
     pub(crate) fn set_all(&mut self, slots: &[Slot]) {
         for at in 0..slots.len() {
-            self.set(slots[at].id, at);
+            self.set(slots[at].id(), at);
         }
     }
 }

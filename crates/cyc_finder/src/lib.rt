@@ -9,6 +9,7 @@
 pub mod finder;
 mod halving;
 mod hints;
+pub mod slot;
 pub mod slots;
 pub mod sorted;
 

@@ -3,29 +3,16 @@
 ghost use Rattle.std.specs.Prelude.{◌≡◌, ◌≢◌, ℕ, ◌+◌, ◌-◌, ◌<◌, ◌≤◌, ◌⊎◌, length, slice_index_or, None, Some};
 ghost use Rattle.std.specs.Prelude.{IfSome, IfNone, IfOk, IfErr};
 ghost use Rattle.std.specs.Prelude.{insert, remove, vec_capacity};
+ghost use Rattle.std.specs.Bool.{OnTrue, OnFalse};
 ghost use Rattle.std.specs.List.{AllWithin, HoldsAt, SameBelow};
 ghost use Rattle.cyc_finder.specs.Sorted.{Rises, IsAt, IsGap, IsPassed, ComesAfter};
 ghost use Rattle.cyc_finder.specs.Indexes.{id_in, index_of};
-ghost use Rattle.cyc_finder.specs.Slots.{slot_id, entries_of, IsGoneSlot, IsFirst};
+ghost use Rattle.cyc_finder.specs.Slots.{slot_id, entries_of, IsGoneSlot, IsHereSlot, IsHereAt, IsFirst};
 
 use crate::hints::Hints;
+use crate::slot::Slot;
 use crate::sorted::{HasId, is_above_all, search, search_unguessed, stands_at};
 use cyc_types::{CyclicId, Index};
-
-/// A cyclic that came: with its index while it is here, with none once it is gone.
-#[derive(Clone, Copy)]
-pub struct Slot {
-    pub(crate) id: CyclicId,
-    pub(crate) index: Option<Index>,
-}
-
-impl HasId for Slot {
-    ghost id_of = { λ slot. slot.id };
-
-    fn id(&self) -> CyclicId {
-        self.id
-    }
-}
 
 /// The first slot whose cyclic is here, and its id less its position: by this base an id is guessed.
 #[derive(Clone, Copy)]
@@ -34,19 +21,28 @@ pub struct First {
     pub(crate) base: u64,
 }
 
-/// Where the slot of this id stands, by two looks: as far from the base as its number says, and where it was last. None unless it
-/// stands at one of them. O(1).
+/// Whether the cyclic of this id is here and its slot stands at this position. O(1).
+#[inline(always)]
+fn is_here_at(slots: &[Slot], id: CyclicId, position: usize) -> bool
+    ensures there { OnTrue result (IsHereAt slots.now id position) }
+    ensures elsewhere { OnFalse result (¬ IsHereAt slots.now id position) }
+{
+    position < slots.len() && slots[position].is_of(id)
+}
+
+/// Where the slot of this id stands, by two looks: as far from the base as its number says, and where it was last. None unless
+/// its cyclic is here and it stands at one of them. O(1).
 #[inline(always)]
 pub(crate) fn quick(slots: &[Slot], base: u64, hints: &Hints, id: CyclicId) -> Option<usize>
-    ensures some { IfSome result (IsAt slot_id slots.now id) }
-    ensures none { IfNone result (base ≤ id → ¬ IsAt slot_id slots.now id (id - base)) }
+    ensures some { IfSome result (IsHereAt slots.now id) }
+    ensures none { IfNone result (base ≤ id → ¬ IsHereAt slots.now id (id - base)) }
 {
     let guessed = id.number().wrapping_sub(base);
-    if guessed < slots.len() as u64 && stands_at(slots, id, guessed as usize) {
+    if guessed < slots.len() as u64 && is_here_at(slots, id, guessed as usize) {
         return Some(guessed as usize);
     }
     let hinted = hints.near(id);
-    if stands_at(slots, id, hinted) {
+    if is_here_at(slots, id, hinted) {
         return Some(hinted);
     }
     None
@@ -67,31 +63,36 @@ pub(crate) fn sought(slots: &[Slot], hints: &Hints, id: CyclicId) -> Result<usiz
     search_unguessed(slots, id)
 }
 
-/// As `sought`, by a call, so that what calls it keeps no registers for it.
+/// As `sought`, of a cyclic that is here, by a call, so that what calls it keeps no registers for it.
 #[cold]
 #[inline(never)]
-fn sought_apart(slots: &[Slot], hints: &Hints, id: CyclicId) -> Result<usize, usize>
+fn sought_here(slots: &[Slot], hints: &Hints, id: CyclicId) -> Option<usize>
     requires { Rises slot_id slots.now }
-    ensures found { IfOk result (IsAt slot_id slots.now id) }
-    ensures absent { IfErr result (IsGap slot_id slots.now id) }
+    ensures some { IfSome result (IsHereAt slots.now id) }
+    ensures none { IfNone result (index_of id (entries_of slots.now) ≡ None) }
 {
-    sought(slots, hints, id)
+    match sought(slots, hints, id) {
+        Ok(position) => {
+            if !slots[position].is_here() {
+                return None;
+            }
+            Some(position)
+        }
+        Err(_) => None,
+    }
 }
 
-/// Where the slot of this id stands, by `quick` and then as `sought`. None where there is none.
+/// Where the slot of this id stands, by `quick` and then as `sought`. None where its cyclic is not here.
 #[inline(always)]
 pub(crate) fn position_of(slots: &[Slot], base: u64, hints: &Hints, id: CyclicId) -> Option<usize>
     requires { Rises slot_id slots.now }
-    ensures some { IfSome result (IsAt slot_id slots.now id) }
-    ensures none { IfNone result ((k : ℕ) × IsGap slot_id slots.now id k) }
+    ensures some { IfSome result (IsHereAt slots.now id) }
+    ensures none { IfNone result (index_of id (entries_of slots.now) ≡ None) }
 {
     if let Some(position) = quick(slots, base, hints, id) {
         return Some(position);
     }
-    match sought_apart(slots, hints, id) {
-        Ok(position) => Some(position),
-        Err(_) => None,
-    }
+    sought_here(slots, hints, id)
 }
 
 /// The first position from this one on whose cyclic is here, behind the last where there is none.
@@ -100,10 +101,10 @@ pub(crate) fn next_here(slots: &[Slot], from: usize) -> usize
     ensures after { from ≤ result }
     ensures within { result ≤ length slots.now }
     ensures gone { AllWithin IsGoneSlot slots.now from result }
-    ensures here { result < length slots.now → HoldsAt (λ slot. slot.index ≢ None) slots.now result }
+    ensures here { result < length slots.now → HoldsAt IsHereSlot slots.now result }
 {
     let mut position = from;
-    while position < slots.len() && slots[position].index.is_none() {
+    while position < slots.len() && !slots[position].is_here() {
         position += 1;
     }
     position
@@ -135,7 +136,7 @@ fn base_at(slots: &[Slot], position: usize) -> u64
     ensures { position < length slots.now → HoldsAt (λ slot. result + position ≡ slot.id) slots.now position }
 {
     if position < slots.len() {
-        slots[position].id.number() - position as u64
+        slots[position].number() - position as u64
     } else {
         0
     }
@@ -174,7 +175,7 @@ pub(crate) fn first_without(slots: &[Slot], first: &mut First, position: usize)
 pub(crate) fn first_with(slots: &[Slot], first: &mut First, position: usize)
     requires rises { Rises slot_id slots.now }
     requires within { position < length slots.now }
-    requires here { HoldsAt (λ slot. slot.index ≢ None) slots.now position }
+    requires here { HoldsAt IsHereSlot slots.now position }
     requires gone { position ≤ first.old.position → AllWithin IsGoneSlot slots.now 0 position }
     requires other { first.old.position < position → IsFirst slots.now first.old }
     ensures { IsFirst slots.now first.new }
@@ -201,7 +202,7 @@ fn pack(slots: &mut Vec<Slot>, position: usize)
     for at in position..slots.len() {
         let slot = slots[at];
         slots[kept] = slot;
-        kept += slot.index.is_some() as usize;
+        kept += slot.is_here() as usize;
     }
     slots.truncate(kept);
 }
@@ -261,8 +262,7 @@ pub(crate) fn put(slots: &mut Vec<Slot>, hints: &mut Hints, id: CyclicId, index:
         return put_between(slots, hints, id, index);
     }
     let position = slots.len();
-    let index = Some(index);
-    slots.push_reserved(Slot { id, index });
+    slots.push_reserved(Slot::here(id, index));
     hints.set(id, position);
     position
 }
@@ -272,11 +272,11 @@ fn next_gone(slots: &[Slot], from: usize) -> usize
     requires { from ≤ length slots.now }
     ensures after { from ≤ result }
     ensures within { result ≤ length slots.now }
-    ensures here { AllWithin (λ slot. slot.index ≢ None) slots.now from result }
+    ensures here { AllWithin IsHereSlot slots.now from result }
     ensures gone { result < length slots.now → HoldsAt IsGoneSlot slots.now result }
 {
     let mut position = from;
-    while position < slots.len() && slots[position].index.is_some() {
+    while position < slots.len() && slots[position].is_here() {
         position += 1;
     }
     position
@@ -288,7 +288,7 @@ fn way_in(slots: &[Slot], gap: usize) -> usize
     requires { gap ≤ length slots.now }
     ensures { (result ≡ gap) ⊎ ((result + 1 ≡ gap) × HoldsAt IsGoneSlot slots.now result) }
 {
-    if gap > 0 && slots[gap - 1].index.is_none() {
+    if gap > 0 && !slots[gap - 1].is_here() {
         return gap - 1;
     }
     gap
@@ -324,10 +324,7 @@ fn put_between(slots: &mut Vec<Slot>, hints: &mut Hints, id: CyclicId, index: In
     ensures before { SameBelow slots.old.items slots.new.items result }
     ensures capacity { vec_capacity slots.old ≤ vec_capacity slots.new }
 {
-    let slot = Slot {
-        id,
-        index: Some(index),
-    };
+    let slot = Slot::here(id, index);
     match search(slots, id) {
         Ok(position) => {
             slots[position] = slot;

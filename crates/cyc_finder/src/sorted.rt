@@ -1,7 +1,7 @@
 //! The look-up by id among things by rising id.
 
-ghost use Rattle.std.specs.Prelude.{◌≡◌, ℕ, ◌-◌, ◌<◌, ◌≤◌, length, Some, IfOk, IfErr, IfSome, IfNone};
-ghost use Rattle.std.specs.Bool.{OnTrue, OnFalse};
+ghost use Rattle.std.specs.Prelude.{◌≡◌, ℕ, ◌-◌, ◌<◌, ◌≤◌, ◌↔◌, length, Some, IfOk, IfErr, IfSome, IfNone};
+ghost use Rattle.std.specs.Bool.{IsTrue, OnTrue, OnFalse};
 ghost use Rattle.std.specs.List.{slice_get};
 ghost use Rattle.cyc_finder.specs.Sorted.{Rises, IsAt, IsGap};
 ghost use Rattle.cyc_finder.specs.Halving.{IsIn};
@@ -13,9 +13,13 @@ use cyc_types::CyclicId;
 pub trait HasId {
     ghost id_of: { Self → ℕ };
 
-    /// The id, which never changes.
-    fn id(&self) -> CyclicId
+    /// The number of its id, which never changes.
+    fn number(&self) -> u64
         ensures { result ≡ id_of self.now };
+
+    /// Whether its id is at most this one.
+    fn is_up_to(&self, id: CyclicId) -> bool
+        ensures { IsTrue result ↔ (id_of self.now ≤ id) };
 }
 
 /// The most things among which a look-up halves in a loop.
@@ -28,7 +32,7 @@ fn distance<T: HasId>(things: &[T], id: CyclicId) -> u64
     requires { 0 < length things.now }
     ensures { (first : T) → slice_get things.now 0 ≡ Some first → T.id_of first ≤ id → result ≡ id - T.id_of first }
 {
-    id.number().wrapping_sub(things[0].id().number())
+    id.number().wrapping_sub(things[0].number())
 }
 
 /// Whether the thing of this id stands at this position. O(1).
@@ -37,7 +41,7 @@ pub fn stands_at<T: HasId>(things: &[T], id: CyclicId, position: usize) -> bool
     ensures there { OnTrue result (IsAt T.id_of things.now id position) }
     ensures elsewhere { OnFalse result (¬ IsAt T.id_of things.now id position) }
 {
-    position < things.len() && things[position].id().number() == id.number()
+    position < things.len() && things[position].number() == id.number()
 }
 
 /// Where the thing of this id stands, by one look, as far from the first as the id is from its id: None unless it stands there.
@@ -79,7 +83,7 @@ pub(crate) fn is_above_all<T: HasId>(things: &[T], id: CyclicId) -> bool
     ensures { OnTrue result (IsGap T.id_of things.now id (length things.now)) }
 {
     match things.last() {
-        Some(last) => last.id().number() < id.number(),
+        Some(last) => last.number() < id.number(),
         None => true,
     }
 }
@@ -125,7 +129,7 @@ fn settled<T: HasId>(things: &[T], id: CyclicId, run: Run) -> Result<usize, usiz
     ensures found { IfOk result (IsAt T.id_of things.now id) }
     ensures absent { IfErr result (IsGap T.id_of things.now id) }
 {
-    let there = things[run.base].id().number();
+    let there = things[run.base].number();
     if there == id.number() {
         return Ok(run.base);
     }

@@ -28,8 +28,12 @@ struct RecordId {
 impl HasId for RecordId {
     ghost id_of = { λ kept. kept.id };
 
-    fn id(&self) -> CyclicId {
-        self.id
+    fn number(&self) -> u64 {
+        self.id.number()
+    }
+
+    fn is_up_to(&self, id: CyclicId) -> bool {
+        self.id.number() <= id.number()
     }
 }
 

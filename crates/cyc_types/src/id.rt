@@ -45,6 +45,14 @@ impl CyclicId {
         }
     }
 
+    /// The id of a number that is known to be one: no look is taken at it.
+    pub fn from_valid(number: u64) -> CyclicId
+        requires { (0 < number) × (number ≤ last_id) }
+        ensures { result ≡ number }
+    {
+        CyclicId { number }
+    }
+
     /// The number, from 1 to `LAST_ID`.
     pub fn number(self) -> u64
         ensures value { result ≡ self }

@@ -4,13 +4,13 @@ use Rattle.cyc_finder.proofs.Here.{far}
 use Rattle.cyc_finder.proofs.slots.after.Goals as goal
 
 pub returns-in-Some-quick-clause-before : goal.returns-in-Some-quick-clause-before
-returns-in-Some-quick-clause-before c k d from low = let at = c.in-Some-quick.ensures.some in
+returns-in-Some-quick-clause-before c k d from low = let at = c.in-Some-quick.ensures.some.at in
     let f = far c.args.slots.now c.requires (c.in-Some-quick.position - k) k c.in-Some-quick.position d (omega (arith, low))
     at.in_range in
     let i = at.has_id d in subst (λ o. IsPassed o (get_or c.args.slots.now k d).id) (sym c.in-Some.is) (omega (arith, f, i))
 
 pub returns-in-Some-quick-clause-from : goal.returns-in-Some-quick-clause-from
-returns-in-Some-quick-clause-from c k d from low = let at = c.in-Some-quick.ensures.some in
+returns-in-Some-quick-clause-from c k d from low = let at = c.in-Some-quick.ensures.some.at in
     let f = far c.args.slots.now c.requires (k - c.in-Some-quick.position) c.in-Some-quick.position k d (omega (arith, from))
     low in
     let i = at.has_id d in

@@ -13,9 +13,9 @@ loop-at-init c = packs_from c.args.slots.now.items c.args.position c.requires.wi
 pub loop-at-preserved : goal.loop-at-preserved
 loop-at-preserved c = let i = c.loop-at.invariant in
     packs_on c.args.slots.now.items c.loop-at.slots.items c.loop-at.kept c.loop-at.at i
-    (let t = c.loop-at-test.true in let long = i.long in omega (arith, t, long)) c.index.result.now c.index.ensures
+    (let t = c.loop-at-test.true in let long = i.long in omega (arith, t, long)) c.index-slot.result.now c.index-slot.ensures
     _
-    (let e = c.is_some.ensures in grind (arith, common_steps, e))
+    (let e = c.is_here.ensures in grind (arith, common_steps, e))
 
 -- what is left is what is here
 pub returns-clause-entries : goal.returns-clause-entries

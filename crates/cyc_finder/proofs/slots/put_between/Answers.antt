@@ -1,6 +1,6 @@
-use Rattle.std.proofs.Common.{◌≡◌, ◌<◌, length, sym, ap, ◌∙◌, subst, refl, arith, Some}
-use Rattle.std.specs.List.{insert, AllWithin, HoldsAt}
-use Rattle.cyc_finder.specs.declared.slots.Slot.{Slot}
+use Rattle.std.proofs.Common.{◌≡◌, ◌<◌, length, set, sym, ap, ◌∙◌, subst, arith}
+use Rattle.std.specs.List.{insert, remove, AllWithin, HoldsAt}
+use Rattle.cyc_finder.specs.Slots.{SlotView}
 use Rattle.cyc_finder.specs.Sorted.{Rises, IsAt, IsGap}
 use Rattle.cyc_finder.specs.Slots.{slot_id, entries_of, IsGoneSlot}
 use Rattle.cyc_finder.proofs.RisingIds.{rises_inserted}
@@ -13,8 +13,8 @@ returns-in-Ok-clause-entries c = let xs = c.args.slots.now.items in let id = c.a
     let at = subst (λ ys. IsAt slot_id ys id p) c.deref.ensures.value c.in-Ok.ensures.found in
     let gone = gone_is xs c.requires.rises id p at c.requires.absent in (
       rank xs p,
-      gap_gone xs c.requires.rises id p at (ap (λ (s : Slot). s.index) (gone some_slot)),
-      come_again xs p id c.args.index at.in_range gone,
+      gap_gone xs c.requires.rises id p at (ap (λ (s : SlotView). s.index) (gone some_slot)),
+      ap (λ s. entries_of (set xs p s)) c.here-slot.ensures ∙ come_again xs p id c.args.index at.in_range gone,
     )
 
 -- over the slot of one that is gone
@@ -40,11 +40,17 @@ module _ (c : goal.After-set_few) where
 
 pub returns-then-gone-len-clause-rises : goal.returns-then-gone-len-clause-rises
 returns-then-gone-len-clause-rises c = subst (Rises slot_id) (sym c.move_up.ensures.items)
-    (comes_rises (over c) (low c) (gone c) (record { id = c.args.id; index = Some c.args.index }) refl)
+    (comes_rises (over c) (low c) (gone c) c.here-slot.result (ap slot_id c.here-slot.ensures))
 
 pub returns-then-gone-len-clause-entries : goal.returns-then-gone-len-clause-entries
-returns-then-gone-len-clause-entries c = let (k, none, is) = comes_in (over c) (low c) (gone c) c.args.index in
-    (k, none, ap entries_of c.move_up.ensures.items ∙ is)
+returns-then-gone-len-clause-entries c = let (k, none, is) = comes_in (over c) (low c) (gone c) c.args.index in (
+  k,
+  none,
+  ap entries_of c.move_up.ensures.items
+      ∙ ap (λ s. entries_of (insert (remove c.args.slots.now.items c.next_gone-gone.result) c.way_in-position.result s))
+      c.here-slot.ensures
+      ∙ is,
+)
 
 -- behind all that are here, none of which is gone from there on
 module _ (c : goal.After-set_few-in-Err) where
@@ -64,14 +70,18 @@ module _ (c : goal.After-set_few-in-Err) where
       gap_whole behind (omega (arith, up, w, long)) (omega (arith, t, long, len))
 
   items : c.insert.new.self.items
-      ≡ insert c.args.slots.now.items c.way_in-position.result (record { id = c.args.id; index = Some c.args.index })
+      ≡ insert c.args.slots.now.items c.way_in-position.result c.here-slot.result
   items = rw (c.insert.ensures.succeeds (let f = c.requires.fits in omega (arith, f))) at c.insert.ensures.items
 
 pub returns-else-gone-len-clause-rises : goal.returns-else-gone-len-clause-rises
 returns-else-gone-len-clause-rises c = let xs = c.args.slots.now.items in let p = c.way_in-position.result in
     subst (Rises slot_id) (sym (items c))
-    (rises_inserted slot_id xs c.args.id p (gap c) c.requires.rises (record { id = c.args.id; index = Some c.args.index }) refl)
+    (rises_inserted slot_id xs c.args.id p (gap c) c.requires.rises c.here-slot.result (ap slot_id c.here-slot.ensures))
 
 pub returns-else-gone-len-clause-entries : goal.returns-else-gone-len-clause-entries
-returns-else-gone-len-clause-entries c = let xs = c.args.slots.now.items in let p = c.way_in-position.result in
-    (rank xs p, gap_is xs c.requires.rises c.args.id p (gap c), ap entries_of (items c) ∙ come xs p c.args.id c.args.index)
+returns-else-gone-len-clause-entries c = let xs = c.args.slots.now.items in let p = c.way_in-position.result in (
+  rank xs p,
+  gap_is xs c.requires.rises c.args.id p (gap c),
+  ap entries_of (items c)
+      ∙ ap (λ s. entries_of (insert xs p s)) c.here-slot.ensures ∙ come xs p c.args.id c.args.index,
+)

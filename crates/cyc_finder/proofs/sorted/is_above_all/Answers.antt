@@ -18,7 +18,7 @@ returns-in-Some g c =
           let at = ap id_of (it.1 d) in let up = c.requires j end d in
           let same : (j ≡ end) → id_of (get_or things j d) ≡ id_of (get_or things end d)
           = λ e. ap (λ k. id_of (get_or things k d)) e in
-          let i = c.id.ensures in let n = c.number.ensures.value in let m = c.number-in-Some.ensures.value in let some = it.0 in
-          grind (arith, at, up, same, less, i, n, m, some, low);
+          let n = c.number.ensures in let m = c.number-in-Some.ensures.value in let some = it.0 in
+          grind (arith, at, up, same, less, n, m, some, low);
       greater_after = λ j d past low. absurd (omega (arith, past, low));
     })
