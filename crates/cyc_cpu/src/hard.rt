@@ -203,7 +203,7 @@ impl<R: Raise> Hard<R> {
             return Err(Refusal::NoCyclic);
         }
         if let Some(index) = self.table.soon(id) {
-            self.table.reprogram(index, moment);
+            self.table.reprogram(id, index, moment);
             return Ok(());
         }
         if self.reprogram_anew(id, moment) {
@@ -223,7 +223,7 @@ impl<R: Raise> Hard<R> {
     {
         match self.table.seek(id) {
             Some(index) => {
-                self.table.reprogram(index, moment);
+                self.table.reprogram(id, index, moment);
                 true
             }
             None => false,

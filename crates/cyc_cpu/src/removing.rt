@@ -54,7 +54,7 @@ impl<R: Raise> Hard<R> {
         let kept = self.table.record(index);
         let left = remove_at(id, kept.level, &mut self.lock, &mut self.low);
         if left > 0 {
-            self.table.reprogram(index, Moment::NEVER);
+            self.table.reprogram(id, index, Moment::NEVER);
             self.removal = Some(id);
             return Ok(Removal::Kept(left));
         }

@@ -11,12 +11,16 @@ use Rattle.cyc_types.specs.Limits.{cyclics}
 use Rattle.cyc_types.specs.Series.{never}
 use Rattle.cyc_types.specs.Expirations.{Expiration, is_before}
 use Rattle.cyc_heap.specs.declared.entry.Entry.{Entry}
-use Rattle.cyc_heap.specs.Tournament.{key, entry_at, cyclic_index, slot, slots, comes, last_position, winner_of, IsPlayed}
+use Rattle.cyc_heap.specs.Tournament.{key, entry_at, id_in_word, cyclic_index, slot, slots, comes, last_position, winner_of}
+use Rattle.cyc_heap.specs.Tournament.{IsPlayed}
 use Rattle.cyc_heap.specs.Few.{IsFew, IsTournament, first_index, root_of, extent}
-use Rattle.cyc_heap.specs.Heap.{HeapView, size_of, used_count, expiration_at, expiration_moved, slots_moved, IsLeast}
+use Rattle.cyc_heap.specs.Heap.{HeapView, size_of, used_count, expiration_at, expiration_moved, slots_moved, IsLeast, IsOf}
 use Rattle.cyc_heap.proofs.Slots.{length-slots, slots_at, slot_used, slot_free, slots_more, count_with_free}
 use Rattle.cyc_heap.proofs.Playing.{comes_by_moment, least_of_all, one_of_all}
 use Rattle.cyc_heap.proofs.Moving.{first_least}
+
+pub used_of : (v : HeapView) (id i : ℕ) → IsOf v id i → IsSome (expiration_at v i)
+used_of v id i (e, holds, named) = subst IsSome (sym holds) refl
 
 abbrev pub view_of : Bool → List Entry → ℕ → ℕ → List Entry → ℕ → HeapView
 view_of is_few few leaves size xs room = record { slots = slots size xs; root = root_of is_few few leaves xs; room = room }
@@ -179,6 +183,13 @@ module _ (is_few : Bool) (few : List Entry) (leaves size given : ℕ) (xs : List
         ap (expiration_at v) own ∙ at_used i low used ∙ ap (λ (e : Entry). Some (key e)) here,
         own,
       )
+
+  -- the leaf of an index has the id of its cyclic
+  pub leaf_named : (id i : ℕ) (x : Entry) → IsOf v id i → entry_at xs i ≡ x → id_in_word x ≡ id
+  leaf_named id i x (e, holds, named) here =
+      let (has, own) = leaf_held i x (used_of v id i (e, holds, named)) here in
+      let same : Some (key x) ≡ Some e = sym has ∙ ap (expiration_at v) own ∙ holds in
+      let same_key : key x ≡ e = cc in ap (λ (e : Expiration). e.id) same_key ∙ named
 
   -- the leaf before all is what its index has
   pub top_used : (x : Entry) → IsTop leaves xs x → x.moment ≤ never → expiration_at v (cyclic_index x) ≡ Some (key x)

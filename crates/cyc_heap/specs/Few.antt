@@ -50,6 +50,10 @@ pub record IsFilled (position : ℕ) (old : List Entry) (e : Entry) (few : List 
 abbrev pub HasNoIndex : ℕ → List Entry → Type 0
 HasNoIndex i few = (p : ℕ) → p < length few → cyclic_index (entry_at few p) ≢ i
 
+-- none of them has this word
+abbrev pub HasNoWord : ℕ → List Entry → Type 0
+HasNoWord word few = (p : ℕ) → p < length few → (entry_at few p).word ≢ word
+
 -- each of them is the leaf of its index
 abbrev pub StandsIn : List Entry → List Entry → Type 0
 StandsIn entries few = (p : ℕ) → p < length few → entry_at entries (cyclic_index (entry_at few p)) ≡ entry_at few p

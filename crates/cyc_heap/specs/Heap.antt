@@ -38,6 +38,10 @@ slots_moved slots i m = slice_set slots i (option_map (expiration_moved m) (slic
 abbrev pub pair_of : Expiration → ℕ × ℕ
 pair_of e = (e.moment, e.id)
 
+-- the index is of the cyclic of this id
+abbrev pub IsOf : HeapView → ℕ → ℕ → Type 0
+IsOf heap id i = (e : Expiration) × (expiration_at heap i ≡ Some e) × (e.id ≡ id)
+
 -- no index is in use
 abbrev pub IsEmptyHeap : HeapView → Type 0
 IsEmptyHeap heap = (i : ℕ) → expiration_at heap i ≡ None

@@ -3,13 +3,13 @@
 ghost use Rattle.std.specs.Prelude.{◌≡◌, ◌≢◌, ◌<◌, ◌≤◌, ◌+◌, ◌-◌, ◌*◌, ℕ, length, vec_capacity, true, false};
 ghost use Rattle.cyc_types.specs.Limits.{cyclics};
 ghost use Rattle.cyc_types.specs.Series.{never};
-ghost use Rattle.cyc_heap.specs.Tournament.{entry_at, cyclic_index, free_entry};
+ghost use Rattle.cyc_heap.specs.Tournament.{entry_at, id_in_word, cyclic_index, free_entry};
 ghost use Rattle.cyc_heap.specs.Few.{shown, IsTree, IsChanged};
 
 use crate::entry::Entry;
-use crate::few::{find, put, put_first, replace};
+use crate::few::{find, find_word, put, put_first, replace};
 use crate::games::enter;
-use cyc_types::{Index, Moment};
+use cyc_types::{CyclicId, Index, Moment};
 
 /// The entry with another moment.
 fn at_moment(entry: &Entry, moment: Moment) -> Entry
@@ -40,10 +40,18 @@ pub(crate) fn lower_first(entries: &mut Vec<Entry>, held: usize, leaves: usize, 
 }
 
 /// One of the few has another moment.
-fn change_few(entries: &mut Vec<Entry>, held: usize, leaves: usize, index: Index, moment: Moment)
+fn change_few(
+    entries: &mut Vec<Entry>,
+    held: usize,
+    leaves: usize,
+    id: CyclicId,
+    index: Index,
+    moment: Moment,
+)
     requires leaves { leaves ≤ cyclics }
     requires index { index < leaves }
     requires used { (entry_at (shown true held entries.old.items) index).moment ≤ never }
+    requires id { id_in_word (entry_at (shown true held entries.old.items) index) ≡ id }
     requires tree { IsTree true held leaves entries.old.items }
     ensures tree { IsTree true held leaves entries.new.items }
     ensures changed { IsChanged leaves index (record (entry_at (shown true held entries.old.items) index) { moment = moment })
@@ -51,8 +59,8 @@ fn change_few(entries: &mut Vec<Entry>, held: usize, leaves: usize, index: Index
     ensures valid { moment ≤ never }
     ensures room { vec_capacity entries.new ≡ vec_capacity entries.old }
 {
-    let position = find(&entries.as_slice()[..held], index).unwrap();
-    let entry = at_moment(&entries[position], moment);
+    let entry = Entry::new(moment, id, index);
+    let position = find_word(&entries.as_slice()[..held], entry.word).unwrap();
     replace(entries, held, position, entry);
 }
 
@@ -73,18 +81,20 @@ pub(crate) fn change_many(entries: &mut Vec<Entry>, leaves: usize, index: Index,
     enter(entries, leaves, leaf, entry);
 }
 
-/// The expiration of this index has another moment.
+/// The expiration of this id and index has another moment.
 pub(crate) fn change(
     entries: &mut Vec<Entry>,
     is_few: bool,
     held: usize,
     leaves: usize,
+    id: CyclicId,
     index: Index,
     moment: Moment,
 )
     requires leaves { leaves ≤ cyclics }
     requires index { index < leaves }
     requires used { (entry_at (shown is_few held entries.old.items) index).moment ≤ never }
+    requires id { id_in_word (entry_at (shown is_few held entries.old.items) index) ≡ id }
     requires many { is_few ≡ false → held ≡ 0 }
     requires tree { IsTree is_few held leaves entries.old.items }
     ensures tree { IsTree is_few held leaves entries.new.items }
@@ -94,7 +104,7 @@ pub(crate) fn change(
     ensures room { vec_capacity entries.new ≡ vec_capacity entries.old }
 {
     if is_few {
-        change_few(entries, held, leaves, index, moment);
+        change_few(entries, held, leaves, id, index, moment);
     } else {
         change_many(entries, leaves, index, moment);
     }

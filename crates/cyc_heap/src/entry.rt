@@ -49,7 +49,7 @@ impl Word {
         }
     }
 
-    fn bits(self) -> u64
+    pub(crate) fn bits(self) -> u64
         ensures value { result ≡ self }
     {
         self.bits
@@ -58,7 +58,7 @@ impl Word {
     fn id(self) -> CyclicId
         ensures { result ≡ self / cyclics }
     {
-        CyclicId::new(self.bits / BASE).unwrap()
+        CyclicId::from_valid(self.bits / BASE)
     }
 
     fn index(self) -> Index

@@ -3,16 +3,14 @@
 
 ghost use Rattle.std.specs.Prelude.{◌≡◌, ◌≢◌, ◌≤◌, ◌⊎◌, ℕ, ◌+◌, ◌*◌, ◌<◌, length, take, drop, vec_capacity, true, IfSome, IfNone};
 ghost use Rattle.cyc_heap.specs.Tournament.{entry_at, cyclic_index, comes};
-ghost use Rattle.cyc_heap.specs.Few.{IsHeap, IsHeapBut, IsBelow, IsSame, IsFilled, HasNoIndex};
+ghost use Rattle.cyc_heap.specs.Few.{IsHeap, IsHeapBut, IsBelow, IsSame, IsFilled, HasNoIndex, HasNoWord};
 
-use crate::entry::Entry;
+use crate::entry::{Entry, Word};
 use cyc_types::Index;
 
-/// The position of the entry of this index, None where there is none (the walk of `cyclic_remove_here` and
-/// `cyclic_reprogram_here`).
+/// The position of the entry of this index, None where there is none (the walk of `cyclic_remove_here`).
 ///
-/// It looks at the last one first: one that is armed again and again mostly expires after all others, and then stands behind
-/// them.
+/// It looks at the last one first: one that came last, and one that expires after all others, mostly stands behind them.
 pub(crate) fn find(few: &[Entry], index: Index) -> Option<usize>
     ensures none { IfNone result (HasNoIndex index few.now) }
     ensures some { IfSome result (λ p. (p < length few.now) × (cyclic_index (entry_at few.now p) ≡ index)) }
@@ -21,6 +19,16 @@ pub(crate) fn find(few: &[Entry], index: Index) -> Option<usize>
         return Some(few.len() - 1);
     }
     few.iter().position(|entry| entry.is_of(index))
+}
+
+/// The position of the entry of this word, None where there is none (the walk of `cyclic_reprogram_here`). A step that compares
+/// whole words is cheaper than one of `find`.
+pub(crate) fn find_word(few: &[Entry], word: Word) -> Option<usize>
+    ensures none { IfNone result (HasNoWord word few.now) }
+    ensures some { IfSome result (λ p. (p < length few.now) × ((entry_at few.now p).word ≡ word)) }
+{
+    few.iter()
+        .position(|entry| entry.word.bits() == word.bits())
 }
 
 /// The position below this one whose entry expires first, of a position that has one below it.

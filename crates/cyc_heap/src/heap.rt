@@ -11,7 +11,7 @@ ghost use Rattle.cyc_types.specs.Series.{never};
 ghost use Rattle.cyc_heap.specs.Tournament.{key, cyclic_index, entry_at, free_entry, slots, IsPlayed};
 ghost use Rattle.cyc_heap.specs.Few.{most_few, root_position, shown, IsTree};
 ghost use Rattle.cyc_heap.specs.Heap.{HeapView, new_heap, size_of, used_count, expiration_at, slots_moved, pair_of};
-ghost use Rattle.cyc_heap.specs.Heap.{IsEmptyHeap, IsLeast};
+ghost use Rattle.cyc_heap.specs.Heap.{IsEmptyHeap, IsLeast, IsOf};
 
 use crate::between::{few_at_most, gather, play_few};
 use crate::changes::{add, change, change_many, lower_first, take};
@@ -178,8 +178,11 @@ impl ExpiryHeap {
         ensures least { IfSome result (λ found. IsLeast self.now found.0 (record { moment = now - found.1; id = found.2 })) }
     {
         let first = self.first();
-        let ago = now.nanoseconds().checked_sub(first.moment)?;
-        Some((first.index(), ago, first.id()))
+        let now = now.nanoseconds();
+        if now < first.moment {
+            return None;
+        }
+        Some((first.index(), now - first.moment, first.id()))
     }
 
     /// The entry at the root, which may be that of a free index.
@@ -214,11 +217,22 @@ impl ExpiryHeap {
         ensures slots { self.new.slots ≡ slots_moved self.old.slots index moment }
         ensures room { self.new.room ≡ self.old.room }
     {
+        let id = self.leaf(index).id();
+        self.replace_of(id, index, moment);
+    }
+
+    /// As `replace`, where it is known of which id the index is: among few that one is found the sooner.
+    pub fn replace_of(&mut self, id: CyclicId, index: Index, moment: Moment)
+        requires { IsOf self.old id index }
+        ensures slots { self.new.slots ≡ slots_moved self.old.slots index moment }
+        ensures room { self.new.room ≡ self.old.room }
+    {
         change(
             &mut self.entries,
             self.is_few,
             self.held,
             self.leaves,
+            id,
             index,
             moment,
         );

@@ -208,17 +208,17 @@ impl Table {
         self.records[number]
     }
 
-    /// Gives the cyclic with this index of `find` another next expiration, earlier or later (`cyclic_reprogram_cyclic`).
-    /// O(log n), and takes no memory.
-    pub fn reprogram(&mut self, index: Index, moment: Moment)
-        requires here { (k : ℕ) × (r : Row) × IsRow self.old.rows k r × (r.index ≡ index) }
+    /// Gives the cyclic with this id, and this index of `find`, another next expiration, earlier or later
+    /// (`cyclic_reprogram_cyclic`). O(log n), and takes no memory.
+    pub fn reprogram(&mut self, id: CyclicId, index: Index, moment: Moment)
+        requires here { (k : ℕ) × (r : Row) × IsRow self.old.rows k r × (r.timer.id ≡ id) × (r.index ≡ index) }
         requires moment { moment ≤ never }
         ensures rows { (k : ℕ) (r : Row) → IsRow self.old.rows k r → r.index ≡ index
             → self.new.rows ≡ slice_set self.old.rows k (at_moment moment r) }
         ensures size { self.new.size ≡ self.old.size }
         ensures room { self.new.room ≡ self.old.room }
     {
-        self.heap.replace(index, moment);
+        self.heap.replace_of(id, index, moment);
     }
 
     /// Takes out the cyclic of this id; its index is free from now on (`cyclic_remove_here`). O(log n), and takes no memory.
