@@ -17,27 +17,18 @@ pub struct CyclicCpu {
 }
 
 impl CyclicCpu {
-    fn closed() -> CyclicCpu
-        ensures { result.inner.held ≡ None }
-    {
-        CyclicCpu {
-            inner: Sealed::none(),
-            open: false,
-        }
-    }
-
     /// Takes the CPU out of the handle, which is closed meanwhile. None where it is closed.
     pub(crate) fn take(&mut self, alloc: Global) -> Option<Box<Cpu>>
         ensures some { IfSome result (λ cpu. self.old.inner.held ≡ Some cpu.value) }
         ensures none { IfNone result (self.old.inner.held ≡ None) }
         ensures closed { self.new.inner.held ≡ None }
     {
-        let CyclicCpu { inner, open } = std::mem::replace(self, CyclicCpu::closed());
-        if open {
-            Some(inner.into_loose(alloc).into_box())
-        } else {
-            None
+        if !self.open {
+            return None;
         }
+        self.open = false;
+        let inner = std::mem::replace(&mut self.inner, Sealed::none());
+        Some(inner.into_loose(alloc).into_box())
     }
 
     /// Puts the CPU into the handle.

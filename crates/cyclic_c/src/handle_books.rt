@@ -19,15 +19,6 @@ pub struct CyclicBooks {
 }
 
 impl CyclicBooks {
-    fn closed() -> CyclicBooks
-        ensures { result.inner.held ≡ None }
-    {
-        CyclicBooks {
-            inner: SealedBooks::none(),
-            open: false,
-        }
-    }
-
     /// Takes it out of the handle, which is closed meanwhile. None where it is closed.
     pub(crate) fn take(&mut self, alloc: Global) -> Option<Box<Shelf>>
         ensures some { IfSome result (λ shelf. self.old.inner.held ≡ Some shelf.value) }
@@ -35,12 +26,12 @@ impl CyclicBooks {
         ensures none { IfNone result (self.old.inner.held ≡ None) }
         ensures closed { self.new.inner.held ≡ None }
     {
-        let CyclicBooks { inner, open } = std::mem::replace(self, CyclicBooks::closed());
-        if open {
-            Some(inner.into_loose(alloc).into_box())
-        } else {
-            None
+        if !self.open {
+            return None;
         }
+        self.open = false;
+        let inner = std::mem::replace(&mut self.inner, SealedBooks::none());
+        Some(inner.into_loose(alloc).into_box())
     }
 
     /// Puts it into the handle.

@@ -18,27 +18,18 @@ pub struct CyclicFiring {
 }
 
 impl CyclicFiring {
-    fn closed() -> CyclicFiring
-        ensures { result.inner.held ≡ None }
-    {
-        CyclicFiring {
-            inner: SealedFiring::none(),
-            open: false,
-        }
-    }
-
     /// Takes it out of the handle, which is closed meanwhile. None where it is closed.
     pub(crate) fn take(&mut self, alloc: Global) -> Option<Box<Firing>>
         ensures some { IfSome result (λ cpu. self.old.inner.held ≡ Some cpu.value) }
         ensures none { IfNone result (self.old.inner.held ≡ None) }
         ensures closed { self.new.inner.held ≡ None }
     {
-        let CyclicFiring { inner, open } = std::mem::replace(self, CyclicFiring::closed());
-        if open {
-            Some(inner.into_loose(alloc).into_box())
-        } else {
-            None
+        if !self.open {
+            return None;
         }
+        self.open = false;
+        let inner = std::mem::replace(&mut self.inner, SealedFiring::none());
+        Some(inner.into_loose(alloc).into_box())
     }
 
     /// Puts it into the handle.
