@@ -1,6 +1,6 @@
 -- A cyclic that comes between others: the slot of one that is gone is dropped, and its own comes in where its id stands among
 -- the rest.
-use Rattle.std.proofs.Common.{◌≡◌, ◌≢◌, ℕ, suc, ◌+◌, ◌-◌, ◌<◌, ◌≤◌, ◌⊎◌, inl, inr, List, ◌∷◌, ◌++◌}
+use Rattle.std.proofs.Common.{◌≡◌, ℕ, suc, ◌+◌, ◌-◌, ◌<◌, ◌≤◌, ◌⊎◌, inl, inr, List, ◌∷◌, ◌++◌}
 use Rattle.std.proofs.Common.{length, get_or, set, take, drop}
 use Rattle.std.proofs.Common.{Some, None, sym, ap, ◌∙◌, subst, arith}
 use Rattle.std.specs.List.{insert, remove, AllWithin, HoldsAt, CopiedTo, SameBelow, SameFrom}
@@ -12,12 +12,9 @@ use Rattle.std.proofs.lemmas.List.Elements.{filter_map-append}
 use Rattle.cyc_finder.specs.Slots.{SlotView}
 use Rattle.cyc_finder.specs.Sorted.{Rises, IsGap}
 use Rattle.cyc_finder.specs.Indexes.{Entry, id_in}
-use Rattle.cyc_finder.specs.Slots.{slot_id, entry_of, entries_of, IsGoneSlot}
+use Rattle.cyc_finder.specs.Slots.{slot_id, entry_of, entries_of, IsGoneSlot, IsHereSlot}
 use Rattle.cyc_finder.proofs.RisingIds.{is_at_position, rises_removed, rises_inserted}
 use Rattle.cyc_finder.proofs.Here.{rank, some_slot, split, gap_is, come}
-
-abbrev pub IsHere : SlotView → Type 0
-IsHere slot = slot.index ≢ None
 
 -- the slots from a position on move up by one over another
 module _ (xs mid : List SlotView) (p g : ℕ) (s : SlotView) (up : p ≤ g) (low : g < length xs) (long : length mid ≡ length xs)
@@ -78,7 +75,7 @@ pub record Comes (xs : List SlotView) (id gap p g : ℕ) : Type 0 where
   pub at : IsGap slot_id xs id gap
   pub way : IsWay xs gap p
   pub up : p ≤ g
-  pub here : AllWithin IsHere xs p g
+  pub here : AllWithin IsHereSlot xs p g
 
 module _ {xs : List SlotView} {id gap p g : ℕ} (c : Comes xs id gap p g) where
   in_way : p ≤ gap

@@ -1,5 +1,5 @@
 -- The slots of a finder: each is of a cyclic that is here or is gone, by rising id.
-use Rattle.std.specs.Prelude.{◌≡◌, ◌≢◌, ℕ, ◌+◌, ◌*◌, ◌%◌, ◌<◌, ◌≤◌, ◌==◌, cond, List, length, Option, Some, None}
+use Rattle.std.specs.Prelude.{◌≡◌, ◌≢◌, ℕ, ◌+◌, ◌<◌, ◌≤◌, List, length, Option, None}
 use Rattle.std.specs.List.{filter_map, AllWithin, HoldsAt}
 use Rattle.std.specs.Option.{option_map}
 use Rattle.cyc_finder.specs.declared.slots.First.{First}
@@ -10,19 +10,6 @@ use Rattle.cyc_finder.specs.Indexes.{Entry}
 pub record SlotView : Type 0 where
   pub id : ℕ
   pub index : Option ℕ
-
--- what a key says of the index that stands beside it: the key of one that is gone is odd
-abbrev pub index_by_key : ℕ → ℕ → Option ℕ
-index_by_key key index = cond (key % 2 == 0) (Some index) None
-
--- the key of an id, and the index beside it, 0 where there is none
-abbrev pub key_by_index : ℕ → Option ℕ → ℕ
-key_by_index id (Some index) = 2 * id
-key_by_index id None = 2 * id + 1
-
-abbrev pub index_or_0 : Option ℕ → ℕ
-index_or_0 (Some index) = index
-index_or_0 None = 0
 
 abbrev pub slot_id : SlotView → ℕ
 slot_id slot = slot.id

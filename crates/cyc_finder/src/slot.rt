@@ -21,7 +21,8 @@ pub struct Slot {
 impl Model for Slot {
     ghost use Rattle.std.specs.Prelude.{◌≡◌, ◌*◌, ◌+◌, ◌/◌, ◌%◌, ◌≤◌};
     ghost use Rattle.cyc_types.specs.Limits.{last_id};
-    ghost use Rattle.cyc_finder.specs.Slots.{SlotView, index_by_key, key_by_index, index_or_0};
+    ghost use Rattle.cyc_finder.specs.Slots.{SlotView};
+    ghost use Rattle.cyc_finder.specs.Keys.{index_by_key, key_by_index, index_or_0};
 
     ghost Value = { SlotView };
 

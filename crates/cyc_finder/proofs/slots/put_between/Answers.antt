@@ -2,10 +2,10 @@ use Rattle.std.proofs.Common.{◌≡◌, ◌<◌, length, set, sym, ap, ◌∙�
 use Rattle.std.specs.List.{insert, remove, AllWithin, HoldsAt}
 use Rattle.cyc_finder.specs.Slots.{SlotView}
 use Rattle.cyc_finder.specs.Sorted.{Rises, IsAt, IsGap}
-use Rattle.cyc_finder.specs.Slots.{slot_id, entries_of, IsGoneSlot}
+use Rattle.cyc_finder.specs.Slots.{slot_id, entries_of, IsGoneSlot, IsHereSlot}
 use Rattle.cyc_finder.proofs.RisingIds.{rises_inserted}
 use Rattle.cyc_finder.proofs.Here.{rank, some_slot, gap_gone, gap_is, gone_is, come, come_again}
-use Rattle.cyc_finder.proofs.Coming.{IsHere, IsWay, Comes, gap_whole, comes_rises, comes_in}
+use Rattle.cyc_finder.proofs.Coming.{IsWay, Comes, gap_whole, comes_rises, comes_in}
 use Rattle.cyc_finder.proofs.slots.put_between.Goals as goal
 
 pub returns-in-Ok-clause-entries : goal.returns-in-Ok-clause-entries
@@ -25,7 +25,7 @@ module _ (c : goal.After-set_few) where
     at = subst (λ ys. IsGap slot_id ys c.args.id c.in-Err.gap) c.deref.ensures.value c.in-Err.ensures.absent;
     way = subst (λ ys. IsWay ys c.in-Err.gap c.way_in-position.result) c.deref-in-Err.ensures.value c.way_in-position.ensures;
     up = c.next_gone-gone.ensures.after;
-    here = subst (λ ys. AllWithin IsHere ys c.way_in-position.result c.next_gone-gone.result) c.deref-in-Err-2.ensures.value
+    here = subst (λ ys. AllWithin IsHereSlot ys c.way_in-position.result c.next_gone-gone.result) c.deref-in-Err-2.ensures.value
         c.next_gone-gone.ensures.here;
   }
 
@@ -60,7 +60,7 @@ module _ (c : goal.After-set_few-in-Err) where
     at = subst (λ ys. IsGap slot_id ys c.args.id c.in-Err.gap) c.deref.ensures.value c.in-Err.ensures.absent;
     way = subst (λ ys. IsWay ys c.in-Err.gap c.way_in-position.result) c.deref-in-Err.ensures.value c.way_in-position.ensures;
     up = c.next_gone-gone.ensures.after;
-    here = subst (λ ys. AllWithin IsHere ys c.way_in-position.result c.next_gone-gone.result) c.deref-in-Err-2.ensures.value
+    here = subst (λ ys. AllWithin IsHereSlot ys c.way_in-position.result c.next_gone-gone.result) c.deref-in-Err-2.ensures.value
         c.next_gone-gone.ensures.here;
   }
 
