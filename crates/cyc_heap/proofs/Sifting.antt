@@ -1,7 +1,7 @@
 -- The few in front, after one of them was changed, put in or taken out.
 use Rattle.std.proofs.Common.{◌≡◌, ◌≢◌, ℕ, ◌+◌, ◌-◌, ◌%◌, ◌<◌, ◌≤◌, ◌⊎◌, inl, inr, true, List, length, take, sym}
 use Rattle.std.proofs.Common.{ap, ◌∙◌}
-use Rattle.std.proofs.Common.{Option, Some, None, IfSome, IfNone, IsSome, refl, subst, subst₂, arith}
+use Rattle.std.proofs.Common.{Option, Some, IfSome, refl, subst, subst₂, arith}
 use Rattle.std.proofs.Math.ListN.{set}
 use Rattle.std.proofs.lemmas.Bool.{cases_lt}
 use Rattle.std.proofs.lemmas.List.{length-set, length-take-le, get_or-take, get_or-set_same, get_or-set_other}
@@ -9,7 +9,7 @@ use Rattle.cyc_types.specs.Limits.{cyclics}
 use Rattle.cyc_types.specs.Series.{never}
 use Rattle.cyc_heap.specs.declared.entry.Entry.{Entry}
 use Rattle.cyc_heap.specs.Tournament.{nowhere, entry_at, id_in_word, cyclic_index, free_entry, comes}
-use Rattle.cyc_heap.specs.Few.{shown, HasNoWord, IsHeap, IsFilled, IsFew, IsBareFront, IsTree, IsChanged}
+use Rattle.cyc_heap.specs.Few.{shown, HasWordFrom, IsHeap, IsFilled, IsFew, IsBareFront, IsTree, IsChanged}
 use Rattle.cyc_heap.proofs.Moving.{child_low}
 use Rattle.cyc_heap.proofs.Spreading.{tree_after, changed_to, changed_free}
 
@@ -310,20 +310,19 @@ module _ (held leaves i : ℕ) (es : List Entry) (t : IsTree true held leaves es
       → cyclic_index x ≡ i → x.word ≡ (entry_at (shown true held es) i).word
   leaf_word id x own named index = word_of x (entry_at (shown true held es) i) (named ∙ sym own) (index ∙ sym leaf_index)
 
-  pub word_stands : (o : Option ℕ) (l : List Entry) → l ≡ es → (w : ℕ) → w ≡ (entry_at (shown true held es) i).word
-      → IfNone o (HasNoWord w (take held l)) → IsSome o
-  word_stands (Some p) l is w same none = refl
-  word_stands None l is w same none = let (p, within, index, leaf) = (t.heap refl).all i low used in
-      absurd (subst (λ l. HasNoWord w (take held l)) is none p within (ap (λ (e : Entry). e.word) leaf ∙ sym same))
+  pub word_stands : (l : List Entry) → l ≡ es → (w : ℕ) → w ≡ (entry_at (shown true held es) i).word
+      → HasWordFrom 0 w (take held l)
+  word_stands l is w same = let (p, within, index, leaf) = (t.heap refl).all i low used in
+      subst (λ l. HasWordFrom 0 w (take held l)) (sym is)
+      (p, omega (arith), within, ap (λ (e : Entry). e.word) leaf ∙ sym same)
 
--- the position of a word that one of the few has, which has its index
-pub found_word : (held : ℕ) (es l : List Entry) (o : Option ℕ) (position word : ℕ) → held ≤ length es → l ≡ es → o ≡ Some position
-    → IfSome o (λ p. (p < length (take held l)) × ((entry_at (take held l) p).word ≡ word))
-    → (position < held) × (cyclic_index (entry_at es position) ≡ word % cyclics)
-found_word held es l o position word within is some has =
-    let (low, at) = subst (λ l. (position < length (take held l)) × ((entry_at (take held l) position).word ≡ word)) is
-    (subst (λ o. IfSome o (λ p. (p < length (take held l)) × ((entry_at (take held l) p).word ≡ word))) some has) in
+-- the position of a word has its index
+pub found_word : (held : ℕ) (es l : List Entry) (position word : ℕ) → held ≤ length es → l ≡ es → position < length (take held l)
+    → (entry_at (take held l) position).word ≡ word → (position < held) × (cyclic_index (entry_at es position) ≡ word % cyclics)
+found_word held es l position word within is low at =
     let n = front_long held es within in
+    let low : position < length (take held es) = subst (λ l. position < length (take held l)) is low in
+    let at : (entry_at (take held es) position).word ≡ word = subst (λ l. (entry_at (take held l) position).word ≡ word) is at in
     let less : position < held = omega (arith, low, n) in
     (less, sym (ap cyclic_index (front held es position less)) ∙ ap (λ w. w % cyclics) at)
 

@@ -50,9 +50,9 @@ pub record IsFilled (position : ℕ) (old : List Entry) (e : Entry) (few : List 
 abbrev pub HasNoIndex : ℕ → List Entry → Type 0
 HasNoIndex i few = (p : ℕ) → p < length few → cyclic_index (entry_at few p) ≢ i
 
--- none of them has this word
-abbrev pub HasNoWord : ℕ → List Entry → Type 0
-HasNoWord word few = (p : ℕ) → p < length few → (entry_at few p).word ≢ word
+-- one of them at this position or behind it has this word
+abbrev pub HasWordFrom : ℕ → ℕ → List Entry → Type 0
+HasWordFrom position word few = (p : ℕ) × (position ≤ p) × (p < length few) × ((entry_at few p).word ≡ word)
 
 -- each of them is the leaf of its index
 abbrev pub StandsIn : List Entry → List Entry → Type 0

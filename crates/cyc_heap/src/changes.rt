@@ -60,7 +60,7 @@ fn change_few(
     ensures room { vec_capacity entries.new ≡ vec_capacity entries.old }
 {
     let entry = Entry::new(moment, id, index);
-    let position = find_word(&entries.as_slice()[..held], entry.word).unwrap();
+    let position = find_word(&entries.as_slice()[..held], entry.word);
     replace(entries, held, position, entry);
 }
 

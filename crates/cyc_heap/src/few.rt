@@ -3,7 +3,7 @@
 
 ghost use Rattle.std.specs.Prelude.{◌≡◌, ◌≢◌, ◌≤◌, ◌⊎◌, ℕ, ◌+◌, ◌*◌, ◌<◌, length, take, drop, vec_capacity, true, IfSome, IfNone};
 ghost use Rattle.cyc_heap.specs.Tournament.{entry_at, cyclic_index, comes};
-ghost use Rattle.cyc_heap.specs.Few.{IsHeap, IsHeapBut, IsBelow, IsSame, IsFilled, HasNoIndex, HasNoWord};
+ghost use Rattle.cyc_heap.specs.Few.{IsHeap, IsHeapBut, IsBelow, IsSame, IsFilled, HasNoIndex, HasWordFrom};
 
 use crate::entry::{Entry, Word};
 use cyc_types::Index;
@@ -21,14 +21,18 @@ pub(crate) fn find(few: &[Entry], index: Index) -> Option<usize>
     few.iter().position(|entry| entry.is_of(index))
 }
 
-/// The position of the entry of this word, None where there is none (the walk of `cyclic_reprogram_here`). A step that compares
+/// The position of the entry of this word, which one of them has (the walk of `cyclic_reprogram_here`). A step that compares
 /// whole words is cheaper than one of `find`.
-pub(crate) fn find_word(few: &[Entry], word: Word) -> Option<usize>
-    ensures none { IfNone result (HasNoWord word few.now) }
-    ensures some { IfSome result (λ p. (p < length few.now) × ((entry_at few.now p).word ≡ word)) }
+pub(crate) fn find_word(few: &[Entry], word: Word) -> usize
+    requires { HasWordFrom 0 word few.now }
+    ensures low { result < length few.now }
+    ensures word { (entry_at few.now result).word ≡ word }
 {
-    few.iter()
-        .position(|entry| entry.word.bits() == word.bits())
+    let mut position = 0;
+    while few[position].word.bits() != word.bits() {
+        position += 1;
+    }
+    position
 }
 
 /// The position below this one whose entry expires first, of a position that has one below it.

@@ -168,7 +168,7 @@ impl ExpiryHeap {
     }
 
     /// The root where its moment has come: its index, how long ago that was, in nanoseconds, and its id. None where the moment is
-    /// later than `now`, and where no index is in use: one subtraction tells both, since the entry of a free index comes after
+    /// later than `now`, and where no index is in use: one comparison tells both, since the entry of a free index comes after
     /// every moment.
     pub fn due_root(&self, now: Moment) -> Option<(Index, u64, CyclicId)>
         ensures none { IfNone result (IsEmptyHeap self.now
