@@ -25,19 +25,11 @@ use denote.Struct.Tuple.{Tuple}
 use denote.Triple.Spec.{triple_of}
 use denote.Triple.Statement.{Contract}
 use denote.Triple.Walked.{Stay, stay_dropped, Goes, Goes-dropped}
-use Rattle.std.specs.contracts.alloc.Global as global
-use Rattle.std.proofs.alloc.Global.TheLaws as global_laws
 use Rattle.std.proofs.cell.Inside.{Good}
 use Rattle.cyclic_c.specs.OutParameters.{number_behind, pointer_of}
 use Rattle.cyclic_c.specs.contracts.out_parameter.OutParameter.behind as behind
 use Rattle.cyclic_c.proofs.OutValues.{Found, found_laws}
 use Rattle.cyclic_c.proofs.Values.{both, both_tt}
-
-abbrev pub Alloc : RattleType
-Alloc = global.the_row
-
-abbrev pub alloc_vals : Alloc.Denot → List Val
-alloc_vals x = global_laws.lowers.lowered x ∷ []
 
 -- an answer's number, and the out-parameter again
 abbrev pub Pair : RattleType
@@ -54,9 +46,6 @@ abbrev pub gone : {n : ℕ} (R : RattleType) → Stay {n = n} (plain (λ _. R)) 
 gone R = stay_dropped (plain (λ _. R)) yes
 
 module _ {M : Type 1} {𝓤 : Ura M} (𝓛 : Logic 𝓤) (n : ℕ) where
-  pub alloc_goes : Goes 𝓛 n (plain (λ _. Alloc)) yes (gone Alloc)
-  alloc_goes = Goes-dropped 𝓛 n (plain (λ _. Alloc)) yes (λ κs x w. refl)
-
   pub u64_goes : Goes 𝓛 n (plain (λ _. u64)) yes (gone u64)
   u64_goes = Goes-dropped 𝓛 n (plain (λ _. u64)) yes (λ κs x w. refl)
 

@@ -3,3 +3,4 @@ pub mod Records
 pub mod OutParameters
 pub mod Exports
 pub mod PairOut
+pub mod Lending

@@ -66,14 +66,14 @@ pub extern "C" fn cyclic_cpu_close(alloc: Global, cpu: &mut CyclicCpu) -> u32
 
 /// Gives a cyclic another next expiration (`reprogram` of the CPU).
 #[unsafe(no_mangle)]
-pub extern "C" fn cyclic_reprogram(alloc: Global, cpu: &mut CyclicCpu, id: u64, moment: i64) -> u32
+pub extern "C" fn cyclic_reprogram(cpu: &mut CyclicCpu, id: u64, moment: i64) -> u32
     ensures { Through cpu.old.inner.held cpu.new.inner.held result (ReprogramsOut raise_tables OnHard id moment result) }
 {
-    let Some(mut open) = cpu.take(alloc) else {
+    if !cpu.open {
         return MISUSED;
-    };
+    }
+    let open = cpu.inner.lend();
     let answer = reprogram(&mut open.hard, id, moment);
-    cpu.put(open);
     number_of_answer(&answer)
 }
 
@@ -83,7 +83,6 @@ pub extern "C" fn cyclic_reprogram(alloc: Global, cpu: &mut CyclicCpu, id: u64, 
 /// A pointer may be compared with null where it leads less than 2^63 bytes into its object, as each pointer of C does.
 #[unsafe(no_mangle)]
 pub unsafe extern "C" fn cyclic_add(
-    alloc: Global,
     cpu: &mut CyclicCpu,
     id: u64,
     level: u32,
@@ -100,12 +99,11 @@ pub unsafe extern "C" fn cyclic_add(
         (AddsOut raise_tables OnHard (add_numbers id level start interval now) result after) ⌝) }
 {
     let busy = unsafe { OutParameter::behind(busy) };
-    added(alloc, cpu, id, level, start, interval, now, busy).0
+    added(cpu, id, level, start, interval, now, busy).0
 }
 
 /// The add, with the number of its answer and the out-parameter again.
 fn added(
-    alloc: Global,
     cpu: &mut CyclicCpu,
     id: u64,
     level: u32,
@@ -118,11 +116,11 @@ fn added(
         (AddsOut raise_tables OnHard (add_numbers id level start interval now) result.0 (number_out result.1)) }
     ensures pointer { pointer_of result.1 ≡ pointer_of busy }
 {
-    let Some(mut open) = cpu.take(alloc) else {
+    if !cpu.open {
         return (MISUSED, busy);
-    };
+    }
+    let open = cpu.inner.lend();
     let answer = add(&mut open.hard, id, level, start, interval, now);
-    cpu.put(open);
     (
         number_of_answer(&answer),
         OutParameter::written(busy, named_in(&answer)),
@@ -131,116 +129,94 @@ fn added(
 
 /// The calls of the cyclic that are outstanding, 0 where it is refused.
 #[unsafe(no_mangle)]
-pub extern "C" fn cyclic_pending(
-    alloc: Global,
-    cpu: &mut CyclicCpu,
-    id: u64,
-    pending: &mut u32,
-) -> u32
+pub extern "C" fn cyclic_pending(cpu: &mut CyclicCpu, id: u64, pending: &mut u32) -> u32
     ensures { Through cpu.old.inner.held cpu.new.inner.held result (PendingOut raise_tables OnHard id result pending.new) }
 {
-    let Some(mut open) = cpu.take(alloc) else {
+    if !cpu.open {
         return MISUSED;
-    };
+    }
+    let open = cpu.inner.lend();
     let answer = pending_of(&mut open.hard, id);
-    cpu.put(open);
     *pending = found_in(&answer);
     number_of_answer(&answer)
 }
 
 /// The counts of the cyclic; `totals` is written where they are there.
 #[unsafe(no_mangle)]
-pub extern "C" fn cyclic_totals(
-    alloc: Global,
-    cpu: &mut CyclicCpu,
-    id: u64,
-    totals: &mut CyclicTotals,
-) -> u32
+pub extern "C" fn cyclic_totals(cpu: &mut CyclicCpu, id: u64, totals: &mut CyclicTotals) -> u32
     ensures { Through cpu.old.inner.held cpu.new.inner.held result
         (TotalsOut raise_tables OnHard id result totals.old totals.new) }
 {
-    let Some(mut open) = cpu.take(alloc) else {
+    if !cpu.open {
         return MISUSED;
-    };
+    }
+    let open = cpu.inner.lend();
     let answer = totals_at(&mut open.hard, id);
-    cpu.put(open);
     write_totals(&answer, totals);
     number_of_answer(&answer)
 }
 
 /// Ends the open removal where its last call was made, and writes the receipt; else `receipt` gets the id 0.
 #[unsafe(no_mangle)]
-pub extern "C" fn cyclic_poll_remove(
-    alloc: Global,
-    cpu: &mut CyclicCpu,
-    receipt: &mut CyclicReceipt,
-) -> u32
+pub extern "C" fn cyclic_poll_remove(cpu: &mut CyclicCpu, receipt: &mut CyclicReceipt) -> u32
     ensures { Through cpu.old.inner.held cpu.new.inner.held result (PollsOut raise_tables OnHard result receipt.new) }
 {
-    let Some(mut open) = cpu.take(alloc) else {
+    if !cpu.open {
         return MISUSED;
-    };
+    }
+    let open = cpu.inner.lend();
     let answer = open.hard.poll_remove();
-    cpu.put(open);
     *receipt = polled(answer);
     0
 }
 
 /// Takes the cyclic whose handler the caller is to call next at a soft level; `id` gets 0 where no call waits.
 #[unsafe(no_mangle)]
-pub extern "C" fn cyclic_take(alloc: Global, cpu: &mut CyclicCpu, level: u32, id: &mut u64) -> u32
+pub extern "C" fn cyclic_take(cpu: &mut CyclicCpu, level: u32, id: &mut u64) -> u32
     ensures { Through cpu.old.inner.held cpu.new.inner.held result (TakesOut level result id.old id.new) }
 {
-    let Some(mut open) = cpu.take(alloc) else {
+    if !cpu.open {
         return MISUSED;
-    };
+    }
+    let open = cpu.inner.lend();
     let Some(soft) = soft_of(level) else {
-        cpu.put(open);
         return MISUSED;
     };
     let found = open.take(soft);
-    cpu.put(open);
     *id = or_zero(found);
     0
 }
 
 /// Counts the call that was taken, which the caller has made.
 #[unsafe(no_mangle)]
-pub extern "C" fn cyclic_finish(alloc: Global, cpu: &mut CyclicCpu, level: u32) -> u32
+pub extern "C" fn cyclic_finish(cpu: &mut CyclicCpu, level: u32) -> u32
     ensures { Through cpu.old.inner.held cpu.new.inner.held result (FinishesOut level result) }
 {
-    let Some(mut open) = cpu.take(alloc) else {
+    if !cpu.open {
         return MISUSED;
-    };
+    }
+    let open = cpu.inner.lend();
     let Some(soft) = soft_of(level) else {
-        cpu.put(open);
         return MISUSED;
     };
     let answer = open.finish(soft);
-    cpu.put(open);
     number_of_answer(&answer)
 }
 
 /// Makes the expirations that are due, up to the next high one, whose handler the caller is then to call before it goes on with
 /// the same moment. While the CPU is suspended it answers Suspended, and changes nothing (`suspended_fire_law`).
 #[unsafe(no_mangle)]
-pub extern "C" fn cyclic_fire(
-    alloc: Global,
-    cpu: &mut CyclicCpu,
-    now: i64,
-    fired: &mut CyclicFired,
-) -> u32
+pub extern "C" fn cyclic_fire(cpu: &mut CyclicCpu, now: i64, fired: &mut CyclicFired) -> u32
     ensures { Through cpu.old.inner.held cpu.new.inner.held result (FiresOut FiresCpu now result (written fired.old fired.new)) }
 {
-    let Some(mut open) = cpu.take(alloc) else {
+    if !cpu.open {
         return MISUSED;
-    };
+    }
+    let open = cpu.inner.lend();
     let Ok(moment) = Moment::new(now) else {
-        cpu.put(open);
         return 2;
     };
     let answer = open.fire(moment);
-    cpu.put(open);
     write_fired(answer, fired)
 }
 
@@ -248,7 +224,6 @@ pub extern "C" fn cyclic_fire(
 /// outstanding. Where it is refused `kept` is 0, and `busy`, which may be null, gets the id of the open removal.
 #[unsafe(no_mangle)]
 pub unsafe extern "C" fn cyclic_begin_remove(
-    alloc: Global,
     cpu: &mut CyclicCpu,
     id: u64,
     kept: &mut u32,
@@ -263,12 +238,11 @@ pub unsafe extern "C" fn cyclic_begin_remove(
         (record { kept = kept.new; receipt = receipt.new; busy = after })) ⌝) }
 {
     let busy = unsafe { OutParameter::behind(busy) };
-    removal_begun(alloc, cpu, id, kept, receipt, busy).0
+    removal_begun(cpu, id, kept, receipt, busy).0
 }
 
 /// The begin of a removal, with the number of its answer and the out-parameter again.
 fn removal_begun(
-    alloc: Global,
     cpu: &mut CyclicCpu,
     id: u64,
     kept: &mut u32,
@@ -279,11 +253,11 @@ fn removal_begun(
         (record { kept = kept.new; receipt = receipt.new; busy = number_out result.1 })) }
     ensures pointer { pointer_of result.1 ≡ pointer_of busy }
 {
-    let Some(mut open) = cpu.take(alloc) else {
+    if !cpu.open {
         return (MISUSED, busy);
-    };
+    }
+    let open = cpu.inner.lend();
     let answer = begin_remove(&mut open.hard, id);
-    cpu.put(open);
     *kept = kept_of(&answer);
     *receipt = removed_of(&answer);
     let busy = OutParameter::written(busy, named_in(&answer));
@@ -292,14 +266,14 @@ fn removal_begun(
 
 /// The least expiration of the CPU, never where there is none.
 #[unsafe(no_mangle)]
-pub extern "C" fn cyclic_next(alloc: Global, cpu: &mut CyclicCpu, moment: &mut i64) -> u32
+pub extern "C" fn cyclic_next(cpu: &mut CyclicCpu, moment: &mut i64) -> u32
     ensures { Through cpu.old.inner.held cpu.new.inner.held result (NextOut raise_tables OnHard result moment.new) }
 {
-    let Some(open) = cpu.take(alloc) else {
+    if !cpu.open {
         return MISUSED;
-    };
+    }
+    let open = cpu.inner.lend();
     let next = open.hard.next();
-    cpu.put(open);
     *moment = next.nanoseconds() as i64;
     0
 }
@@ -307,27 +281,27 @@ pub extern "C" fn cyclic_next(alloc: Global, cpu: &mut CyclicCpu, moment: &mut i
 /// Suspends the CPU: no fire is made until `cyclic_resume`, and all else goes on. Refuses with Misused where it is closed, and
 /// nothing else, also where it is suspended. Takes no memory.
 #[unsafe(no_mangle)]
-pub extern "C" fn cyclic_suspend(alloc: Global, cpu: &mut CyclicCpu) -> u32
+pub extern "C" fn cyclic_suspend(cpu: &mut CyclicCpu) -> u32
     ensures { Through cpu.old.inner.held cpu.new.inner.held result (SuspendsOut raise_tables OnHard result) }
 {
-    let Some(mut open) = cpu.take(alloc) else {
+    if !cpu.open {
         return MISUSED;
-    };
+    }
+    let open = cpu.inner.lend();
     open.hard.suspend();
-    cpu.put(open);
     0
 }
 
 /// Resumes the CPU: fires are made again. Refuses with Misused where it is closed, and nothing else, also where it is not
 /// suspended. Takes no memory.
 #[unsafe(no_mangle)]
-pub extern "C" fn cyclic_resume(alloc: Global, cpu: &mut CyclicCpu) -> u32
+pub extern "C" fn cyclic_resume(cpu: &mut CyclicCpu) -> u32
     ensures { Through cpu.old.inner.held cpu.new.inner.held result (ResumesOut raise_tables OnHard result) }
 {
-    let Some(mut open) = cpu.take(alloc) else {
+    if !cpu.open {
         return MISUSED;
-    };
+    }
+    let open = cpu.inner.lend();
     open.hard.resume();
-    cpu.put(open);
     0
 }

@@ -20,13 +20,11 @@ use crate::records::{CyclicFired, CyclicReceipt, CyclicTotals};
 use cyc_border::asking::{begin_remove, pending_of, reprogram, totals_at};
 use cyc_border::calling::add;
 use cyc_types::Moment;
-use std::alloc::Global;
 
 /// Adds a cyclic of this id, which no other cyclic here has; `busy` gets the id of an open removal that refused it, else 0.
 /// It may be null, and then nothing is written.
 #[unsafe(no_mangle)]
 pub unsafe extern "C" fn cyclic_firing_add(
-    alloc: Global,
     firing: &mut CyclicFiring,
     id: u64,
     level: u32,
@@ -43,12 +41,11 @@ pub unsafe extern "C" fn cyclic_firing_add(
         (AddsOut raise_held OnSide (add_numbers id level start interval now) result after) ⌝) }
 {
     let busy = unsafe { OutParameter::behind(busy) };
-    added(alloc, firing, id, level, start, interval, now, busy).0
+    added(firing, id, level, start, interval, now, busy).0
 }
 
 /// The add, with the number of its answer and the out-parameter again.
 fn added(
-    alloc: Global,
     firing: &mut CyclicFiring,
     id: u64,
     level: u32,
@@ -61,11 +58,11 @@ fn added(
         (AddsOut raise_held OnSide (add_numbers id level start interval now) result.0 (number_out result.1)) }
     ensures pointer { pointer_of result.1 ≡ pointer_of busy }
 {
-    let Some(mut open) = firing.take(alloc) else {
+    if !firing.open {
         return (MISUSED, busy);
-    };
+    }
+    let open = firing.inner.lend();
     let answer = add(&mut open.hard, id, level, start, interval, now);
-    firing.put(open);
     (
         number_of_answer(&answer),
         OutParameter::written(busy, named_in(&answer)),
@@ -74,20 +71,15 @@ fn added(
 
 /// Gives a cyclic another next expiration (`reprogram` of the CPU).
 #[unsafe(no_mangle)]
-pub extern "C" fn cyclic_firing_reprogram(
-    alloc: Global,
-    firing: &mut CyclicFiring,
-    id: u64,
-    moment: i64,
-) -> u32
+pub extern "C" fn cyclic_firing_reprogram(firing: &mut CyclicFiring, id: u64, moment: i64) -> u32
     ensures { Through firing.old.inner.held firing.new.inner.held result
         (ReprogramsOut raise_held OnSide id moment result) }
 {
-    let Some(mut open) = firing.take(alloc) else {
+    if !firing.open {
         return MISUSED;
-    };
+    }
+    let open = firing.inner.lend();
     let answer = reprogram(&mut open.hard, id, moment);
-    firing.put(open);
     number_of_answer(&answer)
 }
 
@@ -95,7 +87,6 @@ pub extern "C" fn cyclic_firing_reprogram(
 /// outstanding. Where it is refused `kept` is 0, and `busy`, which may be null, gets the id of the open removal.
 #[unsafe(no_mangle)]
 pub unsafe extern "C" fn cyclic_firing_begin_remove(
-    alloc: Global,
     firing: &mut CyclicFiring,
     id: u64,
     kept: &mut u32,
@@ -110,12 +101,11 @@ pub unsafe extern "C" fn cyclic_firing_begin_remove(
         (record { kept = kept.new; receipt = receipt.new; busy = after })) ⌝) }
 {
     let busy = unsafe { OutParameter::behind(busy) };
-    removal_begun(alloc, firing, id, kept, receipt, busy).0
+    removal_begun(firing, id, kept, receipt, busy).0
 }
 
 /// The begin of a removal, with the number of its answer and the out-parameter again.
 fn removal_begun(
-    alloc: Global,
     firing: &mut CyclicFiring,
     id: u64,
     kept: &mut u32,
@@ -126,11 +116,11 @@ fn removal_begun(
         (record { kept = kept.new; receipt = receipt.new; busy = number_out result.1 })) }
     ensures pointer { pointer_of result.1 ≡ pointer_of busy }
 {
-    let Some(mut open) = firing.take(alloc) else {
+    if !firing.open {
         return (MISUSED, busy);
-    };
+    }
+    let open = firing.inner.lend();
     let answer = begin_remove(&mut open.hard, id);
-    firing.put(open);
     *kept = kept_of(&answer);
     *receipt = removed_of(&answer);
     let busy = OutParameter::written(busy, named_in(&answer));
@@ -140,18 +130,17 @@ fn removal_begun(
 /// Ends the open removal where its last call was made, and writes the receipt; else `receipt` gets the id 0.
 #[unsafe(no_mangle)]
 pub extern "C" fn cyclic_firing_poll_remove(
-    alloc: Global,
     firing: &mut CyclicFiring,
     receipt: &mut CyclicReceipt,
 ) -> u32
     ensures { Through firing.old.inner.held firing.new.inner.held result
         (PollsOut raise_held OnSide result receipt.new) }
 {
-    let Some(mut open) = firing.take(alloc) else {
+    if !firing.open {
         return MISUSED;
-    };
+    }
+    let open = firing.inner.lend();
     let answer = open.hard.poll_remove();
-    firing.put(open);
     *receipt = polled(answer);
     0
 }
@@ -160,7 +149,6 @@ pub extern "C" fn cyclic_firing_poll_remove(
 /// the same moment. While the CPU is suspended it answers Suspended, and changes nothing (`suspended_fire_law`).
 #[unsafe(no_mangle)]
 pub extern "C" fn cyclic_firing_fire(
-    alloc: Global,
     firing: &mut CyclicFiring,
     now: i64,
     fired: &mut CyclicFired,
@@ -168,22 +156,20 @@ pub extern "C" fn cyclic_firing_fire(
     ensures { Through firing.old.inner.held firing.new.inner.held result
         (FiresOut FiresSide now result (written fired.old fired.new)) }
 {
-    let Some(mut open) = firing.take(alloc) else {
+    if !firing.open {
         return MISUSED;
-    };
+    }
+    let open = firing.inner.lend();
     let Ok(moment) = Moment::new(now) else {
-        firing.put(open);
         return 2;
     };
     let answer = open.fire(moment);
-    firing.put(open);
     write_fired(answer, fired)
 }
 
 /// The calls of the cyclic that are outstanding, 0 where it is refused.
 #[unsafe(no_mangle)]
 pub extern "C" fn cyclic_firing_pending(
-    alloc: Global,
     firing: &mut CyclicFiring,
     id: u64,
     pending: &mut u32,
@@ -191,11 +177,11 @@ pub extern "C" fn cyclic_firing_pending(
     ensures { Through firing.old.inner.held firing.new.inner.held result
         (PendingOut raise_held OnSide id result pending.new) }
 {
-    let Some(mut open) = firing.take(alloc) else {
+    if !firing.open {
         return MISUSED;
-    };
+    }
+    let open = firing.inner.lend();
     let answer = pending_of(&mut open.hard, id);
-    firing.put(open);
     *pending = found_in(&answer);
     number_of_answer(&answer)
 }
@@ -203,7 +189,6 @@ pub extern "C" fn cyclic_firing_pending(
 /// The counts of the cyclic; `totals` is written where they are there.
 #[unsafe(no_mangle)]
 pub extern "C" fn cyclic_firing_totals(
-    alloc: Global,
     firing: &mut CyclicFiring,
     id: u64,
     totals: &mut CyclicTotals,
@@ -211,29 +196,25 @@ pub extern "C" fn cyclic_firing_totals(
     ensures { Through firing.old.inner.held firing.new.inner.held result
         (TotalsOut raise_held OnSide id result totals.old totals.new) }
 {
-    let Some(mut open) = firing.take(alloc) else {
+    if !firing.open {
         return MISUSED;
-    };
+    }
+    let open = firing.inner.lend();
     let answer = totals_at(&mut open.hard, id);
-    firing.put(open);
     write_totals(&answer, totals);
     number_of_answer(&answer)
 }
 
 /// The least expiration of the CPU, never where there is none.
 #[unsafe(no_mangle)]
-pub extern "C" fn cyclic_firing_next(
-    alloc: Global,
-    firing: &mut CyclicFiring,
-    moment: &mut i64,
-) -> u32
+pub extern "C" fn cyclic_firing_next(firing: &mut CyclicFiring, moment: &mut i64) -> u32
     ensures { Through firing.old.inner.held firing.new.inner.held result (NextOut raise_held OnSide result moment.new) }
 {
-    let Some(open) = firing.take(alloc) else {
+    if !firing.open {
         return MISUSED;
-    };
+    }
+    let open = firing.inner.lend();
     let next = open.hard.next();
-    firing.put(open);
     *moment = next.nanoseconds() as i64;
     0
 }
@@ -241,27 +222,27 @@ pub extern "C" fn cyclic_firing_next(
 /// Suspends the CPU: no fire is made until `cyclic_firing_resume`, and all else goes on, on the soft sides too. Refuses with
 /// Misused where it is closed, and nothing else, also where it is suspended. Takes no memory.
 #[unsafe(no_mangle)]
-pub extern "C" fn cyclic_firing_suspend(alloc: Global, firing: &mut CyclicFiring) -> u32
+pub extern "C" fn cyclic_firing_suspend(firing: &mut CyclicFiring) -> u32
     ensures { Through firing.old.inner.held firing.new.inner.held result (SuspendsOut raise_held OnSide result) }
 {
-    let Some(mut open) = firing.take(alloc) else {
+    if !firing.open {
         return MISUSED;
-    };
+    }
+    let open = firing.inner.lend();
     open.hard.suspend();
-    firing.put(open);
     0
 }
 
 /// Resumes the CPU: fires are made again. Refuses with Misused where it is closed, and nothing else, also where it is not
 /// suspended. Takes no memory.
 #[unsafe(no_mangle)]
-pub extern "C" fn cyclic_firing_resume(alloc: Global, firing: &mut CyclicFiring) -> u32
+pub extern "C" fn cyclic_firing_resume(firing: &mut CyclicFiring) -> u32
     ensures { Through firing.old.inner.held firing.new.inner.held result (ResumesOut raise_held OnSide result) }
 {
-    let Some(mut open) = firing.take(alloc) else {
+    if !firing.open {
         return MISUSED;
-    };
+    }
+    let open = firing.inner.lend();
     open.hard.resume();
-    firing.put(open);
     0
 }

@@ -98,28 +98,28 @@ pub extern "C" fn cyclic_close(
 
 /// Takes the cyclic whose handler the caller is to call next; `id` gets 0 where no call waits.
 #[unsafe(no_mangle)]
-pub extern "C" fn cyclic_soft_take(alloc: Global, soft: &mut CyclicSoft, id: &mut u64) -> u32
+pub extern "C" fn cyclic_soft_take(soft: &mut CyclicSoft, id: &mut u64) -> u32
     ensures { Through soft.old.inner.held soft.new.inner.held result (TakesSoft result id.new) }
 {
-    let Some(mut open) = soft.take(alloc) else {
+    if !soft.open {
         return MISUSED;
-    };
+    }
+    let open = soft.inner.lend();
     let found = open.take();
-    soft.put(open);
     *id = or_zero(found);
     0
 }
 
 /// Counts the call of the cyclic in hand, which the caller has made.
 #[unsafe(no_mangle)]
-pub extern "C" fn cyclic_soft_finish(alloc: Global, soft: &mut CyclicSoft) -> u32
+pub extern "C" fn cyclic_soft_finish(soft: &mut CyclicSoft) -> u32
     ensures { Through soft.old.inner.held soft.new.inner.held result (FinishesSoft result) }
 {
-    let Some(mut open) = soft.take(alloc) else {
+    if !soft.open {
         return MISUSED;
-    };
+    }
+    let open = soft.inner.lend();
     let answer = open.finish();
-    soft.put(open);
     match answer {
         Some(_finished) => 0,
         None => MISUSED,
@@ -128,14 +128,14 @@ pub extern "C" fn cyclic_soft_finish(alloc: Global, soft: &mut CyclicSoft) -> u3
 
 /// The cyclic in hand, whose call was taken and is not finished; `id` gets 0 where none is.
 #[unsafe(no_mangle)]
-pub extern "C" fn cyclic_soft_hand(alloc: Global, soft: &mut CyclicSoft, id: &mut u64) -> u32
+pub extern "C" fn cyclic_soft_hand(soft: &mut CyclicSoft, id: &mut u64) -> u32
     ensures { Through soft.old.inner.held soft.new.inner.held result (HandsSoft result id.new) }
 {
-    let Some(mut open) = soft.take(alloc) else {
+    if !soft.open {
         return MISUSED;
-    };
+    }
+    let open = soft.inner.lend();
     let found = open.hand();
-    soft.put(open);
     *id = or_zero(found);
     0
 }
@@ -144,7 +144,6 @@ pub extern "C" fn cyclic_soft_hand(alloc: Global, soft: &mut CyclicSoft, id: &mu
 /// the level or the index, which is below `CYCLICS`, is none.
 #[unsafe(no_mangle)]
 pub extern "C" fn cyclic_book(
-    alloc: Global,
     books: &mut CyclicBooks,
     level: u32,
     index: u32,
@@ -153,11 +152,11 @@ pub extern "C" fn cyclic_book(
     ensures { Through (shelved books.old.inner.held) (shelved books.new.inner.held) result
         (BookOut level index result (written book.old book.new)) }
 {
-    let Some(open) = books.take(alloc) else {
+    if !books.open {
         return MISUSED;
-    };
+    }
+    let open = books.inner.lend();
     if level > 1 || index >= u32::from(CYCLICS) {
-        books.put(open);
         return MISUSED;
     }
     let Some(index) = Index::new(index as u16) else {
@@ -171,7 +170,6 @@ pub extern "C" fn cyclic_book(
     } else {
         shelf.lock.book(index)
     };
-    books.put(open);
     *book = match found {
         Some(found) => book_of(found),
         None => CyclicBook::NONE,

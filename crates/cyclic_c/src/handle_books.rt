@@ -19,7 +19,7 @@ pub struct CyclicBooks {
 }
 
 impl CyclicBooks {
-    /// Takes it out of the handle, which is closed meanwhile. None where it is closed.
+    /// Takes it out of the handle, which is closed from then on. None where it is closed.
     pub(crate) fn take(&mut self, alloc: Global) -> Option<Box<Shelf>>
         ensures some { IfSome result (λ shelf. self.old.inner.held ≡ Some shelf.value) }
         ensures filled { IfSome result (λ shelf. shelf.value.books ≢ None) }

@@ -18,7 +18,7 @@ pub struct CyclicSoft {
 }
 
 impl CyclicSoft {
-    /// Takes it out of the handle, which is closed meanwhile. None where it is closed.
+    /// Takes it out of the handle, which is closed from then on. None where it is closed.
     pub(crate) fn take(&mut self, alloc: Global) -> Option<Box<SoftSide>>
         ensures some { IfSome result (λ cpu. self.old.inner.held ≡ Some cpu.value) }
         ensures none { IfNone result (self.old.inner.held ≡ None) }

@@ -1,6 +1,7 @@
 //! A boxed CPU behind a pointer.
 
 ghost use Rattle.std.specs.Prelude.{◌≡◌, Option, Some, None, IsSome};
+ghost use Rattle.std.specs.Borrow.{sem};
 ghost use Rattle.cyclic_c.specs.Owns.{owned};
 ghost use Rattle.cyc_border.specs.declared.cpu.Cpu.{Cpu};
 ghost use Rattle.cyc_border.specs.contracts.cpu.Cpu as cpu;
@@ -24,6 +25,8 @@ impl Model for Sealed {
 }
 
 impl Sealed {
+    ghost use Rattle.cyclic_c.specs.Lending.{LendsCpu};
+
     pub(crate) fn of(loose: Loose<Cpu, Global>) -> Sealed
         ensures { result.held ≡ Some loose.value }
     {
@@ -46,5 +49,15 @@ impl Sealed {
         ensures { result.held ≡ None }
     {
         Sealed { at: null_mut() }
+    }
+
+    /// The CPU of one that holds it, where it stands.
+    pub(crate) fn lend(&mut self) -> &mut Cpu
+        requires { IsSome self.old.held }
+        ensures* writes_back { sem 𝓛 (LendsCpu self.entry result) }
+        ensures value { self.old.held ≡ Some result.now }
+    {
+        let at = self.at as *mut Cpu;
+        unsafe { &mut *at }
     }
 }

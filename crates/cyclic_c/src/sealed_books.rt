@@ -1,6 +1,7 @@
 //! A boxed shelf with books behind a pointer.
 
 ghost use Rattle.std.specs.Prelude.{◌≡◌, Option, Some, None, IsSome};
+ghost use Rattle.std.specs.Borrow.{sem};
 ghost use Rattle.cyclic_c.specs.Owns.{owned};
 ghost use Rattle.cyc_border.specs.declared.pair.Shelf.{Shelf};
 ghost use Rattle.cyc_border.specs.contracts.pair.Shelf as inner;
@@ -24,6 +25,8 @@ impl Model for SealedBooks {
 }
 
 impl SealedBooks {
+    ghost use Rattle.cyclic_c.specs.Lending.{LendsShelf};
+
     pub(crate) fn of(loose: Loose<Shelf, Global>) -> SealedBooks
         ensures { result.held ≡ Some loose.value }
     {
@@ -46,5 +49,15 @@ impl SealedBooks {
         ensures { result.held ≡ None }
     {
         SealedBooks { at: null_mut() }
+    }
+
+    /// What one that isn't empty owns, where it stands.
+    pub(crate) fn lend(&mut self) -> &mut Shelf
+        requires { IsSome self.old.held }
+        ensures* writes_back { sem 𝓛 (LendsShelf self.entry result) }
+        ensures value { self.old.held ≡ Some result.now }
+    {
+        let at = self.at as *mut Shelf;
+        unsafe { &mut *at }
     }
 }

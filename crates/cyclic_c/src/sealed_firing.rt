@@ -1,6 +1,7 @@
 //! A boxed firing side behind a pointer.
 
 ghost use Rattle.std.specs.Prelude.{◌≡◌, Option, Some, None, IsSome};
+ghost use Rattle.std.specs.Borrow.{sem};
 ghost use Rattle.cyclic_c.specs.Owns.{owned};
 ghost use Rattle.cyc_border.specs.declared.pair.Firing.{Firing};
 ghost use Rattle.cyc_border.specs.contracts.pair.Firing as inner;
@@ -24,6 +25,8 @@ impl Model for SealedFiring {
 }
 
 impl SealedFiring {
+    ghost use Rattle.cyclic_c.specs.Lending.{LendsFiring};
+
     pub(crate) fn of(loose: Loose<Firing, Global>) -> SealedFiring
         ensures { result.held ≡ Some loose.value }
     {
@@ -46,5 +49,15 @@ impl SealedFiring {
         ensures { result.held ≡ None }
     {
         SealedFiring { at: null_mut() }
+    }
+
+    /// What one that isn't empty owns, where it stands.
+    pub(crate) fn lend(&mut self) -> &mut Firing
+        requires { IsSome self.old.held }
+        ensures* writes_back { sem 𝓛 (LendsFiring self.entry result) }
+        ensures value { self.old.held ≡ Some result.now }
+    {
+        let at = self.at as *mut Firing;
+        unsafe { &mut *at }
     }
 }

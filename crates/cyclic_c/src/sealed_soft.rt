@@ -1,6 +1,7 @@
 //! A boxed soft side behind a pointer.
 
 ghost use Rattle.std.specs.Prelude.{◌≡◌, Option, Some, None, IsSome};
+ghost use Rattle.std.specs.Borrow.{sem};
 ghost use Rattle.cyclic_c.specs.Owns.{owned};
 ghost use Rattle.cyc_border.specs.declared.soft_side.SoftSide.{SoftSide};
 ghost use Rattle.cyc_border.specs.contracts.soft_side.SoftSide as inner;
@@ -24,6 +25,8 @@ impl Model for SealedSoft {
 }
 
 impl SealedSoft {
+    ghost use Rattle.cyclic_c.specs.Lending.{LendsSoftSide};
+
     pub(crate) fn of(loose: Loose<SoftSide, Global>) -> SealedSoft
         ensures { result.held ≡ Some loose.value }
     {
@@ -46,5 +49,15 @@ impl SealedSoft {
         ensures { result.held ≡ None }
     {
         SealedSoft { at: null_mut() }
+    }
+
+    /// What one that isn't empty owns, where it stands.
+    pub(crate) fn lend(&mut self) -> &mut SoftSide
+        requires { IsSome self.old.held }
+        ensures* writes_back { sem 𝓛 (LendsSoftSide self.entry result) }
+        ensures value { self.old.held ≡ Some result.now }
+    {
+        let at = self.at as *mut SoftSide;
+        unsafe { &mut *at }
     }
 }

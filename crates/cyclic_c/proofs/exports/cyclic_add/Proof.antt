@@ -26,15 +26,14 @@ use denote.Triple.Statement.{Contract}
 use denote.Triple.Table.{framed}
 use denote.Triple.Walked.{Stays, gave_ref, walk_of, Goes-gave_ref}
 use Rattle.std.proofs.raw_atomic.Walks.{proved, leaves}
-use Rattle.std.proofs.alloc.Global.TheLaws as global_laws
 use Rattle.cyc_border.specs.Border.{Through, add_numbers}
 use Rattle.cyc_cpu.specs.Soft.{raise_tables}
 use Rattle.cyclic_c.specs.Exports.{AddsOut, OnHard}
 use Rattle.cyclic_c.specs.OutParameters.{number_behind, pointer_of, number_out}
 use Rattle.cyclic_c.specs.contracts.handle.CyclicCpu.{the_row as Handle}
 use Rattle.cyclic_c.proofs.OutValues.{Found, found_laws, found_memory}
-use Rattle.cyclic_c.proofs.OutCalls.{Behind, at_behind, gives, behind_goes, behind_gives, gone, alloc_goes, u64_goes}
-use Rattle.cyclic_c.proofs.OutCalls.{pointer_goes, Alloc, alloc_vals, Pair, pair_typed, long_fits, u32_goes, i64_goes}
+use Rattle.cyclic_c.proofs.OutCalls.{Behind, at_behind, gives, behind_goes, behind_gives, gone, u64_goes}
+use Rattle.cyclic_c.proofs.OutCalls.{pointer_goes, Pair, pair_typed, long_fits, u32_goes, i64_goes}
 use Rattle.cyclic_c.proofs.Seals.{ptr_typed}
 use Rattle.cyclic_c.proofs.Values.{two_out}
 use Rattle.cyclic_c.specs.contracts.exports.cyclic_add as f
@@ -46,21 +45,18 @@ use Rattle.cyclic_c.proofs.out_parameter.OutParameter.behind.Met as behind
 
 abbrev stayed : Stays f.ended.signature.params f.ended.kept
 stayed = (
-  gone Alloc,
+  gave_ref (0 ∷ []) tt (plain (λ _. Handle)),
   (
-    gave_ref (0 ∷ []) tt (plain (λ _. Handle)),
+    gone u64,
     (
-      gone u64,
+      gone u32,
       (
-        gone u32,
+        gone i64,
         (
           gone i64,
           (
             gone i64,
-            (
-              gone i64,
-              (gone RawPtr, tt),
-            ),
+            (gone RawPtr, tt),
           ),
         ),
       ),
@@ -73,35 +69,29 @@ cyclic_add_spec 𝓤 𝓛 𝓜 𝓡 wired =
     let H = 𝓛.H in let mem = 𝓜.mem in let run = 𝓡.returns in let c = f.clauses 𝓛 mem run in let W = walk_of 𝓛 f.ended stayed c in
     let 𝓣 = tables 𝓤 H 𝓜 𝓡 𝓡.env in let fm = framed 𝓤 H 𝓜 𝓣 in
     proved 𝓛 f.ended stayed c 𝓜 𝓡 (
-      alloc_goes 𝓛 1,
+      Goes-gave_ref 𝓛 1 0 tt (plain (λ _. Handle)),
       (
-        Goes-gave_ref 𝓛 1 0 tt (plain (λ _. Handle)),
+        u64_goes 𝓛 1,
         (
-          u64_goes 𝓛 1,
-          (
-            u32_goes 𝓛 1,
-            (i64_goes 𝓛 1, (i64_goes 𝓛 1, (i64_goes 𝓛 1, (pointer_goes 𝓛 1, tt)))),
-          ),
+          u32_goes 𝓛 1,
+          (i64_goes 𝓛 1, (i64_goes 𝓛 1, (i64_goes 𝓛 1, (pointer_goes 𝓛 1, tt)))),
         ),
       ),
     )
     f.Key.name code.function (code.unfolded 𝓤 H 𝓜 𝓡 wired)
     (λ κs. (
-      alloc_vals,
+      mut_vals,
       (
-        mut_vals,
+        uint_vals w64,
         (
-          uint_vals w64,
+          uint_vals w32,
           (
-            uint_vals w32,
+            sint_vals w64,
             (
               sint_vals w64,
               (
                 sint_vals w64,
-                (
-                  sint_vals w64,
-                  (rawptr_vals, tt),
-                ),
+                (rawptr_vals, tt),
               ),
             ),
           ),
@@ -109,26 +99,23 @@ cyclic_add_spec 𝓤 𝓛 𝓜 𝓡 wired =
       ),
     ))
     (λ κs. (
-      global_laws.lowers.val_is,
+      mut_Tells (named 0) κs.0 Handle,
       (
-        mut_Tells (named 0) κs.0 Handle,
+        uint_Tells w64,
         (
-          uint_Tells w64,
+          uint_Tells w32,
           (
-            uint_Tells w32,
+            sint_Tells w64,
             (
               sint_Tells w64,
-              (
-                sint_Tells w64,
-                (sint_Tells w64, (rawptr_Tells, tt)),
-              ),
+              (sint_Tells w64, (rawptr_Tells, tt)),
             ),
           ),
         ),
       ),
     )) (λ κs qs bounds a n are.
-    let κ = κs.0 in let q = qs.0 in let alloc = a.0 in let cpu = a.1.0 in let id = a.1.1.0 in let level = a.1.1.1.0 in
-    let start = a.1.1.1.1.0 in let interval = a.1.1.1.1.1.0 in let now = a.1.1.1.1.1.1.0 in let p = a.1.1.1.1.1.1.1.0 in
+    let κ = κs.0 in let q = qs.0 in let cpu = a.0 in let id = a.1.0 in let level = a.1.1.0 in
+    let start = a.1.1.1.0 in let interval = a.1.1.1.1.0 in let now = a.1.1.1.1.1.0 in let p = a.1.1.1.1.1.1.0 in
     let y : W.Ghost = (
       (
         κs,
@@ -136,17 +123,14 @@ cyclic_add_spec 𝓤 𝓛 𝓜 𝓡 wired =
         bounds,
         a,
         (
-          alloc_vals alloc,
+          mut_vals cpu,
           (
-            mut_vals cpu,
+            uint_vals w64 id,
             (
-              uint_vals w64 id,
+              uint_vals w32 level,
               (
-                uint_vals w32 level,
-                (
-                  sint_vals w64 start,
-                  (sint_vals w64 interval, (sint_vals w64 now, (rawptr_vals p, tt))),
-                ),
+                sint_vals w64 start,
+                (sint_vals w64 interval, (sint_vals w64 now, (rawptr_vals p, tt))),
               ),
             ),
           ),
@@ -157,25 +141,22 @@ cyclic_add_spec 𝓤 𝓛 𝓜 𝓡 wired =
     let Done = λ (w : Handle.Denot) (r : ℕ) (m : Option ℕ). Through cpu.now.inner.held w.inner.held r
     (AddsOut raise_tables OnHard (add_numbers id level start interval now) r m) in
     let Ends = λ (w : Handle.Denot) (r : ℕ) (m : Option ℕ). sep 𝓤 (sem 𝓛 (number_behind p m)) (fact 𝓤 (Done w r m)) in
-    qed 𝓛 (((‵ (flft κ q) ⊛ ‵ ftrue) ⊛ ‵ (Alloc.own_val alloc (alloc_vals alloc))
-    ⊛ ‵ ((MutRef (named 0) κ Handle).own_val cpu (mut_vals cpu)) ⊛ ‵ (u64.own_val id (uint_vals w64 id))
+    qed 𝓛 (((‵ (flft κ q) ⊛ ‵ ftrue) ⊛ ‵ ((MutRef (named 0) κ Handle).own_val cpu (mut_vals cpu))
+    ⊛ ‵ (u64.own_val id (uint_vals w64 id))
     ⊛ ‵ (u32.own_val level (uint_vals w32 level)) ⊛ ‵ (i64.own_val start (sint_vals w64 start))
     ⊛ ‵ (i64.own_val interval (sint_vals w64 interval)) ⊛ ‵ (i64.own_val now (sint_vals w64 now))
     ⊛ ‵ (RawPtr.own_val p (rawptr_vals p)) ⊛ ‵ ftrue) ∷ (raw (fact 𝓤 (Testable p)) ⊛ ‵ (number_behind p n)) ∷ []) ∵
     move ! (1 ∷ []) $ split ! $ heard ! (Testable p) (λ t.
     use1 𝓛 (raw ((Behind 𝓛 mem run p n).pre (at_behind 𝓛 mem run p n))) (behind_goes 𝓛 mem run p n t) $
     enter ! _ _ _ _ _ $ alloc_all ! (λ l. pass_all ! refl (
-      ((global_laws.the_row_laws.lawful 𝓛).typed alloc (alloc_vals alloc) are.0).0,
+      (tt, tt),
       (
-        (tt, tt),
+        (tt, record { fits = are.1.0.1 }),
         (
           (tt, record { fits = are.1.1.0.1 }),
           (
-            (tt, record { fits = are.1.1.1.0.1 }),
-            (
-              (tt, long_fits start are.1.1.1.1.0.1),
-              ((tt, long_fits interval are.1.1.1.1.1.0.1), ((tt, long_fits now are.1.1.1.1.1.1.0.1), (ptr_typed p, tt))),
-            ),
+            (tt, long_fits start are.1.1.1.0.1),
+            ((tt, long_fits interval are.1.1.1.1.0.1), ((tt, long_fits now are.1.1.1.1.1.0.1), (ptr_typed p, tt))),
           ),
         ),
       ),
@@ -188,8 +169,8 @@ cyclic_add_spec 𝓤 𝓛 𝓜 𝓡 wired =
     sets ! (of_opd ! (get ! refl)) refl is.1 $ sets ! (addr ! (through ! refl (stop !))) refl (tt, tt) $
     -- [the out-parameter; the token and the parameters]
     move ! (1 ∷ []) $ split ! $ move ! (1 ∷ []) $ split ! $ move ! (1 ∷ []) $ split ! $ move ! (1 ∷ []) $ split ! $
-    move ! (1 ∷ []) $ split ! $ move ! (1 ∷ []) $ split ! $ move ! (1 ∷ []) $ split ! $ move ! (1 ∷ []) $ split ! $ nothing ! $
-    move ! (8 ∷ 7 ∷ 6 ∷ 5 ∷ 4 ∷ 3 ∷ 1 ∷ 10 ∷ 0 ∷ []) $ group ! 9 $ move ! (2 ∷ 0 ∷ []) $ join ! $ nothing ! $
+    move ! (1 ∷ []) $ split ! $ move ! (1 ∷ []) $ split ! $ move ! (1 ∷ []) $ split ! $ nothing ! $
+    move ! (7 ∷ 6 ∷ 5 ∷ 4 ∷ 3 ∷ 1 ∷ 9 ∷ 0 ∷ []) $ group ! 8 $ move ! (2 ∷ 0 ∷ []) $ join ! $ nothing ! $
     move ! (1 ∷ 0 ∷ []) $
     let G : Contract 𝓤 = triple_of 𝓛 g.signature (g.spec 𝓛 mem run) in
     let z : G.Ghost = (
@@ -197,21 +178,18 @@ cyclic_add_spec 𝓤 𝓛 𝓜 𝓡 wired =
         κs,
         qs,
         bounds,
-        (alloc, (cpu, (id, (level, (start, (interval, (now, (m, tt)))))))),
+        (cpu, (id, (level, (start, (interval, (now, (m, tt))))))),
         (
-          alloc_vals alloc,
+          mut_vals cpu,
           (
-            mut_vals cpu,
+            uint_vals w64 id,
             (
-              uint_vals w64 id,
+              uint_vals w32 level,
               (
-                uint_vals w32 level,
+                sint_vals w64 start,
                 (
-                  sint_vals w64 start,
-                  (
-                    sint_vals w64 interval,
-                    (sint_vals w64 now, (u ∷ [], tt)),
-                  ),
+                  sint_vals w64 interval,
+                  (sint_vals w64 now, (u ∷ [], tt)),
                 ),
               ),
             ),
@@ -223,13 +201,13 @@ cyclic_add_spec 𝓤 𝓛 𝓜 𝓡 wired =
     use2 𝓛 (raw (G.pre z)) (id⊢ 𝓤 _) $
     calls_at ! fm G (added.met 𝓤 𝓛 𝓜 𝓡 (code.calls-cyclic_c::exports::added 𝓡.env wired)) z
     (and_then ! (get ! refl) (and_then ! (get ! refl) (and_then ! (get ! refl) (and_then ! (get ! refl) (and_then ! (get ! refl)
-    (and_then ! (get ! refl) (and_then ! (get ! refl) (and_then ! (get ! refl) (no_more !))))))))) (λ v.
+    (and_then ! (get ! refl) (and_then ! (get ! refl) (no_more !)))))))) (λ v.
     use1 𝓛 (later (some (λ (r : Pair.Denot). ((‵ (flft κ q) ⊛ ‵ ftrue) ⊛ ‵ (Pair.own_val r (v ∷ []))) ⊛ some
-    (λ (ws : Lasts g.ended κs z.0.3). ‵ (lasts g.ended κs z.0.3 ws) ⊛ (raw (fact 𝓤 (Done ws.1.0 r.0 (number_out r.1)))
+    (λ (ws : Lasts g.ended κs z.0.3). ‵ (lasts g.ended κs z.0.3 ws) ⊛ (raw (fact 𝓤 (Done ws.0 r.0 (number_out r.1)))
     ⊛ raw (fact 𝓤 (pointer_of r.1 ≡ pointer_of m))))))) (id⊢ 𝓤 _) $ await ! tt $ pick !
-    (λ r. split ! $ move ! (1 ∷ []) $ pick ! (λ ws. let Said = Done ws.1.0 r.0 (number_out r.1) in let Left = Ends ws.1.0 r.0 in
+    (λ r. split ! $ move ! (1 ∷ []) $ pick ! (λ ws. let Said = Done ws.0 r.0 (number_out r.1) in let Left = Ends ws.0 r.0 in
     split ! $ move ! (1 ∷ []) $ split ! $ heard ! Said (λ done. heard ! (pointer_of r.1 ≡ pointer_of m) (λ same.
-    fsplit ! $ drop ! $ fsplit ! $ move ! (1 ∷ []) $ drop ! $ move ! (1 ∷ []) $ split ! $ move ! (1 ∷ []) $
+    fsplit ! $ move ! (1 ∷ []) $ drop ! $ move ! (1 ∷ []) $ split ! $ move ! (1 ∷ []) $
     two_out u32 Found r.0 r.1 ! refl refl (uint_Lawful 𝓛 w32) (found_laws.lawful 𝓛) (v ∷ []) (λ v₁ v₂ g₁ g₂ e.
     lands_as ! (ap only e) refl (pair_typed v₁ v₂ g₁ g₂) $
     sets ! (of_opd ! (get_in ! (fld ! refl (stop !)) (sub ! 0 refl (whole !)))) refl g₁ $
@@ -240,6 +218,6 @@ cyclic_add_spec 𝓤 𝓛 𝓜 𝓡 wired =
     use0 𝓛 (raw (fact 𝓤 Said)) (fact_i 𝓤 Said (emp 𝓤) done) $ move ! (1 ∷ 0 ∷ []) $
     use2 𝓛 (raw (ex 𝓤 Left)) (ex_i 𝓤 Left (number_out r.1)) $
     nothing ! $ nothing ! $ fjoin ! $ nothing ! $ fjoin ! $ nothing ! $ fjoin ! $ nothing ! $ fjoin ! $ nothing ! $ fjoin ! $
-    nothing ! $ fjoin ! $ move ! (4 ∷ 0 ∷ []) $ fjoin ! $ nothing ! $ fjoin ! $ keep ! (3 ∷ 0 ∷ 2 ∷ 1 ∷ []) $
-    by ! (leaves 𝓛 f.ended stayed c y v₁ r.0 (tt, (ws.1.0, (tt, (tt, (tt, (tt, (tt, (tt, tt))))))))
-    (tt, (tt, (tt, (tt, (tt, (tt, (tt, (tt, tt)))))))))))))))))))))
+    nothing ! $ fjoin ! $ move ! (4 ∷ 0 ∷ []) $ fjoin ! $ keep ! (3 ∷ 0 ∷ 2 ∷ 1 ∷ []) $
+    by ! (leaves 𝓛 f.ended stayed c y v₁ r.0 (ws.0, (tt, (tt, (tt, (tt, (tt, (tt, tt)))))))
+    (tt, (tt, (tt, (tt, (tt, (tt, (tt, tt))))))))))))))))))))

@@ -25,7 +25,6 @@ use denote.Triple.Statement.{Contract}
 use denote.Triple.Table.{framed}
 use denote.Triple.Walked.{Stays, gave_ref, walk_of, Goes-gave_ref}
 use Rattle.std.proofs.raw_atomic.Walks.{proved, leaves}
-use Rattle.std.proofs.alloc.Global.TheLaws as global_laws
 use Rattle.cyc_border.specs.Border.{Through}
 use Rattle.cyc_border.specs.Pair.{raise_held, OnSide}
 use Rattle.cyclic_c.specs.Exports.{RemovesOut}
@@ -33,8 +32,8 @@ use Rattle.cyclic_c.specs.OutParameters.{number_behind, pointer_of, number_out}
 use Rattle.cyclic_c.specs.contracts.records.CyclicReceipt.{the_row as Receipt}
 use Rattle.cyclic_c.specs.contracts.handle_firing.CyclicFiring.{the_row as Handle}
 use Rattle.cyclic_c.proofs.OutValues.{Found, found_laws, found_memory}
-use Rattle.cyclic_c.proofs.OutCalls.{Behind, at_behind, gives, behind_goes, behind_gives, gone, alloc_goes, u64_goes}
-use Rattle.cyclic_c.proofs.OutCalls.{pointer_goes, Alloc, alloc_vals, Pair, pair_typed}
+use Rattle.cyclic_c.proofs.OutCalls.{Behind, at_behind, gives, behind_goes, behind_gives, gone, u64_goes}
+use Rattle.cyclic_c.proofs.OutCalls.{pointer_goes, Pair, pair_typed}
 use Rattle.cyclic_c.proofs.Seals.{ptr_typed}
 use Rattle.cyclic_c.proofs.Values.{two_out}
 use Rattle.cyclic_c.specs.contracts.exports_firing.cyclic_firing_begin_remove as f
@@ -46,15 +45,12 @@ use Rattle.cyclic_c.proofs.out_parameter.OutParameter.behind.Met as behind
 
 abbrev stayed : Stays f.ended.signature.params f.ended.kept
 stayed = (
-  gone Alloc,
+  gave_ref (0 ∷ []) tt (plain (λ _. Handle)),
   (
-    gave_ref (0 ∷ []) tt (plain (λ _. Handle)),
+    gone u64,
     (
-      gone u64,
-      (
-        gave_ref (1 ∷ []) tt (plain (λ _. u32)),
-        (gave_ref (2 ∷ []) tt (plain (λ _. Receipt)), (gone RawPtr, tt)),
-      ),
+      gave_ref (1 ∷ []) tt (plain (λ _. u32)),
+      (gave_ref (2 ∷ []) tt (plain (λ _. Receipt)), (gone RawPtr, tt)),
     ),
   ),
 )
@@ -64,32 +60,26 @@ cyclic_firing_begin_remove_spec 𝓤 𝓛 𝓜 𝓡 wired =
     let H = 𝓛.H in let mem = 𝓜.mem in let run = 𝓡.returns in let c = f.clauses 𝓛 mem run in let W = walk_of 𝓛 f.ended stayed c in
     let 𝓣 = tables 𝓤 H 𝓜 𝓡 𝓡.env in let fm = framed 𝓤 H 𝓜 𝓣 in
     proved 𝓛 f.ended stayed c 𝓜 𝓡 (
-      alloc_goes 𝓛 3,
+      Goes-gave_ref 𝓛 3 0 tt (plain (λ _. Handle)),
       (
-        Goes-gave_ref 𝓛 3 0 tt (plain (λ _. Handle)),
-        (
-          u64_goes 𝓛 3,
-          (Goes-gave_ref 𝓛 3 1 tt (plain (λ _. u32)), (Goes-gave_ref 𝓛 3 2 tt (plain (λ _. Receipt)), (pointer_goes 𝓛 3, tt))),
-        ),
+        u64_goes 𝓛 3,
+        (Goes-gave_ref 𝓛 3 1 tt (plain (λ _. u32)), (Goes-gave_ref 𝓛 3 2 tt (plain (λ _. Receipt)), (pointer_goes 𝓛 3, tt))),
       ),
     )
     f.Key.name code.function (code.unfolded 𝓤 H 𝓜 𝓡 wired)
-    (λ κs. (alloc_vals, (mut_vals, (uint_vals w64, (mut_vals, (mut_vals, (rawptr_vals, tt)))))))
+    (λ κs. (mut_vals, (uint_vals w64, (mut_vals, (mut_vals, (rawptr_vals, tt))))))
     (λ κs. (
-      global_laws.lowers.val_is,
+      mut_Tells (named 0) κs.0 Handle,
       (
-        mut_Tells (named 0) κs.0 Handle,
+        uint_Tells w64,
         (
-          uint_Tells w64,
-          (
-            mut_Tells (named 1) κs.1.0 u32,
-            (mut_Tells (named 2) κs.1.1.0 Receipt, (rawptr_Tells, tt)),
-          ),
+          mut_Tells (named 1) κs.1.0 u32,
+          (mut_Tells (named 2) κs.1.1.0 Receipt, (rawptr_Tells, tt)),
         ),
       ),
     )) (λ κs qs bounds a n are.
-    let alloc = a.0 in let firing = a.1.0 in let id = a.1.1.0 in let kept = a.1.1.1.0 in let receipt = a.1.1.1.1.0 in
-    let p = a.1.1.1.1.1.0 in let toks = ‵ (flft κs.0 qs.0) ⊛ ‵ (flft κs.1.0 qs.1.0) ⊛ ‵ (flft κs.1.1.0 qs.1.1.0) ⊛ ‵ ftrue in
+    let firing = a.0 in let id = a.1.0 in let kept = a.1.1.0 in let receipt = a.1.1.1.0 in
+    let p = a.1.1.1.1.0 in let toks = ‵ (flft κs.0 qs.0) ⊛ ‵ (flft κs.1.0 qs.1.0) ⊛ ‵ (flft κs.1.1.0 qs.1.1.0) ⊛ ‵ ftrue in
     let y : W.Ghost = (
       (
         κs,
@@ -97,17 +87,14 @@ cyclic_firing_begin_remove_spec 𝓤 𝓛 𝓜 𝓡 wired =
         bounds,
         a,
         (
-          alloc_vals alloc,
+          mut_vals firing,
           (
-            mut_vals firing,
+            uint_vals w64 id,
             (
-              uint_vals w64 id,
+              mut_vals kept,
               (
-                mut_vals kept,
-                (
-                  mut_vals receipt,
-                  (rawptr_vals p, tt),
-                ),
+                mut_vals receipt,
+                (rawptr_vals p, tt),
               ),
             ),
           ),
@@ -120,17 +107,14 @@ cyclic_firing_begin_remove_spec 𝓤 𝓛 𝓜 𝓡 wired =
     (RemovesOut raise_held OnSide id r (record { kept = k; receipt = x; busy = m })) in
     let Ends = λ (w : Handle.Denot) (k : ℕ) (x : Receipt.Denot) (r : ℕ) (m : Option ℕ). sep 𝓤 (sem 𝓛 (number_behind p m))
     (fact 𝓤 (Done w k x r m)) in
-    qed 𝓛 ((toks ⊛ ‵ (Alloc.own_val alloc (alloc_vals alloc))
-    ⊛ ‵ ((MutRef (named 0) κs.0 Handle).own_val firing (mut_vals firing)) ⊛ ‵ (u64.own_val id (uint_vals w64 id))
+    qed 𝓛 ((toks ⊛ ‵ ((MutRef (named 0) κs.0 Handle).own_val firing (mut_vals firing)) ⊛ ‵ (u64.own_val id (uint_vals w64 id))
     ⊛ ‵ ((MutRef (named 1) κs.1.0 u32).own_val kept (mut_vals kept))
     ⊛ ‵ ((MutRef (named 2) κs.1.1.0 Receipt).own_val receipt (mut_vals receipt)) ⊛ ‵ (RawPtr.own_val p (rawptr_vals p))
     ⊛ ‵ ftrue) ∷ (raw (fact 𝓤 (Testable p)) ⊛ ‵ (number_behind p n)) ∷ []) ∵
     move ! (1 ∷ []) $ split ! $ heard ! (Testable p) (λ t.
     use1 𝓛 (raw ((Behind 𝓛 mem run p n).pre (at_behind 𝓛 mem run p n))) (behind_goes 𝓛 mem run p n t) $
-    enter ! _ _ _ _ _ $ alloc_all ! (λ l. pass_all ! refl (
-      ((global_laws.the_row_laws.lawful 𝓛).typed alloc (alloc_vals alloc) are.0).0,
-      ((tt, tt), ((tt, record { fits = are.1.1.0.1 }), ((tt, tt), ((tt, tt), (ptr_typed p, tt))))),
-    ) $
+    enter ! _ _ _ _ _ $
+    alloc_all ! (λ l. pass_all ! refl ((tt, tt), ((tt, record { fits = are.1.0.1 }), ((tt, tt), ((tt, tt), (ptr_typed p, tt))))) $
     first ! $ blocks ! $ calls_at_last ! fm (Behind 𝓛 mem run p n) (behind.met 𝓤 𝓛 𝓜 𝓡
     (code.calls-cyclic_c::out_parameter::OutParameter::behind 𝓡.env wired)) (at_behind 𝓛 mem run p n)
     (and_then ! (get ! refl) (no_more !)) (λ u. use1 𝓛 (later (some (gives 𝓛 p u))) (behind_gives 𝓛 mem run p n u) $
@@ -140,23 +124,20 @@ cyclic_firing_begin_remove_spec 𝓤 𝓛 𝓜 𝓡 wired =
     sets ! (addr ! (through ! refl (stop !))) refl (tt, tt) $ sets ! (addr ! (through ! refl (stop !))) refl (tt, tt) $
     -- [the out-parameter; the tokens and the parameters]
     move ! (1 ∷ []) $ split ! $ move ! (1 ∷ []) $ split ! $ move ! (1 ∷ []) $ split ! $ move ! (1 ∷ []) $ split ! $
-    move ! (1 ∷ []) $ split ! $ move ! (1 ∷ []) $ split ! $ nothing ! $
-    move ! (6 ∷ 5 ∷ 4 ∷ 3 ∷ 1 ∷ 8 ∷ 0 ∷ []) $ group ! 7 $ move ! (2 ∷ 0 ∷ []) $ join ! $ nothing ! $ move ! (1 ∷ 0 ∷ []) $
+    move ! (1 ∷ []) $ split ! $ nothing ! $
+    move ! (5 ∷ 4 ∷ 3 ∷ 1 ∷ 7 ∷ 0 ∷ []) $ group ! 6 $ move ! (2 ∷ 0 ∷ []) $ join ! $ nothing ! $ move ! (1 ∷ 0 ∷ []) $
     let G : Contract 𝓤 = triple_of 𝓛 g.signature (g.spec 𝓛 mem run) in
     let z : G.Ghost = (
       (
         κs,
         qs,
         bounds,
-        (alloc, (firing, (id, (kept, (receipt, (m, tt)))))),
+        (firing, (id, (kept, (receipt, (m, tt))))),
         (
-          alloc_vals alloc,
+          mut_vals firing,
           (
-            mut_vals firing,
-            (
-              uint_vals w64 id,
-              (mut_vals kept, (mut_vals receipt, (u ∷ [], tt))),
-            ),
+            uint_vals w64 id,
+            (mut_vals kept, (mut_vals receipt, (u ∷ [], tt))),
           ),
         ),
       ),
@@ -165,15 +146,15 @@ cyclic_firing_begin_remove_spec 𝓤 𝓛 𝓜 𝓡 wired =
     use2 𝓛 (raw (G.pre z)) (id⊢ 𝓤 _) $
     calls_at ! fm G (removal_begun.met 𝓤 𝓛 𝓜 𝓡 (code.calls-cyclic_c::exports_firing::removal_begun 𝓡.env wired)) z
     (and_then ! (get ! refl) (and_then ! (get ! refl) (and_then ! (get ! refl) (and_then ! (get ! refl) (and_then ! (get ! refl)
-    (and_then ! (get ! refl) (no_more !))))))) (λ v.
+    (no_more !)))))) (λ v.
     use1 𝓛 (later (some (λ (r : Pair.Denot). (toks ⊛ ‵ (Pair.own_val r (v ∷ []))) ⊛ some (λ (ws : Lasts g.ended κs z.0.3).
-    ‵ (lasts g.ended κs z.0.3 ws) ⊛ (raw (fact 𝓤 (Done ws.1.0 ws.1.1.1.0 ws.1.1.1.1.0 r.0 (number_out r.1)))
+    ‵ (lasts g.ended κs z.0.3 ws) ⊛ (raw (fact 𝓤 (Done ws.0 ws.1.1.0 ws.1.1.1.0 r.0 (number_out r.1)))
     ⊛ raw (fact 𝓤 (pointer_of r.1 ≡ pointer_of m))))))) (id⊢ 𝓤 _) $ await ! tt $ pick !
     (λ r. split ! $ move ! (1 ∷ []) $ pick ! (λ ws.
-    let Said = Done ws.1.0 ws.1.1.1.0 ws.1.1.1.1.0 r.0 (number_out r.1) in
-    let Left = Ends ws.1.0 ws.1.1.1.0 ws.1.1.1.1.0 r.0 in
+    let Said = Done ws.0 ws.1.1.0 ws.1.1.1.0 r.0 (number_out r.1) in
+    let Left = Ends ws.0 ws.1.1.0 ws.1.1.1.0 r.0 in
     split ! $ move ! (1 ∷ []) $ split ! $ heard ! Said (λ done. heard ! (pointer_of r.1 ≡ pointer_of m) (λ same.
-    fsplit ! $ drop ! $ fsplit ! $ move ! (1 ∷ []) $ fsplit ! $ drop ! $ fsplit ! $ move ! (1 ∷ []) $ fsplit ! $
+    fsplit ! $ move ! (1 ∷ []) $ fsplit ! $ drop ! $ fsplit ! $ move ! (1 ∷ []) $ fsplit ! $
     move ! (1 ∷ []) $ drop ! $ move ! (3 ∷ []) $ split ! $ move ! (1 ∷ []) $
     two_out u32 Found r.0 r.1 ! refl refl (uint_Lawful 𝓛 w32) (found_laws.lawful 𝓛) (v ∷ []) (λ v₁ v₂ g₁ g₂ e.
     lands_as ! (ap only e) refl (pair_typed v₁ v₂ g₁ g₂) $
@@ -185,6 +166,6 @@ cyclic_firing_begin_remove_spec 𝓤 𝓛 𝓜 𝓡 wired =
     use0 𝓛 (raw (fact 𝓤 Said)) (fact_i 𝓤 Said (emp 𝓤) done) $ move ! (1 ∷ 0 ∷ []) $
     use2 𝓛 (raw (ex 𝓤 Left)) (ex_i 𝓤 Left (number_out r.1)) $
     nothing ! $ nothing ! $ fjoin ! $ move ! (4 ∷ 0 ∷ []) $ fjoin ! $ move ! (4 ∷ 0 ∷ []) $ fjoin ! $ nothing ! $ fjoin ! $
-    move ! (4 ∷ 0 ∷ []) $ fjoin ! $ nothing ! $ fjoin ! $ keep ! (3 ∷ 0 ∷ 2 ∷ 1 ∷ []) $
-    by ! (leaves 𝓛 f.ended stayed c y v₁ r.0 (tt, (ws.1.0, (tt, (ws.1.1.1.0, (ws.1.1.1.1.0, (tt, tt))))))
-    (tt, (tt, (tt, (tt, (tt, (tt, tt)))))))))))))))))))
+    move ! (4 ∷ 0 ∷ []) $ fjoin ! $ keep ! (3 ∷ 0 ∷ 2 ∷ 1 ∷ []) $
+    by ! (leaves 𝓛 f.ended stayed c y v₁ r.0 (ws.0, (tt, (ws.1.1.0, (ws.1.1.1.0, (tt, tt)))))
+    (tt, (tt, (tt, (tt, (tt, tt))))))))))))))))))

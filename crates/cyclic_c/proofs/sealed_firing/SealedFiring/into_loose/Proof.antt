@@ -44,7 +44,7 @@ into_loose_spec 𝓤 𝓛 𝓜 𝓡 wired =
     (1 ∷ []) $ heard ! (IsSome v.held) (λ there.
     let x = (some_of v.held there).0 in let is = (some_of v.held there).1 in
     split ! $ move ! (1 ∷ []) $ fsplit ! $ sealed_out ! R v.at v.held x is z.0.4.0
-    (λ b o ws. move ! (1 ∷ []) $ fsplit ! $ handle_tells al ! a z.0.4.1.0 (λ h wa fits.
+    (λ b o at ws. move ! (1 ∷ []) $ fsplit ! $ handle_tells al ! a z.0.4.1.0 (λ h wa fits.
     let typed = loose_good R Z al.laws al.g b o h fits in
     suffices ! (Run (one (vptr b o) ∷ h ∷ []))
     (subst (λ (us : List Val). ent 𝓤 (Run (one (vptr b o) ∷ h ∷ [])) (Run us)) (sym (λ i. ws i ++ (wa i ++ [])))
