@@ -18,26 +18,26 @@ use Rattle.cyclic_c.specs.contracts.sealed_soft.SealedSoft.{the_row as sealed_so
 use Rattle.cyclic_c.specs.declared.sealed_books.SealedBooks.{SealedBooks}
 use Rattle.cyclic_c.specs.contracts.sealed_books.SealedBooks.{the_row as sealed_books_row}
 
-abbrev pub with_cpu : Sealed → Cpu → Sealed
-with_cpu s x = record s { held = Some x }
+abbrev pub holding_cpu : Sealed → Cpu → Sealed
+holding_cpu s x = record s { held = Some x }
 
 abbrev pub LendsCpu : MutBor Sealed → MutBor Cpu → Fml
-LendsCpu s r = Lends sealed_row cpu_row s r (with_cpu s.now)
+LendsCpu s r = Lends sealed_row cpu_row s r (holding_cpu s.now)
 
-abbrev pub with_firing : SealedFiring → Firing → SealedFiring
-with_firing s x = record s { held = Some x }
+abbrev pub holding_firing : SealedFiring → Firing → SealedFiring
+holding_firing s x = record s { held = Some x }
 
 abbrev pub LendsFiring : MutBor SealedFiring → MutBor Firing → Fml
-LendsFiring s r = Lends sealed_firing_row firing_row s r (with_firing s.now)
+LendsFiring s r = Lends sealed_firing_row firing_row s r (holding_firing s.now)
 
-abbrev pub with_soft_side : SealedSoft → SoftSide → SealedSoft
-with_soft_side s x = record s { held = Some x }
+abbrev pub holding_soft : SealedSoft → SoftSide → SealedSoft
+holding_soft s x = record s { held = Some x }
 
 abbrev pub LendsSoftSide : MutBor SealedSoft → MutBor SoftSide → Fml
-LendsSoftSide s r = Lends sealed_soft_row soft_side_row s r (with_soft_side s.now)
+LendsSoftSide s r = Lends sealed_soft_row soft_side_row s r (holding_soft s.now)
 
-abbrev pub with_shelf : SealedBooks → Shelf → SealedBooks
-with_shelf s x = record s { held = Some x }
+abbrev pub holding_shelf : SealedBooks → Shelf → SealedBooks
+holding_shelf s x = record s { held = Some x }
 
 abbrev pub LendsShelf : MutBor SealedBooks → MutBor Shelf → Fml
-LendsShelf s r = Lends sealed_books_row shelf_row s r (with_shelf s.now)
+LendsShelf s r = Lends sealed_books_row shelf_row s r (holding_shelf s.now)

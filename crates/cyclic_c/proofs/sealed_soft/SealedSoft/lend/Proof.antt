@@ -29,7 +29,7 @@ use Rattle.std.proofs.alloc.Shapes.{after}
 use Rattle.std.proofs.raw_atomic.Walks.{proved}
 use Rattle.cyc_border.specs.declared.soft_side.SoftSide.{SoftSide}
 use Rattle.cyc_border.specs.contracts.soft_side.SoftSide.{the_row as R}
-use Rattle.cyclic_c.specs.Lending.{with_soft_side}
+use Rattle.cyclic_c.specs.Lending.{holding_soft}
 use Rattle.cyclic_c.specs.declared.sealed_soft.SealedSoft.{SealedSoft}
 use Rattle.cyclic_c.specs.contracts.sealed_soft.SealedSoft.{the_row as S}
 use Rattle.cyclic_c.specs.contracts.sealed_soft.SealedSoft.lend.{ended, clauses}
@@ -43,7 +43,7 @@ stayed = (stay_dropped (mut_ref_to (0 ∷ []) tt (plain (λ _. S))) no, tt)
 
 back : {M : Type 1} {𝓤 : Ura M} (𝓛 : Logic 𝓤) (h : SealedSoft) (rb ro b o : ℕ) → h.at ≡ block_ptr b o → (w : SoftSide)
     → ent 𝓤 (sep 𝓤 (sem 𝓛 ((mem R).own_at w b o)) (sem 𝓛 (Beside R S.mir rb ro b o)))
-    (sem 𝓛 ((mem S).own_at (with_soft_side h w) rb ro))
+    (sem 𝓛 ((mem S).own_at (holding_soft h w) rb ro))
 unfolding part_of
 back 𝓛 h rb ro b o = given_back R S.mir rb ro b o 𝓛 h.at
 
@@ -57,9 +57,9 @@ lend_spec 𝓤 𝓛 𝓜 𝓡 wired =
     let y : W.Ghost = ((κs, qs, bounds, a, (vptr rb ro ∷ [], tt)), g) in
     let exits : (b o : ℕ) (x : SoftSide) (is : h.held ≡ Some x) (γ' : GName)
     → ent 𝓤 (sep 𝓤 (sem 𝓛 ((MutRef (named 0) κ R).own_val (record { ref_ptr = (b, o); ghost_name = γ'; now = x })
-    (vptr b o ∷ []))) (sep 𝓤 (𝓛.A.lft κ q) (sem 𝓛 (follows S R γ γ' (with_soft_side h))))) (W.post y (vptr b o)) = λ b o x is γ'.
+    (vptr b o ∷ []))) (sep 𝓤 (𝓛.A.lft κ q) (sem 𝓛 (follows S R γ γ' (holding_soft h))))) (W.post y (vptr b o)) = λ b o x is γ'.
     qed 𝓛 (‵ ((MutRef (named 0) κ R).own_val (record { ref_ptr = (b, o); ghost_name = γ'; now = x }) (vptr b o ∷ []))
-    ∷ ‵ (flft κ q) ∷ ‵ (follows S R γ γ' (with_soft_side h)) ∷ []) ∵
+    ∷ ‵ (flft κ q) ∷ ‵ (follows S R γ γ' (holding_soft h)) ∷ []) ∵
     suffices ! _ (ends_at 𝓛 ended stayed c y (vptr b o) (record { ref_ptr = (b, o); ghost_name = γ'; now = x }) (tt, tt)
     (tt, tt)) $
     nothing ! $ nothing ! $ fjoin ! $ join ! $ nothing ! $ move ! (2 ∷ 0 ∷ []) $ join ! $ join ! $ frame ! $ says ! is $ done ! in
@@ -79,9 +79,9 @@ lend_spec 𝓤 𝓛 𝓜 𝓡 wired =
     exec ! 𝓣.C 𝓣.Λ En (after 3 code.function.body) (at_ret En (W.post y)) $
     sets ! (of_opd ! (get ! refl)) refl (tt, tt) $
     move ! (1 ∷ 2 ∷ []) $ fjoin ! $ move ! (2 ∷ 3 ∷ 4 ∷ 1 ∷ 0 ∷ []) $ group ! 5 $
-    use1 𝓛 (later (some (λ (γ' : GName). raw (Part 𝓛 S R (with_soft_side h) (named 0) κ q rb ro b o γ
+    use1 𝓛 (later (some (λ (γ' : GName). raw (Part 𝓛 S R (holding_soft h) (named 0) κ q rb ro b o γ
     (sem 𝓛 (Beside R S.mir rb ro b o)) (back 𝓛 h rb ro b o at_b) x γ'))))
-    (lends_Part 𝓛 S R (with_soft_side h) (named 0) κ q rb ro b o γ (sem 𝓛 (Beside R S.mir rb ro b o))
+    (lends_Part 𝓛 S R (holding_soft h) (named 0) κ q rb ro b o γ (sem 𝓛 (Beside R S.mir rb ro b o))
     (back 𝓛 h rb ro b o at_b) (S.coded.code h) (S.coded.code h) x) $
     await ! tt $ pick ! (λ γ'. returns ! (look_at ! 0 refl) $ free_all ! refl $
     keep ! (0 ∷ []) $ by ! (exits b o x is γ')))))))
