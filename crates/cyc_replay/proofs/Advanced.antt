@@ -14,7 +14,7 @@ use Rattle.cyc_types.specs.Reasons.{when, or_else, bad_now}
 use Rattle.cyc_model.specs.Advance.{advance, advance_refusal}
 use Rattle.cyc_system_model.specs.SystemAdvancing.{at_clock, fired_and_lost, HasFired, IsAdvanced}
 use Rattle.cyc_replay.specs.declared.machine.Machine.{Machine}
-use Rattle.cyc_replay.specs.Machine.{ShowsMachine, IsReached}
+use Rattle.cyc_replay.specs.Machine.{ShowsMachine, IsReached, IsWide}
 use Rattle.cyc_replay.specs.Words.{Comes, TakesWord}
 use Rattle.cyc_replay.proofs.Doing.{called_done, word_done}
 use Rattle.cyc_model.proofs.Still.{still_fires}
@@ -104,7 +104,7 @@ advanced step k n expired lost now s first t a clock before d =
         remembers = remembers_does [] (λ j. j) k (Advance now) s t t tt (reached_good step s a.reached)
             (in_time now s before a.awake) a.remembers
             (record { names = refl; named = refl }) (let last = still.last in omega (arith, last));
-        tally = a.tally;
+        tally = subst (λ j. IsWide j t.tally) (sym (ap length still.names)) a.tally;
         most = a.most;
         room = subst (λ j. HaveRoomFor j t.system.cpus) (sym (ap length still.names)) a.room;
       };

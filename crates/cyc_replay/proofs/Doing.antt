@@ -125,7 +125,8 @@ done_comes x s m n h kept done clock tally leaves remembers texts indexes step g
             omega (arith, told, none, was, same);
         names = leaves.names texts indexes step;
         remembers = remembers texts indexes step;
-        tally = subst (λ t. IsWide t) (sym tally) h.tally;
+        tally = subst (λ k. IsWide k n.tally) (sym (introduces_does texts indexes step s x).names)
+            (subst (λ t. IsWide (length s.names) t) (sym tally) h.tally);
         most = kept.most;
         room = subst (λ k. HaveRoomFor k n.system.cpus) (sym (introduces_does texts indexes step s x).names) kept.room;
       };
@@ -158,7 +159,7 @@ refuses s m n h kept shows clock tally same = record {
   names = h.names ∙ sym (ap numbers_of same.names);
   remembers = remembers_on s s m n h.remembers same (omega arith) (λ id low gone. gone) (λ id low gone. gone)
       (λ id low gone. refl);
-  tally = subst (λ t. IsWide t) (sym tally) h.tally;
+  tally = subst (λ t. IsWide (length s.names) t) (sym tally) h.tally;
   most = kept.most;
   room = kept.room;
 }

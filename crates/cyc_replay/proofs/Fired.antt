@@ -62,11 +62,11 @@ module _ (n now : ℕ) (s t : RunningSystem TallyView Tables) where
   most_fired fired (inr (none, (did, records, last))) all =
       most_changed n _ s.system.cpus t.system.cpus (λ x y d. d.1.most) did all
 
-  pub wide_fired : (fired : Fired) → Does tally_calls raise_tables no_interrupts s (FireOne n now (Ok fired)) t
-      → IsWide s.calls → IsWide t.calls
-  wide_fired fired (inl (e, some, answer, same)) w = absurd (let isnt : Ok fired ≡ Err (no_fire e) = answer in cc)
-  wide_fired fired (inr (none, (did, records, last))) w =
-      still_wide s.calls t.calls (same_range (ids_at High (timers did.before.cyclics)
+  pub wide_fired : (names : ℕ) (fired : Fired) → Does tally_calls raise_tables no_interrupts s (FireOne n now (Ok fired)) t
+      → IsWide names s.calls → IsWide names t.calls
+  wide_fired names fired (inl (e, some, answer, same)) w = absurd (let isnt : Ok fired ≡ Err (no_fire e) = answer in cc)
+  wide_fired names fired (inr (none, (did, records, last))) w =
+      still_wide names s.calls t.calls (same_range (ids_at High (timers did.before.cyclics)
       (expirations now (timers did.before.cyclics))) s.calls t.calls did.change.4.acts.called_in_order) w
 
 -- ---- a CPU that is offline
@@ -189,7 +189,7 @@ module _ (step n expired lost : ℕ) (s : State) (first : RunningSystem TallyVie
       let r = grows_fires m.clock ns c g a.before low_ones in
       let books = r.0.base.books id in let grown = r.1 id in
       let told = a.fired.called id in let was = a.called id in let all = called_fires id m.clock ns c in
-      let before = (few_reached step s a.reached a.few).1 id in
+      let before = few_reached step s a.reached a.few id in
       let many = numbers_few (λ (x : Cpu). x.online) 0 (take n c.cpus) in
       let few = many_reached step s a.reached in
       let same : expired_in id c ≡ expired_in id s = refl in
@@ -223,10 +223,12 @@ module _ (step n expired lost : ℕ) (s : State) (first : RunningSystem TallyVie
       }) why
       by (inr (late_enough, same, f)) =
           let ts = same_timers did.before did.here in
-          never_stopped m.clock 65535 (65536 * 16000000032) did.before did.after m.tally t.calls e f (omega arith)
+          never_stopped (length s.names) m.clock s.last_id (65536 * 16000000032) did.before did.after m.tally t.calls e f
+          a.reached.named
           (a.most n did.before did.here) (omega arith)
-          (subst (EachTimer (IsFew 65535 (65536 * 16000000032))) (sym ts)
-          (few_more 65535 (65535 * 16000000032) (65536 * 16000000032) (map (λ (c : CyclicState). c.timer) (cpu_of n s).cyclics)
+          (subst (EachTimer (IsFew s.last_id (65536 * 16000000032))) (sym ts)
+          (few_more s.last_id (65535 * 16000000032) (65536 * 16000000032)
+          (map (λ (c : CyclicState). c.timer) (cpu_of n s).cyclics)
           (omega arith) (few_timers step n s a.reached a.few)))
           (λ id. subst (λ xs. times_of id (expirations m.clock xs) ≤ late + 2) (sym ts)
           (few_times id n m.clock s (reached_good step s a.reached)))
@@ -290,6 +292,6 @@ passed_on step n expired lost s first m t a same clock names next =
       remembers = remembers_on s s m t a.remembers names (omega arith) (λ id low gone. gone) (λ id low gone. gone)
           (λ id low gone. refl);
       room = subst (λ (v : SystemView Tables). HaveRoomFor (length s.names) v.cpus) (sym system) a.room;
-      tally = subst (λ x. IsWide x) (sym tally) a.tally;
+      tally = subst (λ x. IsWide (length s.names) x) (sym tally) a.tally;
       most = subst (λ (v : SystemView Tables). AllMost v.cpus) (sym system) a.most;
     }

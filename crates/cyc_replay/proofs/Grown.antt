@@ -1,4 +1,4 @@
--- How many ids and expirations the steps of a run have brought.
+-- How many expirations the steps of a run have brought.
 use Rattle.std.proofs.Common.{eq-eqb, ◌≡◌, ℕ, zero, suc, ◌*◌, ◌≤◌, Bool, List, [], ◌∷◌, length, map, sum_by, refl, ap}
 use Rattle.std.proofs.Common.{sym, ◌∙◌, subst, cond}
 use Rattle.std.proofs.Common.{arith}
@@ -21,13 +21,10 @@ use Rattle.cyc_replay.proofs.Named.{reached_good}
 use Rattle.cyc_replay.proofs.Unrefused.{IsFew, EachTimer}
 
 pub few_reached : (step : ℕ) (s : State) → IsReached step s → step ≤ 65536
-    → (s.last_id ≤ 65535) × ((id : ℕ) → expired_in id s ≤ 65535 * 16000000032)
+    → (id : ℕ) → expired_in id s ≤ 65535 * 16000000032
 few_reached step s r low =
     let few = run_few r.indexes r.cpus r.ceiling r.texts r.steps r.some r.few in
-    let short = r.short in (
-      let a = few.0 in let b = ap (λ (t : State). t.last_id) r.is in omega (arith, a, b, short, low),
-      λ id. let a = few.1 id in let b = ap (expired_in id) r.is in omega (arith, a, b, short, low),
-    )
+    let short = r.short in λ id. let a = few.1 id in let b = ap (expired_in id) r.is in omega (arith, a, b, short, low)
 
 -- ---- the timers of a CPU
 
@@ -51,19 +48,14 @@ at_most last zero (c ∷ cs) all = all.0
 at_most last (suc n) (c ∷ cs) all = at_most last n cs all.1
 
 pub few_timers : (step n : ℕ) (s : State) → IsReached step s → step ≤ 65536
-    → EachTimer (IsFew 65535 (65535 * 16000000032)) (map (λ c. c.timer) (cpu_of n s).cyclics)
+    → EachTimer (IsFew s.last_id (65535 * 16000000032)) (map (λ c. c.timer) (cpu_of n s).cyclics)
 few_timers step n s r low =
     let few = few_reached step s r low in
     let g = reached_good step s r in
     let all = (subst (λ t. AllAtMost t.last_id t.cpus) (sym r.is)
     (given_from_start plain r.texts r.indexes r.cpus r.ceiling (length r.texts) 1 r.steps []).cyclics) in
-    few_cyclics 0 65535 (65535 * 16000000032) (cpu_of n s).cyclics (g.base.whole n).rising
-    (more_most s.last_id 65535 (cpu_of n s).cyclics few.0 (at_most s.last_id n s.cpus all))
-    (λ id. let a = sum_at id n s.cpus in let b = few.1 id in omega (arith, a, b))
-  where
-    more_most : (a b : ℕ) (cs : List CyclicState) → a ≤ b → AtMost a cs → AtMost b cs
-    more_most a b [] le at = tt
-    more_most a b (x ∷ xs) le at = (let h = at.0 in omega (arith, h, le), more_most a b xs le at.1)
+    few_cyclics 0 s.last_id (65535 * 16000000032) (cpu_of n s).cyclics (g.base.whole n).rising (at_most s.last_id n s.cpus all)
+    (λ id. let a = sum_at id n s.cpus in let b = few id in omega (arith, a, b))
 
 pub many_reached : (step : ℕ) (s : State) → IsReached step s → length s.cpus ≤ 16
 many_reached step s r = let few = r.few in

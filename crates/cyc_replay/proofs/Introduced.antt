@@ -1,5 +1,6 @@
 -- A run gives no more ids than its steps introduce names.
-use Rattle.std.proofs.Common.{◌≡◌, ℕ, zero, suc, ◌+◌, ◌≤◌, List, [], ◌∷◌, length, take, Option, Some, None, refl, ap, ◌∙◌, arith}
+use Rattle.std.proofs.Common.{◌≡◌, ℕ, zero, suc, ◌+◌, ◌≤◌, List, [], ◌∷◌, ◌++◌, length, take, Option, Some, None, refl, ap}
+use Rattle.std.proofs.Common.{◌∙◌, arith}
 use Rattle.std.specs.Prelude.{string_bytes}
 use Rattle.std.proofs.lemmas.List.{length-map, length-set, length-replicate}
 use Rattle.cyc_types.specs.declared.refusal.Refusal.{Refusal}
@@ -17,7 +18,7 @@ use Rattle.cyc_model.specs.Refusals.{unless}
 use Rattle.cyc_model.specs.Script.{refusal_of, does, word, steps_from, start, text_in, names_of, run_on}
 use Rattle.cyc_model.proofs.Still.{Still, still_bind, still_fires, still_enters, still_juggle, still_offline, still_online}
 use Rattle.cyc_model.proofs.Still.{still_remove, still_softint}
-use Rattle.cyc_replay.specs.Machine.{IsNamed}
+use Rattle.cyc_replay.specs.Machine.{IsNamed, HasName}
 use Rattle.cyc_replay.specs.Runs.{HaveNames}
 
 -- ---- a step
@@ -118,6 +119,11 @@ introduces_steps texts f step (x ∷ xs) s =
       let a = rest.1 in let b = all_after t.last_id (names_after s.last_id x) xs one.last in omega (arith, a, b),
     )
 
+-- a step more
+after_more : (n : ℕ) (xs : List Step) (x : Step) → names_after_all n (xs ++ x ∷ []) ≡ names_after (names_after_all n xs) x
+after_more n [] x = refl
+after_more n (y ∷ xs) x = after_more (names_after n y) xs x
+
 -- no more ids were given than there are names
 pub run_named : (f : ℕ → ℕ) (cpus ceiling : ℕ) (texts : List (List ℕ)) (steps : List Step)
     → names_after_all 0 steps ≤ length texts → IsNamed (run_on f cpus ceiling texts steps).state
@@ -126,11 +132,32 @@ run_named f cpus ceiling texts steps few =
     let long : length (start cpus ceiling (length texts)).names ≡ length texts = length-replicate (length texts) 0 in
     let names = h.0 in let last = h.1 in omega (arith, names, last, long, few)
 
--- the first steps of a script introduce no more names than it has
+-- where a step more introduces no more names than there are, those before it introduce no more either
+pub fewer_before : (texts : List (List ℕ)) (steps : List Step) (x : Step) → HaveNames texts (steps ++ x ∷ [])
+    → HaveNames texts steps
+fewer_before texts steps x few =
+    let more = after_more 0 steps x in let one = no_fewer (names_after_all 0 steps) x in omega (arith, few, more, one)
+
+-- and there is a name for the id that it gives
+pub run_has_name : (f : ℕ → ℕ) (cpus ceiling : ℕ) (texts : List (List ℕ)) (steps : List Step) (x : Step)
+    → HaveNames texts (steps ++ x ∷ []) → HasName x (run_on f cpus ceiling texts steps).state
+run_has_name f cpus ceiling texts steps x few =
+    let s = (run_on f cpus ceiling texts steps).state in
+    let h = introduces_steps texts f 1 steps (start cpus ceiling (length texts)) in
+    let long : length (start cpus ceiling (length texts)).names ≡ length texts = length-replicate (length texts) 0 in
+    let names = h.0 in let more = after_more 0 steps x in
+    let last = as_many_after s.last_id (names_after_all 0 steps) x h.1 in omega (arith, names, last, long, few, more)
+
+-- the steps of a script introduce no more names than it has
+pub all_names : (script : Script) → HaveNames (names_of script) script.steps.items
+all_names script =
+    let all = script.well_formed.names_introduced in let long = length-map script.names.items string_bytes in
+    omega (arith, all, long)
+
+-- nor do the first of them
 pub names_so_far : (script : Script) (i : ℕ) → HaveNames (names_of script) (take i script.steps.items)
 names_so_far script i =
-    let first = first_introduce 0 i script.steps.items in let all = script.well_formed.names_introduced in
-    let long = length-map script.names.items string_bytes in omega (arith, first, all, long)
+    let first = first_introduce 0 i script.steps.items in let all = all_names script in omega (arith, first, all)
 
 -- ---- where cyclics are
 

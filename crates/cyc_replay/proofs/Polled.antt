@@ -86,6 +86,10 @@ module _ (texts : List (List ℕ)) (step : ℕ) (i : SoftintStep) (s : State) wh
     same_last = let a = ap (λ (t : State). t.last_id) (left_next ids id) in let b =
         (still_polls texts step (id ∷ []) (left ids)).last in omega (arith, a, b)
 
+    same_many : length (left (ids ++ id ∷ [])).names ≡ length (left ids).names
+    same_many = ap (λ (t : State). length t.names) (left_next ids id)
+        ∙ ap length (still_polls texts step (id ∷ []) (left ids)).names
+
     pub polling_next : (answer : Option Receipt) (n : Machine)
         → HavePolled texts step (ids ++ id ∷ []) (lines ++ polled_line step (text_of_id id texts s.names) answer)
         (interrupt step i s).state n.system
@@ -106,10 +110,10 @@ module _ (texts : List (List ℕ)) (step : ℕ) (i : SoftintStep) (s : State) wh
         called = λ k. ap (λ t. tally_count t k) tally ∙ p.holds.called k ∙ p.polled.called k ∙ sym (next.called k);
         names = next.names ∙ sym p.polled.names ∙ p.holds.names ∙ sym names;
         remembers = remembers;
-        tally = subst (λ t. IsWide t) (sym tally) p.holds.tally;
+        tally = subst (λ k. IsWide k n.tally) (sym same_many)
+            (subst (λ t. IsWide (length (left ids).names) t) (sym tally) p.holds.tally);
         most = kept.most;
-        room = subst (λ k. HaveRoomFor k n.system.cpus) (sym (ap (λ (t : State). length t.names) (left_next ids id)
-            ∙ ap length (still_polls texts step (id ∷ []) (left ids)).names)) kept.room;
+        room = subst (λ k. HaveRoomFor k n.system.cpus) (sym same_many) kept.room;
       };
     }
 

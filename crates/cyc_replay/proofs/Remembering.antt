@@ -65,7 +65,7 @@ remembers_on s t m n r same last known gone told = record {
         ap (λ xs. named_at xs name) same.names ∙ at,
         kept ∙ tells ∙ (λ z. told_by_receipt receipt (sym (ap (λ (c : Counts). c.called) kept) z)),
       );
-  ids = ap length same.named ∙ r.ids;
+  ids = ap length same.named ∙ r.ids ∙ sym (ap length same.names);
 }
   where
     was : (name id : ℕ) → id_at n.names name ≡ Some id → id_at m.names name ≡ Some id
@@ -131,7 +131,8 @@ numbers_kept (x ∷ xs) (suc name) now same = ap (λ ns. name_number (id_of_name
 
 -- ---- an id is given to a name
 
-pub remembers_given : (s t : State) (m n : Machine) (name id : ℕ) → Remembers s m → s.last_id < 65536 → id ≡ s.last_id + 1
+pub remembers_given : (s t : State) (m n : Machine) (name id : ℕ) → Remembers s m → s.last_id < length m.names
+    → id ≡ s.last_id + 1
     → t.last_id ≡ s.last_id + 1
     → n.names ≡ slice_set m.names name (Cyclic id) → n.named.items ≡ slice_set m.named.items (id - 1) name
     → ((j : ℕ) → is_no_cyclic j t ≡ true → is_no_cyclic j s ≡ true) → is_no_cyclic id t ≡ false
@@ -163,7 +164,8 @@ remembers_given s t m n name id r few is last names named before known gone told
         kept ∙ tells ∙ (λ z. told_by_receipt receipt (sym (ap (λ (c : Counts). c.called) kept) z)),
       ))
       (cases j k at);
-  ids = ap length named ∙ length-set m.named.items (id - 1) name ∙ r.ids;
+  ids = ap length named ∙ length-set m.named.items (id - 1) name ∙ r.ids
+      ∙ sym (ap length names ∙ length-set m.names name (Cyclic id));
 }
   where
     cases : (j k : ℕ) → id_at n.names j ≡ Some k → ((j ≡ name) × (k ≡ id)) ⊎ ((j ≢ name) × (id_at m.names j ≡ Some k))
@@ -174,7 +176,8 @@ pub remembers_added : (texts : List (List ℕ)) (indexes : ℕ → ℕ) (step : 
     (name id : ℕ) (placement : Placement)
     → IsLasting x → Good s → refusal_of plain x s ≡ None
     → (does plain texts indexes step x s).state.placed ≡ (given name placement s).placed
-    → (does plain texts indexes step x s).state.last_id ≡ s.last_id + 1 → Remembers s m → s.last_id < 65536 → id ≡ s.last_id + 1
+    → (does plain texts indexes step x s).state.last_id ≡ s.last_id + 1 → Remembers s m → s.last_id < length m.names
+    → id ≡ s.last_id + 1
     → n.names ≡ slice_set m.names name (Cyclic id) → n.named.items ≡ slice_set m.named.items (id - 1) name
     → Remembers (does plain texts indexes step x s).state n
 remembers_added texts indexes step x s m n name id placement lasts g why placed last r few is names named =
@@ -215,7 +218,7 @@ remembers_kept s t m n name id r at names named last known before gone told = re
             ∙ there,
         kept ∙ tells ∙ (λ z. told_by_receipt receipt (sym (ap (λ (c : Counts). c.called) kept) z)),
       ));
-  ids = ap length named ∙ r.ids;
+  ids = ap length named ∙ r.ids ∙ sym (ap length names ∙ length-set m.names name (Leaving id));
 }
   where
     was : (j k : ℕ) → id_at n.names j ≡ Some k → id_at m.names j ≡ Some k
@@ -261,7 +264,7 @@ remembers_ended s t m n name id one r at own names named last unknown ended befo
             ∙ there,
         kept ∙ tells ∙ (λ z. told_by_receipt receipt (sym (ap (λ (c : Counts). c.called) kept) z)),
       ));
-  ids = ap length named ∙ r.ids;
+  ids = ap length named ∙ r.ids ∙ sym (ap length names ∙ length-set m.names name (Removed one));
 }
   where
     was : (j k : ℕ) → id_at n.names j ≡ Some k → id_at m.names j ≡ Some k
@@ -292,7 +295,7 @@ remembers_nameless s t m n id r same last none before gone told = record {
         ap (λ xs. named_at xs j) same.names ∙ there,
         kept ∙ tells ∙ (λ z. told_by_receipt receipt (sym (ap (λ (c : Counts). c.called) kept) z)),
       );
-  ids = ap length same.named ∙ r.ids;
+  ids = ap length same.named ∙ r.ids ∙ sym (ap length same.names);
 }
   where
     was : (j k : ℕ) → id_at n.names j ≡ Some k → id_at m.names j ≡ Some k

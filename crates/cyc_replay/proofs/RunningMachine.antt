@@ -14,11 +14,11 @@ use Rattle.cyc_model.proofs.Telling.{tells_steps}
 use Rattle.cyc_model.proofs.Reaching.{length_new}
 use Rattle.cyc_system_model.specs.SystemWords.{GivesIndexes}
 use Rattle.cyc_replay.specs.declared.machine.Machine.{Machine}
-use Rattle.cyc_replay.specs.Machine.{ShowsMachine, IsNamed, IsReached}
+use Rattle.cyc_replay.specs.Machine.{ShowsMachine, HasName, IsReached}
 use Rattle.cyc_replay.specs.Words.{TakesWord}
 use Rattle.cyc_replay.specs.Runs.{HaveNames, RunsTo, listed}
 use Rattle.cyc_replay.proofs.Indexes.{same_run, same_line}
-use Rattle.cyc_replay.proofs.Introduced.{run_named}
+use Rattle.cyc_replay.proofs.Introduced.{run_named, run_has_name, fewer_before}
 use Rattle.cyc_cpu_model.proofs.Free.{can_append}
 
 -- ---- lists of indexes
@@ -89,9 +89,9 @@ module _ (cpus ceiling : ℕ) (texts : List (List ℕ)) (done : List Step) where
 -- ---- the machine that steps so far led to
 
 module _ (cpus ceiling : ℕ) (texts : List (List ℕ)) (done : List Step) (m : Machine) (r : RunsTo cpus ceiling texts done m) where
-  pub reached_so : 0 < cpus → cpus ≤ 16 → (step : ℕ) → length done < step
+  pub reached_so : 0 < cpus → cpus ≤ 16 → HaveNames texts done → (step : ℕ) → length done < step
       → IsReached step (run_on (listed r.given) cpus ceiling texts done).state
-  reached_so some few step short = record {
+  reached_so some few names step short = record {
     indexes = listed r.given;
     cpus = cpus;
     ceiling = ceiling;
@@ -101,6 +101,7 @@ module _ (cpus ceiling : ℕ) (texts : List (List ℕ)) (done : List Step) (m : 
     few = few;
     short = short;
     is = refl;
+    named = run_named (listed r.given) cpus ceiling texts done names;
   }
 
   module _ (x : Step) (line : List ℕ) (n : Machine)
@@ -171,14 +172,14 @@ line_of cpus ceiling texts done m r x line n t f =
 
 -- the same where the step has this number
 pub takes_at : (cpus ceiling : ℕ) (texts : List (List ℕ)) (done : List Step) (step : ℕ) (x : Step) (line : List ℕ) (m n : Machine)
-    → 0 < cpus → cpus ≤ 16 → step ≡ 1 + length done → HaveNames texts done → (r : RunsTo cpus ceiling texts done m)
-    → ((s : State) → IsReached step s → IsNamed s → ShowsMachine s m → TakesWord texts step x line s n)
+    → 0 < cpus → cpus ≤ 16 → step ≡ 1 + length done → HaveNames texts (done ++ x ∷ []) → (r : RunsTo cpus ceiling texts done m)
+    → ((s : State) → IsReached step s → HasName x s → ShowsMachine s m → TakesWord texts step x line s n)
     → ((f : ℕ → ℕ) → line ≡ (word plain texts f step x (run_on f cpus ceiling texts done).state).line)
     × RunsTo cpus ceiling texts (done ++ x ∷ []) n
 takes_at cpus ceiling texts done step x line m n some few is names r takes =
     let s = (run_on (listed r.given) cpus ceiling texts done).state in
-    let t = takes s (reached_so cpus ceiling texts done m r some few step (omega (arith, is)))
-    (run_named (listed r.given) cpus ceiling texts done names) r.holds in
+    let t = takes s (reached_so cpus ceiling texts done m r some few (fewer_before texts done x names) step (omega (arith, is)))
+    (run_has_name (listed r.given) cpus ceiling texts done x names) r.holds in
     let u = subst (λ k. TakesWord texts k x line s n) is t in (
       λ f. line_of cpus ceiling texts done m r x line n u f
           ∙ ap (λ k. (word plain texts f k x (run_on f cpus ceiling texts done).state).line) (sym is),

@@ -156,12 +156,12 @@ module _ (step n budget : ℕ) (level : Soft) (s : State) (m : Machine) (low : s
     (r : IsReached step s) (h : ShowsMachine s m) where
   few_called : (id : ℕ) → tally_count m.tally id ≤ 65536 * 16000000032
   few_called id =
-      let books = (reached_good step s r).base.books id in let few = (few_reached step s r low).1 id in let was = h.called id in
+      let books = (reached_good step s r).base.books id in let few = few_reached step s r low id in let was = h.called id in
       omega (arith, books, few, was)
 
   held_given : (x : CpuView Tables) (b : Tables) (way : List DrainCall) (id : ℕ) → IsCpu n x m.system.cpus
       → DrainGoes drain_tables (end_at level x) way b
-      → (level_of b).drainer_hand ≡ Some id → (0 < id) × (id ≤ 65535)
+      → (level_of b).drainer_hand ≡ Some id → (0 < id) × (id ≤ s.last_id)
   held_given x b way id here went held =
       let g = reached_good step s r in
       let same = level_shown level s m.system n x h.shows h.system.agrees.long here in
@@ -169,7 +169,7 @@ module _ (step n budget : ℕ) (level : Soft) (s : State) (m : Machine) (low : s
       let some = along.back id (counted ((level_of b).cyclics id) (in_hand_counts (level_of b) along.fit id held)) in
       let at : handler_level_of id (cpu_of n s) ≡ as_level level =
       (g.base.whole n).back level id (subst (λ (l : SoftLevel). IsSome (l.cyclics id)) (sym same) some) in
-      given_here 65535 (65535 * 16000000032) id (cpu_of n s).cyclics (few_timers step n s r low)
+      given_here s.last_id (65535 * 16000000032) id (cpu_of n s).cyclics (few_timers step n s r low)
       (at_soft_level level (cyclic_with_id id (cpu_of n s)) at)
 
   pub never_refused : (e : SoftRefused) (t : RunningSystem TallyView Tables)
@@ -183,8 +183,10 @@ module _ (step n budget : ℕ) (level : Soft) (s : State) (m : Machine) (low : s
       let (given, last_id) = held_given did.before (end_at level did.after) _ own.id did.here serves.way held in
       let calls = serves.counted own.id in let was = few_called own.id in
       let a = count_by-le-length (λ c. c == own.id) (ids ran) in let b = length-map ran (λ (x : Served). x.id) in
-      never_refuses own.id at (still_wide m.tally at (same_range (ids ran) m.tally at serves.called_all) h.tally) given
-      (omega (arith, last_id)) (omega (arith, calls, was, a, b, long, less, fits)) may
+      let named = r.named in
+      never_refuses (length s.names) own.id at
+      (still_wide (length s.names) m.tally at (same_range (ids ran) m.tally at serves.called_all) h.tally) given
+      (omega (arith, last_id, named)) (omega (arith, calls, was, a, b, long, less, fits)) may
 
 -- ---- there is no such CPU
 
@@ -216,19 +218,19 @@ module _ (i : SoftintStep) (s : State) (m : Machine) (t : RunningSystem TallyVie
       absurd (let no : Err fault.NoCpu ≡ Err (fault.Refused own) = answer in cc)
 
   pub wide_served : (ran : Ran) → Does tally_calls raise_tables (Interrupts tally_calls)
-      (running_system m.tally m.system) (SoftInterrupt i.cpu i.level i.budget (Ok ran)) t → IsWide t.calls
+      (running_system m.tally m.system) (SoftInterrupt i.cpu i.level i.budget (Ok ran)) t → IsWide (length s.names) t.calls
   wide_served ran (inl (e, some, answer, same)) = absurd (let no : Ok ran ≡ Err fault.NoCpu = answer in cc)
   wide_served ran (inr (none, (Err own, answer, did, records, last))) =
       absurd (let no : Ok ran ≡ Err (fault.Refused own) = answer in cc)
   wide_served ran (inr (none, (Ok got, answer, did, records, last))) =
       let (served, long, serves, left) = did.change.0.served in
-      still_wide m.tally t.calls (same_range (ids served) m.tally t.calls serves.called_all) h.tally
+      still_wide (length s.names) m.tally t.calls (same_range (ids served) m.tally t.calls serves.called_all) h.tally
 
 -- ---- the machine after it
 
 pub served_holds : (step : ℕ) (i : SoftintStep) (made : Ran) (s : State) (m : Machine) (t : RunningSystem TallyView Tables)
     → Good s → ShowsMachine s m
-    → IsServed tally_count i made s (running_system m.tally m.system) t → Keeps s t.system → IsWide t.calls
+    → IsServed tally_count i made s (running_system m.tally m.system) t → Keeps s t.system → IsWide (length s.names) t.calls
     → ShowsMachine (interrupt step i s).state (record m { system = t.system; tally = t.calls })
 served_holds step i made s m t g h served kept wide = record {
   system = kept.system;

@@ -87,8 +87,8 @@ none_counted : (b : Bool) (k n : ℕ) → cond b zero (get_or (zeros n) k zero) 
 none_counted true k n = refl
 none_counted false k n = zero_at k n
 
-wide : (t : TallyView) → t ≡ tally_made 1 65536 (2 ^ 64 - 1) → IsWide t
-wide t is = subst IsWide (sym is) (record { first = refl; len = length-replicate 65536 zero; most = refl })
+wide : (names : ℕ) (t : TallyView) → t ≡ tally_made 1 names (2 ^ 64 - 1) → IsWide (length (zeros names)) t
+wide names t is = subst (IsWide (length (zeros names))) (sym is) (record { first = refl; len = refl; most = refl })
 
 -- ---- the whole
 
@@ -96,8 +96,8 @@ no_ids : (n : ℕ) → replicate n 0 ≡ numbers_of (replicate n Nothing)
 no_ids zero = refl
 no_ids (suc n) = ap (λ ns. 0 ∷ ns) (no_ids n)
 
-pub held_new : (cpus ceiling names : ℕ) (m : Machine) → m.clock ≡ 0 → m.tally ≡ tally_made 1 65536 (2 ^ 64 - 1)
-    → m.names ≡ replicate names Nothing → length m.named.items ≡ 65536 → AllMost m.system.cpus
+pub held_new : (cpus ceiling names : ℕ) (m : Machine) → m.clock ≡ 0 → m.tally ≡ tally_made 1 names (2 ^ 64 - 1)
+    → m.names ≡ replicate names Nothing → length m.named.items ≡ names → AllMost m.system.cpus
     → HaveRoomFor names m.system.cpus → is_suspended m.system ≡ false
     → IsSystem m.system × ShowsSystem (start cpus ceiling names) m.system
     → ShowsMachine (start cpus ceiling names) m
@@ -106,16 +106,16 @@ held_new cpus ceiling names m clock tally ids named most room awake shown_cyclic
   shows = shown_cyclic.1;
   clock = sym clock;
   suspended = sym awake;
-  called = λ id. ap (λ t. tally_count t id) tally ∙ none_counted (nat_lt id 1) (id - 1) 65536;
+  called = λ id. ap (λ t. tally_count t id) tally ∙ none_counted (nat_lt id 1) (id - 1) names;
   names = no_ids names ∙ sym (ap numbers_of ids);
   remembers = record {
     given = λ name id is. absurd (nobody name id is);
     named = λ name id is. absurd (nobody name id is);
     removed = λ name receipt is. absurd (nobody name receipt.id (ap id_of_named is));
     counted = λ name id is. absurd (nobody name id is);
-    ids = named;
+    ids = named ∙ sym (ap length ids ∙ length-replicate names Nothing);
   };
-  tally = wide m.tally tally;
+  tally = wide names m.tally tally;
   most = most;
   room = subst (λ k. HaveRoomFor k m.system.cpus) (sym (length-replicate names 0)) room;
 }

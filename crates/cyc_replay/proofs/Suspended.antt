@@ -34,7 +34,7 @@ module _ (x : Step) (mark : Bool) (s : State) (m w : Machine) (h : ShowsMachine 
     remembers = remembers_on s (record s { suspended = mark }) m w h.remembers
         same (let low : s.last_id ≤ s.last_id = omega arith in low)
         (λ id low gone. gone) (λ id low gone. gone) (λ id low gone. refl);
-    tally = subst (λ t. IsWide t) (sym tally) h.tally;
+    tally = subst (λ t. IsWide (length s.names) t) (sym tally) h.tally;
     most = most;
     room = room;
   }

@@ -23,7 +23,6 @@ use Rattle.cyc_cpu.proofs.Sharing.{ids_add_up}
 use Rattle.cyc_cpu.specs.Cpu.{CpuView, running}
 use Rattle.cyc_cpu.specs.Calls.{Stopped}
 use Rattle.cyc_cpu.specs.Soft.{raise_tables}
-use Rattle.cyc_script.specs.Limits.{most_steps}
 use Rattle.cyc_replay.specs.Machine.{IsWide}
 
 -- ---- the tally
@@ -48,13 +47,13 @@ same_range (id ∷ ids) t u (v, called, rest) =
       most = on.most ∙ ap (λ (x : TallyView). x.most) called;
     }
 
-pub still_wide : (t u : TallyView) → SameRange t u → IsWide t → IsWide u
-still_wide t u same w = record { first = same.first ∙ w.first; len = same.len ∙ w.len; most = same.most ∙ w.most }
+pub still_wide : (names : ℕ) (t u : TallyView) → SameRange t u → IsWide names t → IsWide names u
+still_wide names t u same w = record { first = same.first ∙ w.first; len = same.len ∙ w.len; most = same.most ∙ w.most }
 
 -- it takes a call of an id that was given, which it has not counted too often
-pub never_refuses : (id : ℕ) (t : TallyView) → IsWide t → 0 < id → id ≤ most_steps → tally_count t id < 2 ^ 64 - 1
+pub never_refuses : (names id : ℕ) (t : TallyView) → IsWide names t → 0 < id → id ≤ names → tally_count t id < 2 ^ 64 - 1
     → TallyRefuses t id → ⊥
-never_refuses id t w given within few refuses =
+never_refuses names id t w given within few refuses =
     let first = w.first in let len = w.len in let most = w.most in
     elim refuses [
       | inl small ↦ omega (arith, small, first, given)
@@ -114,30 +113,30 @@ few_after now last most n made (t ∷ ts) small few =
 
 -- ---- a fire
 
-never_stops : (last most bound : ℕ) (at : TallyView) (t : Timer) (why : Refusal) → last ≤ most_steps → most ≡ 2 ^ 64 - 1
+never_stops : (names last most bound : ℕ) (at : TallyView) (t : Timer) (why : Refusal) → last ≤ names → most ≡ 2 ^ 64 - 1
     → bound < 2 ^ 64 - 1
-    → IsFew last bound t → IsWide at → ((id : ℕ) → tally_count at id ≤ bound) → Stops TallyRefuses most at t why → ⊥
-never_stops last most bound at t (CountSpent id) low greatest less few w counts s = let a = s.1 in let b = few.expired in
+    → IsFew last bound t → IsWide names at → ((id : ℕ) → tally_count at id ≤ bound) → Stops TallyRefuses most at t why → ⊥
+never_stops names last most bound at t (CountSpent id) low greatest less few w counts s = let a = s.1 in let b = few.expired in
     omega (arith, a, b, greatest, less)
-never_stops last most bound at t (HandlerRefused id) low greatest less few w counts s =
+never_stops names last most bound at t (HandlerRefused id) low greatest less few w counts s =
     let same = s.0 in let a = few.given in let b = few.id in let c = counts id in
-    never_refuses id at w (omega (arith, same, a)) (omega (arith, same, b, low)) (omega (arith, c, less)) s.3
-never_stops last most bound at t _ low greatest less few w counts s = absurd s
+    never_refuses names id at w (omega (arith, same, a)) (omega (arith, same, b, low)) (omega (arith, c, less)) s.3
+never_stops names last most bound at t _ low greatest less few w counts s = absurd s
 
-pub never_stopped : (now last most : ℕ) (v w : CpuView Tables) (t u : TallyView) (e : FireRefused)
+pub never_stopped : (names now last most : ℕ) (v w : CpuView Tables) (t u : TallyView) (e : FireRefused)
     → Stopped tally_calls raise_tables now e (running t v) (running u w)
-    → last ≤ most_steps → v.most ≡ 2 ^ 64 - 1 → most + (late + 2) < 2 ^ 64 - 1 → EachTimer (IsFew last most) (timers v.cyclics)
-    → ((id : ℕ) → times_of id (expirations now (timers v.cyclics)) ≤ late + 2) → IsWide t
+    → last ≤ names → v.most ≡ 2 ^ 64 - 1 → most + (late + 2) < 2 ^ 64 - 1 → EachTimer (IsFew last most) (timers v.cyclics)
+    → ((id : ℕ) → times_of id (expirations now (timers v.cyclics)) ≤ late + 2) → IsWide names t
     → ((id : ℕ) → tally_count t id ≤ most) → ⊥
-never_stopped now last most v w t u e f low greatest less few small wide counts =
+never_stopped names now last most v w t u e f low greatest less few small wide counts =
     let made : (id : ℕ) → times_of id f.made ≤ late + 2 = λ id. in_front (timers v.cyclics) now id
     (late + 2) f.made f.last f.rest f.listed (small id) in
     let high = ids_at High (timers v.cyclics) f.made in
     let after_all = subst (EachTimer (IsFew last (most + (late + 2)))) (sym f.makes.timers_are)
     (few_after now last most (late + 2) f.made (timers v.cyclics) made few) in
     let (tm, found, stops) = f.stops in
-    never_stops last v.most (most + (late + 2)) f.at tm e.why low greatest less
+    never_stops names last v.most (most + (late + 2)) f.at tm e.why low greatest less
     (found_all (IsFew last (most + (late + 2))) (λ (x : Timer). x.id == f.last.id) (timers w.cyclics) tm found after_all)
-    (still_wide t f.at (same_range high t f.at f.makes.acts.called_in_order) wide)
+    (still_wide names t f.at (same_range high t f.at f.makes.acts.called_in_order) wide)
     (λ id. let a = f.makes.acts.counted id in let b = few_calls High (timers v.cyclics) f.made (late + 2) id (made id) in
     let c = counts id in omega (arith, a, b, c)) stops

@@ -1,8 +1,8 @@
 -- Each word that makes at most one call of the system is that word of the definition, with its line.
-use Rattle.std.proofs.Common.{◌≡◌, ◌≢◌, ℕ, ◌+◌, ◌≤◌, inl, inr, true, false, List, length, None}
+use Rattle.std.proofs.Common.{◌≡◌, ◌≢◌, ℕ, ◌+◌, ◌<◌, ◌≤◌, inl, inr, true, false, List, length, map, None}
 use Rattle.std.proofs.Common.{Some, refl, ap, sym, ◌∙◌, subst, arith}
 use Rattle.std.specs.Prelude.{pos, int_lt, slice_set, Result, Ok, Err}
-use Rattle.std.proofs.lemmas.List.{map-set}
+use Rattle.std.proofs.lemmas.List.{length-map, map-set}
 use Rattle.cyc_types.specs.declared.refusal.JuggleReport.{JuggleReport}
 use Rattle.cyc_types.specs.declared.refusal.Refusal.{Refusal}
 use Rattle.cyc_types.specs.declared.refusal.Refusal.TheVariants.{Memory, BadWhen, NoCyclic}
@@ -11,7 +11,6 @@ use Rattle.cyc_types.specs.contracts.tally.TallyCalls.TheImpl.{ghosts as tally_c
 use Rattle.cyc_core.specs.Tables.{Tables}
 use Rattle.cyc_cpu.specs.Soft.{raise_tables, Interrupts}
 use Rattle.cyc_text.specs.Lines.{refused}
-use Rattle.cyc_script.specs.Limits.{most_steps}
 use Rattle.cyc_script.specs.declared.step.Step.{Step}
 use Rattle.cyc_script.specs.declared.step.Step.TheVariants as steps
 use Rattle.cyc_script.specs.declared.step.Add.{Add as AddStep}
@@ -31,6 +30,7 @@ use Rattle.cyc_model.specs.Add.{enter}
 use Rattle.cyc_model.specs.Omni.{component, everywhere}
 use Rattle.cyc_model.specs.Script.{does, refusal_of}
 use Rattle.cyc_model.proofs.Still.{Still, still_bind, still_unbind, still_online, still_enters}
+use Rattle.cyc_words.specs.declared.named.Named.{Named}
 use Rattle.cyc_words.specs.declared.named.Named.TheVariants.{Cyclic}
 use Rattle.cyc_words.specs.declared.answer.WordAnswer.{WordAnswer}
 use Rattle.cyc_words.specs.declared.answer.WordAnswer.TheVariants.{Added, Removing, Juggled}
@@ -42,7 +42,7 @@ use Rattle.cyc_system_model.specs.Room.{HaveRoomFor}
 use Rattle.cyc_system_model.specs.Shown.{IsSystem, ShowsSystem}
 use Rattle.cyc_system_model.specs.SystemWords.{IsSeries}
 use Rattle.cyc_replay.specs.declared.machine.Machine.{Machine}
-use Rattle.cyc_replay.specs.Machine.{ShowsMachine, AllMost, IsNamed, IsReached, id_at, id_of_named, name_number, numbers_of}
+use Rattle.cyc_replay.specs.Machine.{ShowsMachine, AllMost, HasName, IsReached, id_at, id_of_named, name_number, numbers_of}
 use Rattle.cyc_replay.specs.WordLines.{name_in_word, named_by, why_line, word_line}
 use Rattle.cyc_replay.specs.Words.{TakesWord, answer_line}
 use Rattle.cyc_replay.proofs.Doing.{Answers}
@@ -50,7 +50,6 @@ use Rattle.cyc_system_model.proofs.Keeping.{kept, most_kept, room_kept}
 use Rattle.cyc_system_model.proofs.Suspensions.{suspended_kept}
 use Rattle.cyc_replay.proofs.Mosts.{most_kept as mosts_kept}
 use Rattle.cyc_replay.proofs.Named.{reached_good, nobody_first, named_so}
-use Rattle.cyc_replay.proofs.Grown.{few_reached}
 use Rattle.cyc_replay.proofs.Wanted.{room_for_all}
 use Rattle.cyc_replay.proofs.Remembering.{SameNames, remembers_added}
 use Rattle.cyc_replay.proofs.Doing.{Keeps, Leaves, accepts, refuses, answered}
@@ -76,7 +75,7 @@ use Rattle.cyc_system_model.proofs.SystemSuspending.{suspend_accepted, suspend_r
 abbrev as_unit : Result (Unit {0}) Refusal → Result (Unit {0}) Refusal
 as_unit answer = answer
 
-module _ (texts : List (List ℕ)) (step : ℕ) (s : State) (m n : Machine) (r : IsReached step s) (low : step ≤ most_steps)
+module _ (texts : List (List ℕ)) (step : ℕ) (s : State) (m n : Machine) (r : IsReached step s)
     (h : ShowsMachine s m) (clock : n.clock ≡ m.clock) (tally : n.tally ≡ m.tally) where
   abbrev Did : ℕ → SystemCall → Type 0
   Did name call = DoesCall raise_tables name call (word_state m.system m.names) (word_state n.system n.names)
@@ -105,6 +104,12 @@ module _ (texts : List (List ℕ)) (step : ℕ) (s : State) (m n : Machine) (r :
       suspended = h.suspended ∙ sym (suspended_kept tally_calls call (running_system m.tally m.system)
           (running_system m.tally n.system) ran marks);
     }
+
+  -- the machine has room for an id more
+  one_left : s.last_id + 1 ≤ length s.names → s.last_id < length m.names
+  one_left low =
+      let same : length s.names ≡ length (map (λ (x : Named). name_number (id_of_named x)) m.names) = ap length h.names in
+      let long = length-map m.names (λ (x : Named). name_number (id_of_named x)) in omega (arith, low, same, long)
 
   -- the definition gives the name the same id
   given_numbers : (name id : ℕ) → id ≡ s.last_id + 1 → n.names ≡ slice_set m.names name (Cyclic id)
@@ -305,14 +310,14 @@ module _ (texts : List (List ℕ)) (step : ℕ) (s : State) (m n : Machine) (r :
       named = named ∙ ap (λ a. named_by (name_in_word x) a m.named.items) told;
     }
 
-    takes_add : (a : AddStep) → DoesWord raise_tables m.clock (steps.Add a) result (word_state m.system m.names)
-        (word_state n.system n.names)
+    takes_add : (a : AddStep) → HasName (steps.Add a) s
+        → DoesWord raise_tables m.clock (steps.Add a) result (word_state m.system m.names) (word_state n.system n.names)
         → n.named.items ≡ named_by a.name result m.named.items → line ≡ word_line texts step (steps.Add a) result
         → Takes (steps.Add a)
-    takes_add a (inr (bad, (why, same))) named said = uncalled (steps.Add a) (no_series a.start)
+    takes_add a all (inr (bad, (why, same))) named said = uncalled (steps.Add a) (no_series a.start)
         (no_series_first (int_lt a.start (pos 0)) (int_lt a.interval (pos 1)) _ (bad_series a.start a.interval bad))
         refl refl why same named said
-    takes_add a (inl (series, at, every, some, (answer, (told, c)))) named said = by answer told c
+    takes_add a all (inl (series, at, every, some, (answer, (told, c)))) named said = by answer told c
       where
         is_it : IsSeries a.start a.interval series
         is_it = is_series a series (at, every, some)
@@ -322,7 +327,6 @@ module _ (texts : List (List ℕ)) (step : ℕ) (s : State) (m n : Machine) (r :
         by (Ok id) told c =
             let did = subst (λ k. Changes raise_tables m.system (Add a.level series k (Ok id)) n.system) (sym h.clock) c.did in
             let done_it = add_accepted a series s m.system n.system h.system h.shows is_it id did in
-            let few = (few_reached step s r low).0 in
             was_given (steps.Add a) id (λ ts f k t. refl) refl (told, named, said)
             (accepts (steps.Add a) s m n h (keeps_call a.name (Add a.level series m.clock (Ok id)) c tt) done_it.1 clock tally
             (record {
@@ -331,7 +335,7 @@ module _ (texts : List (List ℕ)) (step : ℕ) (s : State) (m n : Machine) (r :
               names = λ ts f k. given_numbers a.name id done_it.0 c.told;
               last = λ ts f k. omega arith;
             }) (λ ts f k. remembers_added ts f k (steps.Add a) s m n a.name id (On (destination_of None s) false) tt
-            (reached_good step s r) done_it.1.accepted refl refl h.remembers (omega (arith, few)) done_it.0 c.told
+            (reached_good step s r) done_it.1.accepted refl refl h.remembers (one_left all) done_it.0 c.told
             (named ∙ ap (λ x. named_by a.name x m.named.items) told)))
         by (Err e) told c =
             let did = subst (λ k. Changes raise_tables m.system (Add a.level series k (Err e)) n.system) (sym h.clock) c.did in
@@ -342,14 +346,14 @@ module _ (texts : List (List ℕ)) (step : ℕ) (s : State) (m n : Machine) (r :
                   (refused_names (steps.Add a) e a.name (Add a.level series m.clock (Err e)) (told, named, said) refl c),
             )
 
-    takes_omni : (a : OmniStep) → DoesWord raise_tables m.clock (steps.Omni a) result (word_state m.system m.names)
-        (word_state n.system n.names)
+    takes_omni : (a : OmniStep) → HasName (steps.Omni a) s
+        → DoesWord raise_tables m.clock (steps.Omni a) result (word_state m.system m.names) (word_state n.system n.names)
         → n.named.items ≡ named_by a.name result m.named.items → line ≡ word_line texts step (steps.Omni a) result
         → Takes (steps.Omni a)
-    takes_omni a (inr (bad, (why, same))) named said = uncalled (steps.Omni a) (no_series a.start)
+    takes_omni a all (inr (bad, (why, same))) named said = uncalled (steps.Omni a) (no_series a.start)
         (no_series_first (int_lt a.start (pos 0)) (int_lt a.interval (pos 1)) _ (bad_series a.start a.interval bad))
         refl refl why same named said
-    takes_omni a (inl (series, at, every, some, (answer, (told, c)))) named said = by answer told c
+    takes_omni a all (inl (series, at, every, some, (answer, (told, c)))) named said = by answer told c
       where
         is_it : IsSeries a.start a.interval series
         is_it = is_series_omni a series (at, every, some)
@@ -363,7 +367,6 @@ module _ (texts : List (List ℕ)) (step : ℕ) (s : State) (m n : Machine) (r :
             let did = subst (λ k. Changes raise_tables m.system (AddOmni a.level series a.skew k (Ok id)) n.system) (sym h.clock)
             c.did in
             let done_it = omni_accepted a series s m.system n.system h.system h.shows is_it id did in
-            let few = (few_reached step s r low).0 in
             was_given (steps.Omni a) id (λ ts f k t. refl) refl (told, named, said)
             (accepts (steps.Omni a) s m n h (keeps_call a.name (AddOmni a.level series a.skew m.clock (Ok id)) c tt) done_it.1
             clock tally
@@ -379,7 +382,7 @@ module _ (texts : List (List ℕ)) (step : ℕ) (s : State) (m n : Machine) (r :
             (same_each (λ j u. enter f j (component (s.last_id + 1) j (everywhere a) u.clock) u) (λ j u. refl)
             (cpus_online first) first)
             (still_enters f (s.last_id + 1) (everywhere a) (cpus_online first) first).last h.remembers
-            (omega (arith, few)) done_it.0 c.told (named ∙ ap (λ x. named_by a.name x m.named.items) told)))
+            (one_left all) done_it.0 c.told (named ∙ ap (λ x. named_by a.name x m.named.items) told)))
         by (Err e) told c =
             let did = subst (λ k. Changes raise_tables m.system (AddOmni a.level series a.skew k (Err e)) n.system) (sym h.clock)
             c.did in
@@ -428,61 +431,60 @@ module _ (texts : List (List ℕ)) (step : ℕ) (s : State) (m n : Machine) (r :
             is
             (named ∙ ap (λ x. named_by name x m.named.items) told ∙ unnamed answer) answer c.told c.did b)
 
-    module _ (all : IsNamed s) where
-      takes_juggle : (cpu : ℕ) → DoesWord raise_tables m.clock (steps.Juggle cpu) result (word_state m.system m.names)
-          (word_state n.system n.names)
-          → n.named.items ≡ named_by 0 result m.named.items → line ≡ word_line texts step (steps.Juggle cpu) result
-          → Takes (steps.Juggle cpu)
-      takes_juggle cpu (answer, (told, c)) named said =
-          let room = room_for_all step s m r all h in
-          juggle_takes texts step cpu answer line s n (said ∙ ap (word_line texts step (steps.Juggle cpu)) told)
-          (λ e. other (told ∙ ap (word_answer Juggled) e))
-          (juggles step cpu s m n r h (keeps_call 0 (Juggle cpu answer) c tt) clock tally
-          (record { names = c.told; named = named ∙ ap (λ x. named_by 0 x m.named.items) told ∙ unnamed answer }) answer
-          (λ report is. juggle_accepted cpu s m.system n.system h.system h.shows room report
-          (subst (λ a. Changes raise_tables m.system (Juggle cpu a) n.system) is c.did))
-          (λ e is. juggle_refused cpu s m.system n.system h.system h.shows e
-          (subst (λ a. Changes raise_tables m.system (Juggle cpu a) n.system) is c.did)))
-        where
-          unnamed : (answer : Result JuggleReport Refusal) → named_by 0 (word_answer Juggled answer) m.named.items
-              ≡ m.named.items
-          unnamed (Ok x) = refl
-          unnamed (Err e) = refl
+    takes_juggle : (cpu : ℕ) → DoesWord raise_tables m.clock (steps.Juggle cpu) result (word_state m.system m.names)
+        (word_state n.system n.names)
+        → n.named.items ≡ named_by 0 result m.named.items → line ≡ word_line texts step (steps.Juggle cpu) result
+        → Takes (steps.Juggle cpu)
+    takes_juggle cpu (answer, (told, c)) named said =
+        let room = room_for_all step s m r h in
+        juggle_takes texts step cpu answer line s n (said ∙ ap (word_line texts step (steps.Juggle cpu)) told)
+        (λ e. other (told ∙ ap (word_answer Juggled) e))
+        (juggles step cpu s m n r h (keeps_call 0 (Juggle cpu answer) c tt) clock tally
+        (record { names = c.told; named = named ∙ ap (λ x. named_by 0 x m.named.items) told ∙ unnamed answer }) answer
+        (λ report is. juggle_accepted cpu s m.system n.system h.system h.shows room report
+        (subst (λ a. Changes raise_tables m.system (Juggle cpu a) n.system) is c.did))
+        (λ e is. juggle_refused cpu s m.system n.system h.system h.shows e
+        (subst (λ a. Changes raise_tables m.system (Juggle cpu a) n.system) is c.did)))
+      where
+        unnamed : (answer : Result JuggleReport Refusal) → named_by 0 (word_answer Juggled answer) m.named.items
+            ≡ m.named.items
+        unnamed (Ok x) = refl
+        unnamed (Err e) = refl
 
-      takes_offline : (cpu : ℕ) → DoesWord raise_tables m.clock (steps.Offline cpu) result (word_state m.system m.names)
-          (word_state n.system n.names)
-          → n.named.items ≡ named_by 0 result m.named.items → line ≡ word_line texts step (steps.Offline cpu) result
-          → Takes (steps.Offline cpu)
-      takes_offline cpu (answer, (told, c)) named said =
-          let room = room_for_all step s m r all h in
-          offline_takes texts step cpu answer line s n (said ∙ ap (word_line texts step (steps.Offline cpu)) told)
-          (λ e. other (told ∙ ap (word_answer done) e))
-          (goes_offline step cpu s m n r h (keeps_call 0 (Offline cpu answer) c tt) clock tally
-          (record { names = c.told; named = not_named (steps.Offline cpu) answer told named }) answer
-          (λ is. offline_accepted cpu s m.system n.system h.system h.shows room
-          (subst (λ a. Changes raise_tables m.system (Offline cpu a) n.system) is c.did))
-          (λ report is. offline_left cpu s m.system n.system h.system h.shows room report
-          (subst (λ a. Changes raise_tables m.system (Offline cpu a) n.system) is c.did))
-          (λ is. offline_pending cpu s m.system n.system h.system h.shows room
-          (subst (λ a. Changes raise_tables m.system (Offline cpu a) n.system) is c.did))
-          (λ e once is. offline_refused cpu s m.system n.system h.system h.shows e once
-          (subst (λ a. Changes raise_tables m.system (Offline cpu a) n.system) is c.did)))
+    takes_offline : (cpu : ℕ) → DoesWord raise_tables m.clock (steps.Offline cpu) result (word_state m.system m.names)
+        (word_state n.system n.names)
+        → n.named.items ≡ named_by 0 result m.named.items → line ≡ word_line texts step (steps.Offline cpu) result
+        → Takes (steps.Offline cpu)
+    takes_offline cpu (answer, (told, c)) named said =
+        let room = room_for_all step s m r h in
+        offline_takes texts step cpu answer line s n (said ∙ ap (word_line texts step (steps.Offline cpu)) told)
+        (λ e. other (told ∙ ap (word_answer done) e))
+        (goes_offline step cpu s m n r h (keeps_call 0 (Offline cpu answer) c tt) clock tally
+        (record { names = c.told; named = not_named (steps.Offline cpu) answer told named }) answer
+        (λ is. offline_accepted cpu s m.system n.system h.system h.shows room
+        (subst (λ a. Changes raise_tables m.system (Offline cpu a) n.system) is c.did))
+        (λ report is. offline_left cpu s m.system n.system h.system h.shows room report
+        (subst (λ a. Changes raise_tables m.system (Offline cpu a) n.system) is c.did))
+        (λ is. offline_pending cpu s m.system n.system h.system h.shows room
+        (subst (λ a. Changes raise_tables m.system (Offline cpu a) n.system) is c.did))
+        (λ e once is. offline_refused cpu s m.system n.system h.system h.shows e once
+        (subst (λ a. Changes raise_tables m.system (Offline cpu a) n.system) is c.did)))
 
-      -- ---- all of them
+    -- ---- all of them
 
-      pub takes_word : (x : Step) → DoesWord raise_tables m.clock x result (word_state m.system m.names)
-          (word_state n.system n.names)
-          → n.named.items ≡ named_by (name_in_word x) result m.named.items → line ≡ word_line texts step x result → Takes x
-      takes_word (steps.Add a) d named said = takes_add a d named said
-      takes_word (steps.Omni a) d named said = takes_omni a d named said
-      takes_word (steps.Bind b) d named said = takes_bind b d named said
-      takes_word (steps.Unbind name) d named said = takes_unbind name d named said
-      takes_word (steps.Reprogram a) d named said = takes_reprogram a d named said
-      takes_word (steps.Remove name) d named said = takes_remove name d named said
-      takes_word (steps.Advance now) d named said = absurd d
-      takes_word (steps.Softint i) d named said = absurd d
-      takes_word (steps.Juggle cpu) d named said = takes_juggle cpu d named said
-      takes_word (steps.Offline cpu) d named said = takes_offline cpu d named said
-      takes_word (steps.Online cpu) d named said = takes_online cpu d named said
-      takes_word steps.Suspend d named said = takes_suspend d named said
-      takes_word steps.Resume d named said = takes_resume d named said
+    pub takes_word : (x : Step) → HasName x s → DoesWord raise_tables m.clock x result (word_state m.system m.names)
+        (word_state n.system n.names)
+        → n.named.items ≡ named_by (name_in_word x) result m.named.items → line ≡ word_line texts step x result → Takes x
+    takes_word (steps.Add a) all d named said = takes_add a all d named said
+    takes_word (steps.Omni a) all d named said = takes_omni a all d named said
+    takes_word (steps.Bind b) all d named said = takes_bind b d named said
+    takes_word (steps.Unbind name) all d named said = takes_unbind name d named said
+    takes_word (steps.Reprogram a) all d named said = takes_reprogram a d named said
+    takes_word (steps.Remove name) all d named said = takes_remove name d named said
+    takes_word (steps.Advance now) all d named said = absurd d
+    takes_word (steps.Softint i) all d named said = absurd d
+    takes_word (steps.Juggle cpu) all d named said = takes_juggle cpu d named said
+    takes_word (steps.Offline cpu) all d named said = takes_offline cpu d named said
+    takes_word (steps.Online cpu) all d named said = takes_online cpu d named said
+    takes_word steps.Suspend all d named said = takes_suspend d named said
+    takes_word steps.Resume all d named said = takes_resume d named said

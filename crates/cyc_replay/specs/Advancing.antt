@@ -27,7 +27,7 @@ pub record IsAdvancing (step n : ℕ) (all : Expirations) (s : State) (first : R
   pub called : (id : ℕ) → tally_count first.calls id ≡ s.called id
   pub system : IsSystem m.system
   pub names : s.names ≡ numbers_of m.names
-  pub tally : IsWide m.tally
+  pub tally : IsWide (length s.names) m.tally
   pub remembers : Remembers s m
   pub most : AllMost m.system.cpus
   pub room : HaveRoomFor (length s.names) m.system.cpus

@@ -3,8 +3,8 @@ use Rattle.std.specs.Prelude.{◌≡◌, ℕ, ◌-◌, ◌^◌, ◌<◌, ◌≤�
 use Rattle.cyc_types.specs.declared.receipt.Receipt.{Receipt}
 use Rattle.cyc_types.specs.Tally.{TallyView, tally_count}
 use Rattle.cyc_types.specs.Limits.{most_cpus}
-use Rattle.cyc_script.specs.Limits.{most_steps}
 use Rattle.cyc_script.specs.declared.step.Step.{Step}
+use Rattle.cyc_script.specs.WellFormed.{names_after}
 use Rattle.cyc_model.specs.State.{State}
 use Rattle.cyc_model.specs.Places.{is_no_cyclic}
 use Rattle.cyc_model.specs.Report.{counts_of}
@@ -45,10 +45,10 @@ numbers_of names = map (λ n. name_number (id_of_named n)) names
 abbrev pub name_at : List ℕ → ℕ → ℕ
 name_at named id = slice_index_or named (id - 1) 0
 
--- the tally counts an id for each step, up to the greatest count
-pub record IsWide (t : TallyView) : Type 0 where
+-- the tally counts as many ids as there are names, each up to the greatest count
+pub record IsWide (names : ℕ) (t : TallyView) : Type 0 where
   pub first : t.first ≡ 1
-  pub len : length t.counts ≡ most_steps
+  pub len : length t.counts ≡ names
   pub most : t.most ≡ 2 ^ 64 - 1
 
 -- the CPUs have this bound on the expirations of a cyclic: it is too great to be reached
@@ -63,8 +63,8 @@ pub record Remembers (s : State) (m : Machine) : Type 0 where
   pub removed : (name : ℕ) (receipt : Receipt) → named_at m.names name ≡ Removed receipt → is_no_cyclic receipt.id s ≡ true
   pub counted : (name id : ℕ) → id_at m.names name ≡ Some id → is_no_cyclic id s ≡ true
       → (receipt : Receipt) × (named_at m.names name ≡ Removed receipt) × (counts_of id s ≡ told_by_receipt receipt (s.called id))
-  -- there is room for the id of each step
-  pub ids : length m.named.items ≡ most_steps
+  -- there is room for as many ids as there are names
+  pub ids : length m.named.items ≡ length m.names
 
 -- the definition's machine shows this one: its clock, whether it is suspended, its CPUs with their cyclics, the calls of each
 -- id, and the id of each name
@@ -76,7 +76,7 @@ pub record ShowsMachine (s : State) (m : Machine) : Type 0 where
   pub called : (id : ℕ) → tally_count m.tally id ≡ s.called id
   pub names : s.names ≡ numbers_of m.names
   pub remembers : Remembers s m
-  pub tally : IsWide m.tally
+  pub tally : IsWide (length s.names) m.tally
   pub most : AllMost m.system.cpus
   -- each CPU has memory for a cyclic of each name
   pub room : HaveRoomFor (length s.names) m.system.cpus
@@ -85,7 +85,11 @@ pub record ShowsMachine (s : State) (m : Machine) : Type 0 where
 abbrev pub IsNamed : State → Type 0
 IsNamed s = s.last_id ≤ length s.names
 
--- the definition's machine is one that fewer steps than this number led to, on 1 to 16 CPUs
+-- so it still is when this step has given an id, if it gives one
+abbrev pub HasName : Step → State → Type 0
+HasName x s = names_after s.last_id x ≤ length s.names
+
+-- the definition's machine is one that fewer steps than this number led to, on 1 to 16 CPUs, with a name for each id
 pub record IsReached (step : ℕ) (s : State) : Type 0 where
   pub indexes : ℕ → ℕ
   pub cpus : ℕ
@@ -96,3 +100,4 @@ pub record IsReached (step : ℕ) (s : State) : Type 0 where
   pub few : cpus ≤ most_cpus
   pub short : length steps < step
   pub is : s ≡ (run_on indexes cpus ceiling texts steps).state
+  pub named : IsNamed s

@@ -6,7 +6,6 @@ ghost use Rattle.cyc_types.specs.declared.refusal.Refusal.TheVariants.{Memory};
 ghost use Rattle.cyc_types.specs.Tally.{tally_made};
 ghost use Rattle.cyc_types.specs.Pairs.{EachTwo};
 ghost use Rattle.cyc_types.specs.Limits.{most_cpus};
-ghost use Rattle.cyc_script.specs.Limits.{most_steps};
 ghost use Rattle.cyc_model.specs.Script.{start};
 ghost use Rattle.cyc_words.specs.declared.named.Named.TheVariants.{Nothing};
 ghost use Rattle.cyc_system_model.specs.Kept.{LevelsAreNew};
@@ -21,9 +20,6 @@ use cyc_system_model::begin_law;
 use cyc_types::{CYCLICS, Ceiling, CyclicId, Moment, Refusal, Tally};
 use cyc_words::Names;
 use std::alloc::Global;
-
-/// The most steps of a script: at each a cyclic can be added.
-const MOST_STEPS: usize = 65_536;
 
 /// The id that is given first.
 fn first_id() -> CyclicId
@@ -96,25 +92,25 @@ fn with_room(system: System<LevelCore>, names: usize) -> Result<System<LevelCore
     Ok(desk.unite(hards))
 }
 
-/// Room for the name of each id.
-fn no_names(alloc: Global) -> Result<Vec<usize>, Refusal>
-    ensures long { IfOk result (λ named. length named.items ≡ most_steps) }
+/// Room for the name of each id: no more ids are given than there are names.
+fn no_names(alloc: Global, names: usize) -> Result<Vec<usize>, Refusal>
+    ensures long { IfOk result (λ named. length named.items ≡ names) }
     ensures err { IfErr result (λ refusal. refusal ≡ Memory) }
 {
-    let named = vec![in alloc; 0; MOST_STEPS]?;
+    let named = vec![in alloc; 0; names]?;
     Ok(named)
 }
 
 /// What a machine has beside its system: the tally of its calls, what names have, the names of ids.
 fn beside(alloc: Global, names: usize) -> Result<(Tally, Names, Vec<usize>), Refusal>
-    ensures tally { IfOk result (λ r. r.0 ≡ tally_made 1 most_steps 18446744073709551615) }
+    ensures tally { IfOk result (λ r. r.0 ≡ tally_made 1 names 18446744073709551615) }
     ensures names { IfOk result (λ r. r.1 ≡ replicate names Nothing) }
-    ensures named { IfOk result (λ r. length r.2.items ≡ most_steps) }
+    ensures named { IfOk result (λ r. length r.2.items ≡ names) }
     ensures err { IfErr result (λ refusal. refusal ≡ Memory) }
 {
-    let tally = Tally::new(alloc, first_id(), MOST_STEPS, u64::MAX)?;
+    let tally = Tally::new(alloc, first_id(), names, u64::MAX)?;
+    let named = no_names(alloc, names)?;
     let names = Names::new(alloc, names)?;
-    let named = no_names(alloc)?;
     Ok((tally, names, named))
 }
 

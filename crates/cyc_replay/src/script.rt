@@ -30,14 +30,15 @@ fn put_step<S: Sink>(
 ) -> Result<(), RunFault>
     requires few { step ≤ most_steps }
     requires before { SetsBelowNever taken.now }
-    requires runs { (done : List TheStep) × (step ≡ 1 + length done) × HaveNames (names_of script.now) done
+    requires runs { (done : List TheStep) × (step ≡ 1 + length done) × HaveNames (names_of script.now) (done ++ taken.now ∷ [])
         × RunsTo script.now.cpus script.now.ceiling (names_of script.now) done machine.old }
     requires whole { S.has_failed sink.old ≡ false }
-    ensures text { (done : List TheStep) → step ≡ 1 + length done → HaveNames (names_of script.now) done
+    ensures text { (done : List TheStep) → step ≡ 1 + length done → HaveNames (names_of script.now) (done ++ taken.now ∷ [])
         → RunsTo script.now.cpus script.now.ceiling (names_of script.now) done machine.old
         → Puts (S.written sink.old) (S.written sink.new) result (word plain (names_of script.now) no_indexes step taken.now
         (run_on no_indexes script.now.cpus script.now.ceiling (names_of script.now) done).state).line }
-    ensures runs { OnOk result ((done : List TheStep) → step ≡ 1 + length done → HaveNames (names_of script.now) done
+    ensures runs { OnOk result ((done : List TheStep) → step ≡ 1 + length done
+        → HaveNames (names_of script.now) (done ++ taken.now ∷ [])
         → RunsTo script.now.cpus script.now.ceiling (names_of script.now) done machine.old
         → RunsTo script.now.cpus script.now.ceiling (names_of script.now) (done ++ taken.now ∷ []) machine.new) }
     ensures write { S.has_failed sink.new ≡ is_write result }

@@ -9,7 +9,7 @@ ghost use Rattle.cyc_model.specs.State.{State};
 ghost use Rattle.cyc_model.specs.Script.{text_in};
 ghost use Rattle.cyc_words.specs.Words.{MakesCall};
 ghost use Rattle.cyc_words.specs.Doing.{DoesWord, word_state};
-ghost use Rattle.cyc_replay.specs.Machine.{ShowsMachine, IsNamed, IsReached};
+ghost use Rattle.cyc_replay.specs.Machine.{ShowsMachine, HasName, IsReached};
 ghost use Rattle.cyc_replay.specs.WordLines.{begun_line, name_in_word, named_by, why_line, word_line};
 ghost use Rattle.cyc_replay.specs.Words.{SetsBelowNever, TakesWord};
 
@@ -129,9 +129,8 @@ fn take_call(
     step: u32,
     word: &Step,
 ) -> Result<(), RunFault>
-    requires few { step ≤ most_steps }
-    requires call { MakesCall word.now }
-    ensures takes { OnOk result ((s : State) → IsReached step s → IsNamed s → ShowsMachine s machine.old
+    requires { MakesCall word.now }
+    ensures takes { OnOk result ((s : State) → IsReached step s → HasName word.now s → ShowsMachine s machine.old
         → TakesWord (map string_bytes names.now) step word.now (string_bytes line.new) s machine.new) }
     ensures memory { IfErr result IsMemory }
 {
@@ -150,7 +149,7 @@ pub(crate) fn take_step(
     requires few { step ≤ most_steps }
     requires before { SetsBelowNever taken.now }
     requires reached { (s : State) × IsReached step s × ShowsMachine s machine.old }
-    ensures takes { OnOk result ((s : State) → IsReached step s → IsNamed s → ShowsMachine s machine.old
+    ensures takes { OnOk result ((s : State) → IsReached step s → HasName taken.now s → ShowsMachine s machine.old
         → TakesWord (map string_bytes names.now) step taken.now (string_bytes line.new) s machine.new) }
     ensures memory { IfErr result IsMemory }
 {

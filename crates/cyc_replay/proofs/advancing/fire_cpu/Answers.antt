@@ -42,7 +42,7 @@ returns-in-Ok-clause-next c step expired lost s first a =
           (λ id low gone. refl);
       room = c.kept_law.ensures.room (FireOne c.args.cpu m.clock (Ok fired)) before after c.in-Ok.ensures a.system
           (length s.names) a.room;
-      tally = wide_fired c.args.cpu m.clock before after fired c.in-Ok.ensures a.tally;
+      tally = wide_fired c.args.cpu m.clock before after (length s.names) fired c.in-Ok.ensures a.tally;
       most = most_fired c.args.cpu m.clock before after fired c.in-Ok.ensures a.most;
     }
 

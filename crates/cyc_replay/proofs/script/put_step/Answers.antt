@@ -5,6 +5,7 @@ use Rattle.cyc_text.specs.Puts.{AppendsPrefix}
 use Rattle.cyc_text.proofs.Puts.{nothing}
 use Rattle.cyc_model.specs.Script.{run_on, names_of, no_indexes}
 use Rattle.cyc_replay.specs.Runs.{listed}
+use Rattle.cyc_replay.proofs.Introduced.{fewer_before}
 use Rattle.cyc_replay.proofs.RunningMachine.{reached_so, takes_at}
 use Rattle.cyc_replay.proofs.Reading.{takes_named}
 use Rattle.cyc_replay.proofs.script.put_step.Goals as goal
@@ -15,7 +16,7 @@ take_step-requires-clause-reached g c =
     let done = c.requires.runs.0 in let is = c.requires.runs.1 in let r = c.requires.runs.3 in (
       (run_on (listed r.given) script.cpus script.ceiling (names_of script) done).state,
       reached_so script.cpus script.ceiling (names_of script) done c.args.machine.now r
-          (omega (arith, low)) script.cpus_in_range.1
+          (omega (arith, low)) script.cpus_in_range.1 (fewer_before (names_of script) done c.args.taken.now c.requires.runs.2)
           c.args.step (omega (arith, is)),
       r.holds,
     )

@@ -4,6 +4,7 @@ use Rattle.std.proofs.lemmas.Result.{err_from_is_err_and}
 use Rattle.cyc_text.specs.Puts.{Puts}
 use Rattle.cyc_text.proofs.Puts.{more, stops}
 use Rattle.cyc_model.specs.Script.{names_of, run_of, text_with}
+use Rattle.cyc_replay.proofs.Introduced.{all_names}
 use Rattle.cyc_replay.proofs.RunningMachine.{reached_so}
 use Rattle.cyc_replay.proofs.Running.{runs_shown, whole_text}
 use Rattle.cyc_replay.proofs.script.put_text.Goals as goal
@@ -19,7 +20,7 @@ returns-clause-text g c =
     let script = c.args.script.now in let low = script.cpus_in_range.0 in let r = c.in_ok-put_steps.ensures.runs in
     let reached = reached_so script.cpus script.ceiling (names_of script) script.steps.items c.put_steps.new.machine r
     (omega (arith, low))
-    script.cpus_in_range.1 (1 + length script.steps.items) (omega arith) in
+    script.cpus_in_range.1 (all_names c.args.script.now) (1 + length script.steps.items) (omega arith) in
     let P : List ℕ → Type 0 = λ text. Puts (g.S.Sink.written c.args.sink.now)
     (g.S.Sink.written c.put_reports.new.sink) c.put_reports.result text in
     subst P (whole_text c.args.script.now c.put_steps.new.machine r)
