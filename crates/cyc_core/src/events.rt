@@ -266,7 +266,8 @@ impl LevelCore {
         Ok(())
     }
 
-    /// Makes the events in order, up to the first that is not enabled. The events before that one have happened.
+    /// Makes the events in order, up to the first that is not enabled. The events before that one have happened. O(n) for each
+    /// Admit.
     pub fn apply(&mut self, events: &[Event]) -> Result<(), NotEnabledAt>
         ensures ok { OnOk result (FoldsTo Happens (level_of self.old) events.now (level_of self.new)) }
         ensures before { IfErr result (λ at. FoldsTo Happens (level_of self.old) (take at.0 events.now) (level_of self.new)) }
