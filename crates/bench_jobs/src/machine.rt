@@ -4,8 +4,8 @@ ghost use Rattle.std.specs.Prelude.{◌≤◌};
 
 use crate::digest::Digest;
 use crate::random::Random;
+use cyc_agreement::SystemRemoval;
 use cyc_core::LevelCore;
-use cyc_removal::SystemRemoval;
 use cyc_replay::begin;
 use cyc_system::{SoftFault, System};
 use cyc_types::{

@@ -13,4 +13,10 @@ pub mod Binding
 pub mod Omni
 pub mod Online
 pub mod OmniLaws
+pub mod Removing
+pub mod Polling
+pub mod Counting
+pub mod Withdrawing
+pub mod RemovalLaws
+pub mod Counts
 pub use Rattle.cyc_cpu.specs.Rows

@@ -14,5 +14,6 @@ pub mod Calling
 pub mod Sizes
 pub mod Banks
 pub mod Reprogramming
+pub mod Shifts
 pub use Rattle.cyc_timers.proofs.Sharing
 pub use Rattle.cyc_timers.proofs.Walks

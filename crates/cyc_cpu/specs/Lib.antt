@@ -10,6 +10,7 @@ pub mod Losses
 pub mod Laws
 pub mod Calls
 pub mod Gone
+pub mod Carried
 pub use Rattle.cyc_timers.specs.declared.fire.FireRefused
 pub use Rattle.cyc_timers.specs.declared.fire.Fired
 pub use Rattle.cyc_timers.specs.Rows

@@ -27,7 +27,7 @@ use Rattle.cyc_cpu.proofs.Sharing.{raises_add_up, ids_add_up}
 use Rattle.cyc_cpu_laws.specs.Runs.{CpuSteps}
 use Rattle.cyc_cpu_laws.specs.Accounts.{Account, no_call_made, both, made_by, account_of, account_in, KeepsLimits, Proceeds}
 use Rattle.cyc_cpu_laws.proofs.Stills.{still_raises, changes_still}
-use Rattle.cyc_cpu_laws.proofs.Shifts.{changes_shift, shift_sums}
+use Rattle.cyc_cpu.proofs.Shifts.{changes_shift, shift_sums}
 use Rattle.cyc_cpu_laws.proofs.Fires.{fired_expired, fired_lost}
 use Rattle.cyc_cpu_laws.proofs.Ways.{passes_none, passes_on, passes_ceiling}
 use Rattle.cyc_cpu_laws.specs.Passing.{Passes}

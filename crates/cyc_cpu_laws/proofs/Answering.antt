@@ -23,7 +23,7 @@ use Rattle.cyc_cpu.specs.Removal.{Leaves, calls_at}
 use Rattle.cyc_cpu.specs.Laws.{IsLawful}
 use Rattle.cyc_cpu.specs.Soft.{raise_tables, firing_at, done_at}
 use Rattle.cyc_cpu.specs.Calls.{CpuCall, CpuChanges, BeginRemove, PollRemove, TakeNow}
-use Rattle.cyc_cpu_laws.specs.Accounts.{counts_for, left_by}
+use Rattle.cyc_cpu.specs.Carried.{counts_for, left_by}
 use Rattle.cyc_cpu_laws.specs.Receipts.{Releases, HasCalls, done_by, pending_by, IsBalancedCyclic, AnswersCalls}
 
 -- of a lawful stay, each expiration is done, outstanding or lost

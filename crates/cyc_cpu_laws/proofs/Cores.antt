@@ -42,7 +42,8 @@ use Rattle.cyc_cpu.specs.Calls.{AskRoom, Reserve, Widen, BeginRemove, PollRemove
 use Rattle.cyc_cpu.proofs.Softs.{serving_keeps}
 use Rattle.cyc_cpu_laws.specs.Runs.{CpuSteps}
 use Rattle.cyc_cpu_laws.specs.Passing.{Passes}
-use Rattle.cyc_cpu_laws.specs.Accounts.{Account, no_call_made, both, calls_told, account_of, account_in, expired_of, lost_of}
+use Rattle.cyc_cpu_laws.specs.Accounts.{Account, no_call_made, both, calls_told, account_of, account_in}
+use Rattle.cyc_cpu.specs.Carried.{expired_of, lost_of}
 use Rattle.cyc_cpu_laws.specs.Cores.{LevelCall, OfFiring, OfSoft, LevelDoes, firing_calls, soft_calls, CorePasses, CoreProceeds}
 use Rattle.cyc_cpu_laws.proofs.Ways.{passes_one, passes_ceiling}
 use Rattle.cyc_cpu_laws.proofs.Accounting.{none_made, limits_none, limits_on, proceeds_one}

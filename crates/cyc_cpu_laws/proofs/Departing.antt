@@ -30,7 +30,7 @@ use Rattle.cyc_cpu.proofs.Off.{none_there}
 use Rattle.cyc_cpu_laws.specs.Runs.{CpuSteps}
 use Rattle.cyc_cpu_laws.specs.Accounts.{made_by}
 use Rattle.cyc_cpu_laws.specs.Absence.{StaysOff, run_from}
-use Rattle.cyc_cpu_laws.proofs.Shifts.{changes_shift, shift_away}
+use Rattle.cyc_cpu.proofs.Shifts.{changes_shift, shift_away}
 use Rattle.cyc_cpu_laws.proofs.Fires.{no_share, no_cyclic, fired_away}
 use Rattle.cyc_cpu_laws.proofs.Accounting.{proceeds_one}
 

@@ -14,7 +14,7 @@ use Rattle.cyc_cpu.specs.Rows.{Cyclic, timers}
 use Rattle.cyc_cpu.specs.Acts.{timer_of, is_of_level, same_level, lost_after}
 use Rattle.cyc_cpu.specs.Cpu.{HasNoCyclic}
 use Rattle.cyc_cpu.specs.Shares.{share}
-use Rattle.cyc_cpu_laws.specs.Accounts.{expired_of, lost_of}
+use Rattle.cyc_cpu.specs.Carried.{expired_of, lost_of}
 
 -- the shares of an id at all levels
 abbrev pub shares : List Timer → List Expiration → ℕ → ℕ

@@ -1,5 +1,4 @@
 pub mod Stills
-pub mod Shifts
 pub mod Fires
 pub mod Ways
 pub mod Accounting

@@ -1,5 +1,5 @@
 -- What calls on a CPU add up to for each id.
-use Rattle.std.specs.Prelude.{◌≡◌, ℕ, ◌+◌, ◌≤◌, ◌==◌, cond, take, List, [], ◌∷◌, Some, Result, Ok, Err, sum_by}
+use Rattle.std.specs.Prelude.{◌≡◌, ℕ, ◌+◌, ◌≤◌, cond, take, List, [], ◌∷◌, Result, Ok, Err}
 use Rattle.std.specs.List.{FoldsTo}
 use Rattle.cyc_types.specs.declared.Raise.{Ghosts as Raise}
 use Rattle.cyc_types.specs.Firing.{FiringView}
@@ -14,9 +14,9 @@ use Rattle.cyc_types.specs.Counting.{no_counts}
 use Rattle.cyc_cpu.specs.Rows.{Cyclic, timers}
 use Rattle.cyc_cpu.specs.Acts.{same_level}
 use Rattle.cyc_cpu.specs.Shares.{share}
-use Rattle.cyc_cpu.specs.declared.removing.Removal.TheVariants.{Done}
 use Rattle.cyc_cpu.specs.Cpu.{CpuView, Running}
-use Rattle.cyc_cpu.specs.Calls.{CpuCall, Fire, SoftInterrupt, Place, BeginRemove, PollRemove, TakeNow}
+use Rattle.cyc_cpu.specs.Calls.{CpuCall, Fire, SoftInterrupt}
+use Rattle.cyc_cpu.specs.Carried.{entered_by, left_by, expired_of, lost_of}
 use Rattle.cyc_cpu_laws.specs.Passing.{Passes}
 
 -- the expirations that a call made: those of a fire, up to one that was refused
@@ -24,22 +24,6 @@ abbrev pub made_by : CpuCall → List Cyclic → List Expiration
 made_by (Fire now (Ok fired)) cs = expirations now (timers cs)
 made_by (Fire now (Err e)) cs = take e.expired (expirations now (timers cs))
 made_by call cs = []
-
--- these counts for their own id, and none for another
-abbrev pub counts_for : ℕ → Sent → ℕ → Sent
-counts_for own counts id = cond (own == id) counts no_counts
-
--- the counts with which a call put in each id: those that a cyclic carries in
-abbrev pub entered_by : CpuCall → ℕ → Sent
-entered_by (Place own level interval moment carried) id = counts_for own carried id
-entered_by call id = no_counts
-
--- the counts with which each id left by a call: those of the receipt, or of what was taken
-abbrev pub left_by : CpuCall → ℕ → Sent
-left_by (BeginRemove own (Ok (Done r))) id = counts_for own (record { sent = r.sent; lost = r.lost }) id
-left_by (PollRemove (Some r)) id = counts_for r.id (record { sent = r.sent; lost = r.lost }) id
-left_by (TakeNow own (Ok taken)) id = counts_for own taken.sent id
-left_by call id = no_counts
 
 -- the calls of handlers that a soft interrupt's answer tells
 abbrev pub calls_told : Result Ran SoftRefused → ℕ
@@ -89,13 +73,6 @@ abbrev pub account_in : {C R : Type 0} (D : Running C R → CpuCall → Running 
     (t : Running C R) → FoldsTo D s way t → Account
 account_in D s [] t run = no_call_made
 account_in D s (call ∷ way) t run = both (account_of call s.cpu.cyclics) (account_in D run.0 way t run.2)
-
--- the expirations and the losses that a CPU has of an id, 0 where no cyclic has it
-abbrev pub expired_of : ℕ → List Cyclic → ℕ
-expired_of id cs = sum_by (λ c. cond (c.timer.id == id) c.timer.expired 0) cs
-
-abbrev pub lost_of : ℕ → List Cyclic → ℕ
-lost_of id cs = sum_by (λ c. cond (c.timer.id == id) c.lost 0) cs
 
 -- what cyclics have of an id's expirations, with what it left with, is what they had, with what it entered with and what the
 -- fires made of it

@@ -10,7 +10,7 @@ use Rattle.cyc_cpu.specs.declared.removing.Removal.TheVariants.{Done}
 use Rattle.cyc_cpu.specs.Cpu.{CpuView, IsCyclic}
 use Rattle.cyc_cpu.specs.Soft.{done_at}
 use Rattle.cyc_cpu.specs.Calls.{CpuCall, BeginRemove, PollRemove, TakeNow}
-use Rattle.cyc_cpu_laws.specs.Accounts.{left_by}
+use Rattle.cyc_cpu.specs.Carried.{left_by}
 
 -- the call's answer has the counts of the id, which leaves by it: its removal is done, or it was taken
 abbrev pub Releases : ℕ → CpuCall → Type 0

@@ -9,7 +9,7 @@ use Rattle.cyc_types.specs.declared.refusal.Refusal.TheVariants.{NoCyclic, Memor
 use Rattle.cyc_types.specs.Refusals.{number_of}
 use Rattle.cyc_core.specs.Tables.{Tables}
 use Rattle.cyc_text.specs.Lines.{refused}
-use Rattle.cyc_cpu_model.specs.Answers.{IsRefused}
+use Rattle.cyc_system_model.specs.Answers.{IsRefused}
 use Rattle.cyc_cpu.specs.Soft.{raise_tables}
 use Rattle.cyc_text.specs.declared.lines.Counts.{Counts}
 use Rattle.cyc_system.specs.Removing.{cpus_with as cpus_with_in}

@@ -11,7 +11,7 @@ use Rattle.cyc_model.specs.Refusals.{unless, refusal, after_refusal}
 use Rattle.cyc_model.specs.Script.{refusal_of, does, word}
 use Rattle.cyc_model.proofs.Events.{calls_append}
 use Rattle.cyc_model.proofs.Telling.{tells_steps}
-use Rattle.cyc_cpu_model.specs.Answers.{IsRefused}
+use Rattle.cyc_system_model.specs.Answers.{IsRefused}
 use Rattle.cyc_system_model.specs.Shown.{IsSystem, ShowsSystem}
 use Rattle.cyc_system_model.specs.SystemWords.{GivesIndexes, IsDone, IsDoneWith, IsRefusedFor}
 use Rattle.cyc_replay.specs.declared.machine.Machine.{Machine}

@@ -38,7 +38,7 @@ use Rattle.cyc_model.proofs.Events.{calls_append}
 use Rattle.cyc_model.proofs.Totals.{expired_in}
 use Rattle.cyc_model.proofs.Numbers.{Has, numbers_few}
 use Rattle.cyc_model.proofs.Calm.{good_clock}
-use Rattle.cyc_cpu_model.specs.Shown.{shown_cyclic}
+use Rattle.cyc_system_model.specs.ShownCpu.{shown_cyclic}
 use Rattle.cyc_system_model.specs.SystemAdvancing.{at_clock, online_below, fired_and_lost, HasFired}
 use Rattle.cyc_system_model.specs.Shown.{shown_list, IsSystem}
 use Rattle.cyc_replay.specs.declared.machine.Machine.{Machine}

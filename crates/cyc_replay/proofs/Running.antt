@@ -23,7 +23,7 @@ use Rattle.cyc_model.proofs.Enabling.{events_are_enabled, new_level}
 use Rattle.cyc_model.proofs.Reaching.{well_steps, start_good, length_new}
 use Rattle.cyc_model.proofs.Telling.{tells_steps}
 use Rattle.cyc_model.proofs.Unindexed.{text_bare}
-use Rattle.cyc_cpu_model.specs.Shown.{shown_cpu}
+use Rattle.cyc_system_model.specs.ShownCpu.{shown_cpu}
 use Rattle.cyc_system_model.specs.Shown.{shown_cpus}
 use Rattle.cyc_replay.specs.declared.machine.Machine.{Machine}
 use Rattle.cyc_replay.specs.Machine.{ShowsMachine}

@@ -19,7 +19,7 @@ use Rattle.cyc_replay.specs.Words.{TakesWord}
 use Rattle.cyc_replay.specs.Runs.{HaveNames, RunsTo, listed}
 use Rattle.cyc_replay.proofs.Indexes.{same_run, same_line}
 use Rattle.cyc_replay.proofs.Introduced.{run_named, run_has_name, fewer_before}
-use Rattle.cyc_cpu_model.proofs.Free.{can_append}
+use Rattle.cyc_system_model.proofs.Free.{can_append}
 
 -- ---- lists of indexes
 

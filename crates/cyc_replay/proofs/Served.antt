@@ -43,7 +43,7 @@ use Rattle.cyc_model.proofs.Fit.{Fit, keeps_fit, in_hand_counts}
 use Rattle.cyc_model.proofs.Whole.{all_back}
 use Rattle.cyc_model.proofs.Spread.{Good}
 use Rattle.cyc_system_model.specs.Running.{IsServed}
-use Rattle.cyc_cpu_model.specs.Shown.{shown_cpu}
+use Rattle.cyc_system_model.specs.ShownCpu.{shown_cpu}
 use Rattle.cyc_system_model.specs.Shown.{shown_list, ShowsSystem}
 use Rattle.cyc_replay.specs.declared.machine.Machine.{Machine}
 use Rattle.cyc_replay.specs.Machine.{ShowsMachine, IsReached, IsWide}

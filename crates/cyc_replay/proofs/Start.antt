@@ -37,9 +37,9 @@ use Rattle.cyc_cpu.specs.Calls.{Reserve, CpuChanges}
 use Rattle.cyc_cpu.specs.Soft.{raise_tables}
 use Rattle.cyc_system.specs.Cpus.{new_cpus}
 use Rattle.cyc_system.proofs.Rooms.{only_memory}
-use Rattle.cyc_cpu_model.specs.Shown.{shown_cyclic, shown_cpu}
-use Rattle.cyc_cpu_model.specs.Tied.{IsTied, HasOwn}
-use Rattle.cyc_cpu_model.proofs.Levels.{only_looked}
+use Rattle.cyc_system_model.specs.ShownCpu.{shown_cyclic, shown_cpu}
+use Rattle.cyc_system_model.specs.Tied.{IsTied, HasOwn}
+use Rattle.cyc_system_model.proofs.Levels.{only_looked}
 use Rattle.std.specs.Prelude.{Result, OnOk, IfErr}
 use Rattle.cyc_places.specs.Places.{IsRecord, HasRisingIds as RecordsRise}
 use Rattle.cyc_system.specs.System.{SystemView}

@@ -9,7 +9,7 @@ use Rattle.cyc_model.specs.Questions.{plain}
 use Rattle.cyc_model.specs.State.{State, Outcome}
 use Rattle.cyc_model.specs.Refusals.{refusal, after_refusal}
 use Rattle.cyc_model.specs.Script.{refusal_of, does}
-use Rattle.cyc_cpu_model.specs.Answers.{IsRefused}
+use Rattle.cyc_system_model.specs.Answers.{IsRefused}
 use Rattle.cyc_replay.specs.declared.machine.Machine.{Machine}
 use Rattle.cyc_replay.specs.Machine.{ShowsMachine}
 use Rattle.cyc_replay.specs.Words.{Comes, TakesWord, answer_line}

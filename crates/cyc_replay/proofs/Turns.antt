@@ -19,7 +19,7 @@ use Rattle.cyc_replay.proofs.Doing.{AcceptsWith}
 use Rattle.cyc_replay.proofs.Remembering.{SameNames}
 use Rattle.cyc_replay.proofs.Doing.{Keeps, Leaves, refuses, lasts_with}
 use Rattle.cyc_replay.proofs.Taking.{truly_refused, refused_takes, takes_with}
-use Rattle.cyc_cpu_model.specs.Answers.{IsRefused}
+use Rattle.cyc_system_model.specs.Answers.{IsRefused}
 use Rattle.cyc_words.specs.declared.answer.WordAnswer.TheVariants.{Juggled}
 use Rattle.cyc_words.specs.Words.{word_answer, done}
 use Rattle.cyc_replay.specs.WordLines.{word_line}

@@ -15,7 +15,7 @@ use Rattle.cyc_types.specs.declared.refusal.Refusal.TheVariants.{CountSpent, Han
 use Rattle.cyc_core.specs.Tables.{Tables}
 use Rattle.cyc_types.specs.Expirations.{Expiration, expirations, times_of, after_expirations, all_after}
 use Rattle.cyc_types.specs.Timers.{Timer}
-use Rattle.cyc_cpu_model.specs.Rows.{timers}
+use Rattle.cyc_system_model.specs.Rows.{timers}
 use Rattle.cyc_cpu.specs.Acts.{ids_at, is_of_level as is_of_level, timer_of}
 use Rattle.cyc_cpu.specs.Made.{Stops}
 use Rattle.cyc_cpu.specs.FireRefused.{FireRefused}

@@ -22,8 +22,8 @@ ghost use Rattle.cyc_replay.specs.Interrupting.{HasInterrupted, polls_of, IsPoll
 
 use crate::lines::{name_text, write_answer};
 use crate::machine::{Machine, id_in, name_of};
+use cyc_agreement::others_law;
 use cyc_core::LevelCore;
-use cyc_removal::others_law;
 use cyc_script::Softint;
 use cyc_soft::Ran;
 use cyc_system::{SoftFault, System};

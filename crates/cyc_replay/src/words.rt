@@ -17,7 +17,7 @@ use crate::advancing::take_advance;
 use crate::interrupting::take_softint;
 use crate::lines::name_text;
 use crate::machine::{Machine, set_name};
-use cyc_removal::SystemRemoval;
+use cyc_agreement::SystemRemoval;
 use cyc_script::Step;
 use cyc_text::{
     RunFault, write_accepted, write_kept, write_left, write_moved, write_refused, write_removed,

@@ -19,8 +19,8 @@ use Rattle.cyc_cpu.specs.declared.moving.Taken.{Taken}
 use Rattle.cyc_cpu.specs.Cpu.{CpuView, HasNoCyclic, HasRisingCyclics}
 use Rattle.cyc_cpu.specs.Laws.{IsLawful}
 use Rattle.cyc_cpu.specs.Calls.{AskPending, Reserve, TakeNow}
-use Rattle.cyc_cpu_laws.specs.Accounts.{expired_of, entered_by, left_by}
-use Rattle.cyc_cpu_laws.proofs.Shifts.{changes_shift, shift_sums}
+use Rattle.cyc_cpu.specs.Carried.{expired_of, entered_by, left_by}
+use Rattle.cyc_cpu.proofs.Shifts.{changes_shift, shift_sums}
 use Rattle.cyc_places.specs.declared.record.Placement.TheVariants as stands
 use Rattle.cyc_places.specs.declared.record.Record.{Record}
 use Rattle.cyc_places.specs.Places.{IsRecord, ended_on, summed, with_placement, with_ended}
@@ -35,10 +35,10 @@ use Rattle.cyc_agreement.proofs.Spots.{same_some, none_some}
 use Rattle.cyc_agreement.proofs.Lists.{false_true}
 use Rattle.cyc_agreement.proofs.Entering.{none_here}
 use Rattle.cyc_agreement.proofs.Destinations.{destination_fits}
-use Rattle.cyc_juggle.specs.declared.turning.Turn.{Turn}
-use Rattle.cyc_juggle.specs.declared.turning.Turn.TheVariants.{StaysBound, StaysPending, StaysRefused, Moves}
-use Rattle.cyc_juggle.specs.Juggling.{TakesTurn}
-use Rattle.cyc_juggle.specs.GoingOffline.{quiet, Retires}
+use Rattle.cyc_system.specs.declared.turning.Turn.{Turn}
+use Rattle.cyc_system.specs.declared.turning.Turn.TheVariants.{StaysBound, StaysPending, StaysRefused, Moves}
+use Rattle.cyc_system.specs.Juggling.{TakesTurn}
+use Rattle.cyc_system.specs.GoingOffline.{quiet, Retires}
 use Rattle.cyc_system.proofs.Turned.{StillHolds, was}
 
 -- ---- the counts of a cyclic on its CPU

@@ -12,8 +12,8 @@ use Rattle.cyc_agreement.specs.Cpus.{IsCpu, on}
 use Rattle.cyc_agreement.specs.System.{SystemView, ids_on}
 use Rattle.cyc_agreement.specs.Agreement.{Agrees}
 use Rattle.cyc_agreement.specs.Holding.{Holds, EndedWithin}
-use Rattle.cyc_juggle.specs.Juggling.{Turns, Juggles, single_ids}
-use Rattle.cyc_juggle.specs.GoingOffline.{quiet, Retires, EndsOffline, GoesOffline, offline_at}
+use Rattle.cyc_system.specs.Juggling.{Turns, Juggles, single_ids}
+use Rattle.cyc_system.specs.GoingOffline.{quiet, Retires, EndsOffline, GoesOffline, offline_at}
 use Rattle.cyc_system.proofs.Turned.{still_then, still_turn, still_turns, still_retired, still_asked, still_left, whole_still}
 use Rattle.cyc_system.proofs.Fitting.{Fits, fits_within, fits_first, fits_turn, fits_retired, fits_calls, puts_quiet, puts_found}
 

@@ -1,3 +1,16 @@
+pub mod Replaced
+pub mod OtherOnline
+pub mod MayGo
+pub mod Here
+pub mod Places
+pub mod Stepping
+pub mod ListsUpTo
+pub mod Stepped
+pub mod Walked
+pub mod AskingEach
+pub mod Retired
+pub mod Emptied
+pub mod Within
 pub mod Added
 pub mod Away
 pub mod Numbers
@@ -5,11 +18,10 @@ pub mod Returned
 pub mod Turned
 pub mod Fitting
 pub mod Left
-pub use Rattle.cyc_juggle.proofs.Retired
-pub use Rattle.cyc_removal.proofs.Folds
-pub use Rattle.cyc_removal.proofs.One
-pub use Rattle.cyc_removal.proofs.Where
-pub use Rattle.cyc_removal.proofs.Forgetting
+pub use Rattle.cyc_agreement.proofs.Folds
+pub use Rattle.cyc_agreement.proofs.One
+pub use Rattle.cyc_agreement.proofs.Where
+pub use Rattle.cyc_agreement.proofs.Forgetting
 pub use Rattle.cyc_agreement.proofs.Spots
 pub use Rattle.cyc_agreement.proofs.Recording
 pub use Rattle.cyc_agreement.proofs.Lists
@@ -18,7 +30,7 @@ pub use Rattle.cyc_agreement.proofs.Who
 pub use Rattle.cyc_agreement.proofs.Destinations
 pub use Rattle.cyc_agreement.proofs.CpuSpots as CpusSpots
 pub use Rattle.cyc_agreement.proofs.Rooms
-pub use Rattle.cyc_removal.proofs.Others
-pub use Rattle.cyc_removal.proofs.Receipts
-pub use Rattle.cyc_removal.proofs.Sums
-pub use Rattle.cyc_removal.proofs.Answering
+pub use Rattle.cyc_agreement.proofs.Others
+pub use Rattle.cyc_agreement.proofs.Receipts
+pub use Rattle.cyc_agreement.proofs.Sums
+pub use Rattle.cyc_agreement.proofs.Answering

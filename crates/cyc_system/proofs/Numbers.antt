@@ -19,16 +19,16 @@ use Rattle.cyc_types.specs.declared.refusal.JuggleReport.{JuggleReport}
 use Rattle.cyc_cpu.specs.declared.removing.Removal.{Removal}
 use Rattle.cyc_cpu.specs.declared.removing.Removal.TheVariants.{Done, Kept}
 use Rattle.cyc_agreement.specs.System.{ids_on}
-use Rattle.cyc_removal.specs.declared.removing.SystemRemoval.{SystemRemoval}
-use Rattle.cyc_removal.specs.declared.removing.SystemRemoval.TheVariants as over
-use Rattle.cyc_removal.specs.declared.totals.SystemTotals.{SystemTotals}
-use Rattle.cyc_removal.specs.Removing.{Begun, BeginsOn, BeginsEach, Removes}
-use Rattle.cyc_removal.specs.Polling.{Polled, PollsOn, PollsEach, PollsCpus}
-use Rattle.cyc_removal.specs.Counting.{AsksTotals}
-use Rattle.cyc_juggle.specs.declared.turning.Turn.{Turn}
-use Rattle.cyc_juggle.specs.declared.turning.Turn.TheVariants.{StaysBound, StaysPending, StaysRefused, Moves}
-use Rattle.cyc_juggle.specs.Juggling.{TakesTurn, Turns, single_ids}
-use Rattle.cyc_juggle.specs.GoingOffline.{Retires, EndsOffline}
+use Rattle.cyc_agreement.specs.declared.removing.SystemRemoval.{SystemRemoval}
+use Rattle.cyc_agreement.specs.declared.removing.SystemRemoval.TheVariants as over
+use Rattle.cyc_agreement.specs.declared.totals.SystemTotals.{SystemTotals}
+use Rattle.cyc_agreement.specs.Removing.{Begun, BeginsOn, BeginsEach, Removes}
+use Rattle.cyc_agreement.specs.Polling.{Polled, PollsOn, PollsEach, PollsCpus}
+use Rattle.cyc_agreement.specs.Counting.{AsksTotals}
+use Rattle.cyc_system.specs.declared.turning.Turn.{Turn}
+use Rattle.cyc_system.specs.declared.turning.Turn.TheVariants.{StaysBound, StaysPending, StaysRefused, Moves}
+use Rattle.cyc_system.specs.Juggling.{TakesTurn, Turns, single_ids}
+use Rattle.cyc_system.specs.GoingOffline.{Retires, EndsOffline}
 use Rattle.cyc_agreement.specs.Omni.{AddsOmni}
 use Rattle.cyc_agreement.specs.Online.{GoesOnline}
 use Rattle.cyc_system.specs.Calls.{SystemCall, Changes, Does, Add, AddOmni, Bind, BeginRemove, PollRemove, AskTotals, Reprogram}

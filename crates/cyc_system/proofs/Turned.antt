@@ -33,10 +33,10 @@ use Rattle.cyc_agreement.proofs.Spots.{same_some}
 use Rattle.cyc_agreement.proofs.Who.{id_in, ids_there, ids_now, ids_elsewhere, ids_set, kept_at}
 use Rattle.cyc_agreement.proofs.Recording.{one_record}
 use Rattle.cyc_agreement.proofs.Removals.{IsSteady, AreSteady, steady_on, removals_kept, leaving_here}
-use Rattle.cyc_juggle.specs.declared.turning.Turn.{Turn}
-use Rattle.cyc_juggle.specs.declared.turning.Turn.TheVariants.{StaysBound, StaysPending, StaysRefused, Moves}
-use Rattle.cyc_juggle.specs.GoingOffline.{quiet, Retires, EndsOffline, offline_at}
-use Rattle.cyc_juggle.specs.Juggling.{TakesTurn, Turns}
+use Rattle.cyc_system.specs.declared.turning.Turn.{Turn}
+use Rattle.cyc_system.specs.declared.turning.Turn.TheVariants.{StaysBound, StaysPending, StaysRefused, Moves}
+use Rattle.cyc_system.specs.GoingOffline.{quiet, Retires, EndsOffline, offline_at}
+use Rattle.cyc_system.specs.Juggling.{TakesTurn, Turns}
 
 -- ---- calls that put in no cyclic of an id
 

@@ -24,13 +24,13 @@ use Rattle.cyc_agreement.specs.System.{SystemView, RunningSystem}
 use Rattle.cyc_agreement.specs.Refusals.{Unless, ids_spent, no_cyclic, omnipresent, no_cpu, offline_cpu, no_component}
 use Rattle.cyc_agreement.specs.Adding.{OnlyWorks, add_request, Adds}
 use Rattle.cyc_agreement.specs.Binding.{HasHome, Unbinds, Binds}
-use Rattle.cyc_removal.specs.declared.removing.SystemRemoval.{SystemRemoval}
-use Rattle.cyc_removal.specs.declared.totals.SystemTotals.{SystemTotals}
-use Rattle.cyc_removal.specs.Removing.{BeginsRemoval}
-use Rattle.cyc_removal.specs.Polling.{PollsRemoval}
-use Rattle.cyc_removal.specs.Counting.{AsksTotals}
-use Rattle.cyc_juggle.specs.Juggling.{Juggles}
-use Rattle.cyc_juggle.specs.GoingOffline.{GoesOffline}
+use Rattle.cyc_agreement.specs.declared.removing.SystemRemoval.{SystemRemoval}
+use Rattle.cyc_agreement.specs.declared.totals.SystemTotals.{SystemTotals}
+use Rattle.cyc_agreement.specs.Removing.{BeginsRemoval}
+use Rattle.cyc_agreement.specs.Polling.{PollsRemoval}
+use Rattle.cyc_agreement.specs.Counting.{AsksTotals}
+use Rattle.cyc_system.specs.Juggling.{Juggles}
+use Rattle.cyc_system.specs.GoingOffline.{GoesOffline}
 use Rattle.cyc_agreement.specs.Omni.{AddsOmni}
 use Rattle.cyc_agreement.specs.Online.{GoesOnline, online_cpu}
 use Rattle.cyc_agreement.specs.Suspending.{suspended, not_suspended, MarksEach}

@@ -1,8 +1,10 @@
-//! The calls that go over several CPUs or over all cyclics of one: what each of them does stands in `cyc_agreement`,
-//! `cyc_removal` and `cyc_juggle`.
+//! The calls that go over several CPUs or over all cyclics of one.
 
+use crate::going_offline::offline;
+use crate::juggling::juggle;
+use crate::returning::online;
 use crate::system::System;
-use cyc_removal::SystemRemoval;
+use cyc_agreement::SystemRemoval;
 use cyc_types::{CyclicId, JuggleReport, Level, Moment, Raise, Receipt, Refusal, When};
 
 impl<R: Raise> System<R> {
@@ -45,7 +47,7 @@ impl<R: Raise> System<R> {
     pub fn online(&mut self, cpu: u32, now: Moment) -> Result<(), Refusal>
         ensures { Changes R.Raise self.old (Online cpu now result) self.new }
     {
-        cyc_juggle::online(&mut self.cpus, &mut self.records, cpu, now)
+        online(&mut self.cpus, &mut self.records, cpu, now)
     }
 
     /// Moves the cyclics of a CPU to others (`cyclic_juggle`). By rising id, each that is not omnipresent is counted as bound;
@@ -60,7 +62,7 @@ impl<R: Raise> System<R> {
     {
         self.cpus.law();
         self.records.law();
-        let answer = cyc_juggle::juggle(&mut self.cpus, &mut self.records, cpu);
+        let answer = juggle(&mut self.cpus, &mut self.records, cpu);
         self.cpus.law();
         self.records.law();
         answer
@@ -77,7 +79,7 @@ impl<R: Raise> System<R> {
     {
         self.cpus.law();
         self.records.law();
-        let answer = cyc_juggle::offline(&mut self.cpus, &mut self.records, cpu);
+        let answer = offline(&mut self.cpus, &mut self.records, cpu);
         self.cpus.law();
         self.records.law();
         answer
@@ -92,7 +94,7 @@ impl<R: Raise> System<R> {
     pub fn begin_remove(&mut self, id: CyclicId) -> Result<SystemRemoval, Refusal>
         ensures { Changes R.Raise self.old (BeginRemove id result) self.new }
     {
-        cyc_removal::begin_remove(&mut self.cpus, &mut self.records, id)
+        cyc_agreement::begin_remove(&mut self.cpus, &mut self.records, id)
     }
 
     /// Asks every CPU on which the removal of the cyclic is open whether its calls are made (the end of `cyclic_remove`). The
@@ -102,6 +104,6 @@ impl<R: Raise> System<R> {
     pub fn poll_remove(&mut self, id: CyclicId) -> Result<Option<Receipt>, Refusal>
         ensures { Changes R.Raise self.old (PollRemove id result) self.new }
     {
-        cyc_removal::poll_remove(&mut self.cpus, &mut self.records, id)
+        cyc_agreement::poll_remove(&mut self.cpus, &mut self.records, id)
     }
 }

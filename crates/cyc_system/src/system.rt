@@ -10,12 +10,11 @@ ghost use Rattle.cyc_cpu.specs.Calls.{no_interrupts, Fire, Reserve, SoftInterrup
 ghost use Rattle.cyc_agreement.specs.Cpus.{new_cpus, on, running_cpus, DoesAt, RunsAt};
 ghost use Rattle.cyc_agreement.specs.System.{running_system};
 ghost use Rattle.cyc_agreement.specs.Agreement.{Agrees};
-ghost use Rattle.cyc_removal.specs.Counts.{IsFit, AreLawful};
+ghost use Rattle.cyc_agreement.specs.Counts.{IsFit, AreLawful};
 
-use cyc_agreement::{Cpus, enter};
+use cyc_agreement::{Cpus, SystemTotals, agreed_totals, enter};
 use cyc_core::LevelCore;
 use cyc_places::{Placement, Records};
-use cyc_removal::SystemTotals;
 use cyc_soft::{Ran, SoftRefused};
 use cyc_timers::{FireRefused, Fired};
 use cyc_types::{Calls, CyclicId, Level, Moment, Raise, Refusal, Soft, When};
@@ -196,7 +195,7 @@ impl<R: Raise> System<R> {
     pub fn totals(&mut self, id: CyclicId) -> Option<SystemTotals>
         ensures { Changes R.Raise self.old (AskTotals id result) self.new }
     {
-        cyc_removal::agreed_totals(&mut self.cpus, &self.records, id)
+        agreed_totals(&mut self.cpus, &self.records, id)
     }
 }
 

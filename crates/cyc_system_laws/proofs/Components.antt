@@ -17,10 +17,10 @@ use Rattle.cyc_cpu.specs.Calls.{CpuCall, CpuChanges as CpuChanges, Place, TakeNo
 use Rattle.cyc_agreement.specs.Cpus.{CpusView, CallOn, on, DoesAt, Works}
 use Rattle.cyc_agreement.specs.Shifting.{moving}
 use Rattle.cyc_agreement.proofs.CpuSpots.{get_set_other}
-use Rattle.cyc_juggle.specs.Juggling.{TakesTurn, Turns, single_ids}
-use Rattle.cyc_juggle.specs.GoingOffline.{quiet, Retires, EndsOffline}
-use Rattle.cyc_juggle.specs.declared.turning.Turn.{Turn}
-use Rattle.cyc_juggle.specs.declared.turning.Turn.TheVariants.{StaysBound, StaysPending, StaysRefused, Moves}
+use Rattle.cyc_system.specs.Juggling.{TakesTurn, Turns, single_ids}
+use Rattle.cyc_system.specs.GoingOffline.{quiet, Retires, EndsOffline}
+use Rattle.cyc_system.specs.declared.turning.Turn.{Turn}
+use Rattle.cyc_system.specs.declared.turning.Turn.TheVariants.{StaysBound, StaysPending, StaysRefused, Moves}
 use Rattle.cyc_system.specs.System.{SystemView, ids_on, is_omnipresent}
 use Rattle.cyc_system.specs.RemovalLaws.{cyclic_in, cyclic_on}
 use Rattle.cyc_system.specs.Calls.{Changes, Offline}

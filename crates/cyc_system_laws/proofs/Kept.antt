@@ -30,8 +30,8 @@ use Rattle.cyc_system.specs.Binding.{Binds}
 use Rattle.cyc_system.proofs.Lists.{false_ne}
 use Rattle.cyc_system.proofs.Recording.{record_here}
 use Rattle.cyc_system.proofs.Others.{begins_others, polls_others, asks_others}
-use Rattle.cyc_system.specs.Turn.{Turn}
-use Rattle.cyc_system.specs.Turn.TheVariants.{StaysBound, StaysPending, StaysRefused, Moves}
+use Rattle.cyc_system.specs.declared.turning.Turn.{Turn}
+use Rattle.cyc_system.specs.declared.turning.Turn.TheVariants.{StaysBound, StaysPending, StaysRefused, Moves}
 use Rattle.cyc_system.specs.Juggling.{TakesTurn, Turns, single_ids}
 use Rattle.cyc_system.specs.GoingOffline.{quiet, Retires, EndsOffline}
 use Rattle.cyc_system.specs.Omni.{AddsOmni, entering_each}

@@ -32,8 +32,8 @@ use Rattle.cyc_system.specs.RemovalLaws.{IsUntouched}
 use Rattle.cyc_system.proofs.Others.{begins_others, polls_others, asks_others}
 use Rattle.cyc_system.proofs.Forgetting.{rising_set}
 use Rattle.cyc_system.proofs.Folds.{folds_keep}
-use Rattle.cyc_system.specs.Turn.{Turn}
-use Rattle.cyc_system.specs.Turn.TheVariants.{StaysBound, StaysPending, StaysRefused, Moves}
+use Rattle.cyc_system.specs.declared.turning.Turn.{Turn}
+use Rattle.cyc_system.specs.declared.turning.Turn.TheVariants.{StaysBound, StaysPending, StaysRefused, Moves}
 use Rattle.cyc_system.specs.Juggling.{TakesTurn, Turns, single_ids}
 use Rattle.cyc_system.specs.GoingOffline.{Retires, EndsOffline}
 use Rattle.cyc_system.specs.Omni.{AddsOmni}

@@ -22,7 +22,8 @@ use Rattle.cyc_cpu.specs.Cpu.{CpuView, Running, running}
 use Rattle.cyc_cpu.specs.Laws.{IsLawful}
 use Rattle.cyc_cpu.specs.Soft.{raise_tables, firing_at, Interrupts}
 use Rattle.cyc_cpu.specs.Calls.{CpuCall, CpuChanges as CpuChanges, CpuDoes as CpuDoes, Fire, SoftInterrupt as CpuSoftInterrupt}
-use Rattle.cyc_cpu_laws.specs.Accounts.{account_of, lost_of}
+use Rattle.cyc_cpu_laws.specs.Accounts.{account_of}
+use Rattle.cyc_cpu.specs.Carried.{lost_of}
 use Rattle.cyc_cpu_laws.proofs.Accounting.{none_made}
 use Rattle.cyc_cpu_laws.proofs.Cores.{core_proceeds_one}
 use Rattle.cyc_cpu_laws.proofs.Stills.{still_raises, changes_still}

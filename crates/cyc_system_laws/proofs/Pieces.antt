@@ -40,8 +40,8 @@ use Rattle.cyc_system.specs.SystemTotals.{SystemTotals}
 use Rattle.cyc_system.specs.Removing.{Begun, BeginsOn, BeginsEach, Removes, AnswersRemoval}
 use Rattle.cyc_system.specs.Polling.{Polled, PollsOn, PollsEach, PollsCpus}
 use Rattle.cyc_system.specs.Counting.{Counted, asked, AsksTotals}
-use Rattle.cyc_system.specs.Turn.{Turn}
-use Rattle.cyc_system.specs.Turn.TheVariants.{StaysBound, StaysPending, StaysRefused, Moves}
+use Rattle.cyc_system.specs.declared.turning.Turn.{Turn}
+use Rattle.cyc_system.specs.declared.turning.Turn.TheVariants.{StaysBound, StaysPending, StaysRefused, Moves}
 use Rattle.cyc_system.specs.Juggling.{TakesTurn, Turns, single_ids}
 use Rattle.cyc_system.specs.GoingOffline.{quiet, Retires, EndsOffline}
 use Rattle.cyc_system.specs.Omni.{AddsOmni, entering_each}

@@ -29,8 +29,8 @@ use Rattle.cyc_system.specs.Binding.{Binds}
 use Rattle.cyc_system.proofs.Spots.{same_some, none_some, get_some}
 use Rattle.cyc_system.proofs.Destinations.{destination_fits}
 use Rattle.cyc_system.specs.Removing.{unknown_cyclic, cpus_with}
-use Rattle.cyc_system.specs.Turn.{Turn}
-use Rattle.cyc_system.specs.Turn.TheVariants.{StaysBound, StaysPending, StaysRefused, Moves}
+use Rattle.cyc_system.specs.declared.turning.Turn.{Turn}
+use Rattle.cyc_system.specs.declared.turning.Turn.TheVariants.{StaysBound, StaysPending, StaysRefused, Moves}
 use Rattle.cyc_system.specs.Juggling.{TakesTurn, Turns, single_ids, last_cpu}
 use Rattle.cyc_system.specs.GoingOffline.{quiet, EndsOffline}
 use Rattle.cyc_system.specs.Online.{online_cpu, staying}

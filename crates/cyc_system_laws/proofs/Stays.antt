@@ -18,7 +18,7 @@ use Rattle.cyc_cpu.specs.Calls.{CpuCall, CpuChanges, CpuDoes, no_interrupts, Fir
 use Rattle.cyc_cpu.specs.Calls.{AskPending}
 use Rattle.cyc_cpu.specs.Calls.{AskTotals, AskRoom, Reserve, Widen, BeginRemove, PollRemove, TakeNow, AskSettled}
 use Rattle.cyc_cpu.proofs.Following.{stays_gone}
-use Rattle.cyc_cpu_laws.proofs.Shifts.{changes_shift, shift_away}
+use Rattle.cyc_cpu.proofs.Shifts.{changes_shift, shift_away}
 use Rattle.cyc_cpu_laws.proofs.Fires.{no_share, no_cyclic, fired_away}
 use Rattle.cyc_system_laws.proofs.Nowhere.{unused_gone}
 use Rattle.cyc_system.specs.System.{SystemView, RunningSystem}

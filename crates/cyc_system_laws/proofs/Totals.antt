@@ -20,7 +20,8 @@ use Rattle.cyc_cpu.specs.Cpu.{CpuView, Running, running}
 use Rattle.cyc_cpu.specs.Laws.{IsLawful}
 use Rattle.cyc_cpu.specs.Calls.{CpuDoes as CpuDoes, Fire}
 use Rattle.cyc_types.specs.Expirations.{expirations}
-use Rattle.cyc_cpu_laws.specs.Accounts.{account_of, Proceeds, expired_of, lost_of}
+use Rattle.cyc_cpu_laws.specs.Accounts.{account_of, Proceeds}
+use Rattle.cyc_cpu.specs.Carried.{expired_of, lost_of}
 use Rattle.cyc_cpu_laws.proofs.Accounting.{proceeds_one, none_made}
 use Rattle.cyc_cpu_laws.proofs.Fires.{fired_lost}
 use Rattle.cyc_cpu_laws.proofs.Ways.{passes_few}

@@ -28,8 +28,8 @@ use Rattle.cyc_system.specs.System.{SystemView, is_online, removal_on}
 use Rattle.cyc_system.specs.Refusals.{no_cpu, offline_cpu}
 use Rattle.cyc_system.proofs.Spots.{get_some, same_some, none_some}
 use Rattle.cyc_system.proofs.Destinations.{destination_fits}
-use Rattle.cyc_system.specs.Turn.{Turn}
-use Rattle.cyc_system.specs.Turn.TheVariants.{StaysBound, StaysPending, StaysRefused, Moves}
+use Rattle.cyc_system.specs.declared.turning.Turn.{Turn}
+use Rattle.cyc_system.specs.declared.turning.Turn.TheVariants.{StaysBound, StaysPending, StaysRefused, Moves}
 use Rattle.cyc_system.specs.Juggling.{TakesTurn, Turns, single_ids, MovesAway, last_cpu, juggle_refusals}
 use Rattle.cyc_system.specs.Calls.{Changes, Juggle, Offline}
 use Rattle.cyc_system_laws.specs.Parts.{OnCpu}

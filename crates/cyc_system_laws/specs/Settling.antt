@@ -16,8 +16,8 @@ use Rattle.cyc_system.specs.System.{SystemView, is_online}
 use Rattle.cyc_system.specs.Adding.{OnlyWorks}
 use Rattle.cyc_system.specs.Binding.{HasHome}
 use Rattle.cyc_system.specs.Removing.{cpus_with}
-use Rattle.cyc_system.specs.Turn.{Turn}
-use Rattle.cyc_system.specs.Turn.TheVariants.{StaysRefused}
+use Rattle.cyc_system.specs.declared.turning.Turn.{Turn}
+use Rattle.cyc_system.specs.declared.turning.Turn.TheVariants.{StaysRefused}
 use Rattle.cyc_system.specs.Juggling.{TakesTurn, Turns}
 use Rattle.cyc_system.specs.Calls.{SystemCall, Add, AddOmni, Bind, BeginRemove, Juggle, Offline, Online, FireOne}
 

@@ -8,9 +8,9 @@ use Rattle.cyc_places.specs.declared.record.Placement.TheVariants as placements
 use Rattle.cyc_places.specs.declared.record.Record.{Record}
 use Rattle.cyc_places.specs.Places.{IsRecord, with_placement}
 use Rattle.cyc_agreement.proofs.Given.{agrees_same}
-use Rattle.cyc_juggle.proofs.MayGo
+use Rattle.cyc_system.proofs.MayGo
 use Rattle.cyc_agreement.proofs.Recording.{one_record}
-use Rattle.cyc_juggle.proofs.Replaced.{not_elsewhere, agrees_replaced}
+use Rattle.cyc_system.proofs.Replaced.{not_elsewhere, agrees_replaced}
 use Rattle.cyc_agreement.proofs.Shifted as shifted
 use Rattle.cyc_agreement.proofs.Spots.{get_some, same_some}
 use Rattle.cyc_agreement.proofs.Who.{SameWho, same_changed, same_then, same_asked, same_reserve}
@@ -21,8 +21,8 @@ use Rattle.cyc_system.specs.Destination.{destination}
 use Rattle.cyc_system.specs.Juggling.{TakesTurn}
 use Rattle.cyc_system.specs.Shifting.{moving}
 use Rattle.cyc_system.specs.System.{SystemView}
-use Rattle.cyc_system.specs.Turn.{Turn}
-use Rattle.cyc_system.specs.Turn.TheVariants.{StaysBound, StaysPending, StaysRefused, Moves}
+use Rattle.cyc_system.specs.declared.turning.Turn.{Turn}
+use Rattle.cyc_system.specs.declared.turning.Turn.TheVariants.{StaysBound, StaysPending, StaysRefused, Moves}
 use Rattle.cyc_system_model.proofs.Half.{Half}
 use Rattle.cyc_system_model.proofs.Records.{ids_up}
 

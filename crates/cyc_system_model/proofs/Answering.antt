@@ -23,7 +23,7 @@ use Rattle.cyc_model.specs.Remove.{ended_expired, ended_lost}
 use Rattle.cyc_model.specs.Softint.{is_open}
 use Rattle.cyc_model.specs.Report.{counts_of}
 use Rattle.cyc_model.proofs.Removing.{none_with}
-use Rattle.cyc_cpu_model.specs.Shown.{shown_cpu}
+use Rattle.cyc_system_model.specs.ShownCpu.{shown_cpu}
 use Rattle.cyc_system_model.specs.Shown.{shown_list, shown_cpus, shown_record, shown_counts, ShowsSystem}
 use Rattle.cyc_system_model.specs.Removal.{told_by_receipt}
 use Rattle.cyc_system_model.proofs.Cpus.{cpu_at, long_shown}

@@ -8,7 +8,7 @@ use Rattle.cyc_types.specs.Limits.{last_id as greatest_id}
 use Rattle.cyc_types.specs.declared.level.Level.{Level}
 use Rattle.cyc_types.specs.declared.refusal.Refusal.{Refusal}
 use Rattle.cyc_types.specs.declared.refusal.Refusal.TheVariants.{Memory, NoCyclic, Omnipresent, NoCpu, Offline, IdsSpent}
-use Rattle.cyc_cpu_model.specs.Rows.{Cyclic as Timed}
+use Rattle.cyc_system_model.specs.Rows.{Cyclic as Timed}
 use Rattle.cyc_core.specs.Tables.{Tables}
 use Rattle.cyc_cpu.specs.Cpu.{CpuView}
 use Rattle.cyc_places.specs.declared.record.Placement.{Placement as RecordPlacement}
@@ -29,8 +29,8 @@ use Rattle.cyc_types.specs.Reasons.{when, or_else}
 use Rattle.cyc_model.specs.Refusals.{is_no_cpu, cpu_is_offline, no_id_left}
 use Rattle.cyc_model.specs.Bind.{cyclic_is_absent, cyclic_is_omni}
 use Rattle.cyc_model.specs.Reprogram.{has_no_component}
-use Rattle.cyc_cpu_model.specs.Shown.{shown_cyclic}
-use Rattle.cyc_cpu_model.specs.Answers.{IsRefused}
+use Rattle.cyc_system_model.specs.ShownCpu.{shown_cyclic}
+use Rattle.cyc_system_model.specs.Answers.{IsRefused}
 use Rattle.cyc_system_model.specs.Shown.{shown_list, shown_placement, shown_record, ShowsSystem}
 use Rattle.cyc_system_model.proofs.Cpus.{long_shown}
 

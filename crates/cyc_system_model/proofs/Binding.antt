@@ -47,8 +47,8 @@ use Rattle.cyc_model.specs.Bind.{
 use Rattle.cyc_model.specs.Bind.{bind_id, bind_id_refusal}
 use Rattle.cyc_model.proofs.Events.{calls_append, events_append}
 use Rattle.cyc_model.proofs.Local.{local_enter, local_take, other_events}
-use Rattle.cyc_cpu_model.specs.Answers.{IsRefused, why_no_room, why_not_taken, IsTakenOf}
-use Rattle.cyc_cpu_model.proofs.Free.{none_admitted, take_none}
+use Rattle.cyc_system_model.specs.Answers.{IsRefused, why_no_room, why_not_taken, IsTakenOf}
+use Rattle.cyc_system_model.proofs.Free.{none_admitted, take_none}
 use Rattle.cyc_text.specs.Lines.{accepted as accepted_line}
 use Rattle.cyc_system_model.specs.Shown.{shown_cpus, ShowsSystem, AreTied, IsSystem}
 use Rattle.cyc_system_model.specs.SystemWords.{GivesIndexes, ComesTo, IsDone, IsRefusedFor}

@@ -9,7 +9,7 @@ use Rattle.cyc_model.specs.Cpu.{Cpu}
 use Rattle.cyc_model.specs.State.{State, Outcome, cpu_of, each}
 use Rattle.cyc_model.proofs.Events.{calls_append}
 use Rattle.cyc_model.proofs.Numbers.{Has, RiseFrom, has_above}
-use Rattle.cyc_cpu_model.proofs.Free.{HasNoAdmit, no_more}
+use Rattle.cyc_system_model.proofs.Free.{HasNoAdmit, no_more}
 use Rattle.cyc_system_model.specs.Shown.{ShowsSystem}
 use Rattle.cyc_system_model.proofs.Half.{Half}
 

@@ -22,13 +22,13 @@ use Rattle.cyc_model.specs.Cpu.{Cpu}
 use Rattle.cyc_model.specs.State.{absent}
 use Rattle.cyc_model.specs.Serving.{level_at}
 use Rattle.cyc_model.specs.Free.{AllCanBeAdmitted}
-use Rattle.cyc_cpu_model.specs.Shown.{shown_cpu}
-use Rattle.cyc_cpu_model.specs.Here.{here_of, IsInTime, IsStopped}
-use Rattle.cyc_cpu_model.specs.Answers.{IsAnswered}
-use Rattle.cyc_cpu_model.specs.Tied.{IsTied}
-use Rattle.cyc_cpu_model.proofs.Law.{is_here}
-use Rattle.cyc_cpu_model.proofs.Answering.{answers}
-use Rattle.cyc_cpu_model.proofs.Tied.{tied}
+use Rattle.cyc_system_model.specs.ShownCpu.{shown_cpu}
+use Rattle.cyc_system_model.specs.Here.{here_of, IsInTime, IsStopped}
+use Rattle.cyc_system_model.specs.Answers.{IsAnswered}
+use Rattle.cyc_system_model.specs.Tied.{IsTied}
+use Rattle.cyc_system_model.proofs.Law.{is_here}
+use Rattle.cyc_system_model.proofs.CpuAnswering.{answers}
+use Rattle.cyc_system_model.proofs.Tied.{tied}
 use Rattle.cyc_system_model.specs.Shown.{shown_list, shown_cpus, AreTied}
 
 -- ---- the shown CPUs by number

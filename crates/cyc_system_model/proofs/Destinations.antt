@@ -13,7 +13,7 @@ use Rattle.cyc_system.specs.Destination.{is_not as is_not_in}
 use Rattle.cyc_model.specs.Cpu.{Cpu}
 use Rattle.cyc_model.specs.State.{State, absent, cpus_from, cpus_online}
 use Rattle.cyc_model.specs.Places.{destination_of, smallest_cpu, smaller_cpu, cyclics_on, is_other_cpu}
-use Rattle.cyc_cpu_model.specs.Shown.{shown_cyclic}
+use Rattle.cyc_system_model.specs.ShownCpu.{shown_cyclic}
 use Rattle.cyc_system_model.specs.Shown.{shown_list, shown_cpus}
 
 -- ---- the online CPUs

@@ -25,7 +25,7 @@ use Rattle.cyc_model.specs.Moving.{mark_here}
 use Rattle.cyc_model.specs.Questions.{outstanding_here}
 use Rattle.cyc_model.specs.State.{State, Ended}
 use Rattle.cyc_model.specs.Places.{keeping_counts as with_ended_in}
-use Rattle.cyc_cpu_model.specs.Tied.{HasOwn}
+use Rattle.cyc_system_model.specs.Tied.{HasOwn}
 use Rattle.cyc_system_model.specs.Shown.{shown_cpus, shown_record, shown_counts, ShowsSystem}
 use Rattle.cyc_system_model.proofs.Cpus.{cpu_at, cpu_is}
 use Rattle.cyc_system_model.proofs.Half.{Half, IsFull, half_parts, half_put, set_either}

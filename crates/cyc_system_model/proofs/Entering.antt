@@ -20,7 +20,7 @@ use Rattle.cyc_model.specs.Add.{cyclic_that_expired}
 use Rattle.cyc_model.specs.Free.{AllCanBeAdmitted}
 use Rattle.cyc_model.proofs.Events.{calls_append, events_append}
 use Rattle.cyc_model.proofs.Local.{AllOn, local_widen, other_events}
-use Rattle.cyc_cpu_model.proofs.Free.{none_admitted, widen_none, can_append}
+use Rattle.cyc_system_model.proofs.Free.{none_admitted, widen_none, can_append}
 use Rattle.cyc_system_model.specs.Shown.{shown_cpus, shown_record, ShowsSystem}
 use Rattle.cyc_system_model.proofs.Lists.{set_twice, set_get, get_set}
 use Rattle.cyc_system_model.proofs.Cpus.{cpu_at, DoneAt}

@@ -15,7 +15,7 @@ use Rattle.cyc_model.proofs.Events.{calls_append, events_append}
 use Rattle.cyc_model.proofs.Local.{Local, other_events}
 use Rattle.cyc_model.proofs.Telling.{Alike, told_alike, told_from, told_to, told_append, told_on}
 use Rattle.cyc_system_model.proofs.Entering.{free_on}
-use Rattle.cyc_cpu_model.proofs.Free.{can_append}
+use Rattle.cyc_system_model.proofs.Free.{can_append}
 
 pub record Goes (s : State) (o : Outcome) : Type 0 where
   pub tells : ActsTell o.acts s o.state

@@ -7,7 +7,7 @@ use Rattle.std.specs.Option.{option_map_or}
 use Rattle.cyc_types.specs.declared.refusal.JuggleReport.{JuggleReport}
 use Rattle.cyc_types.specs.declared.refusal.Refusal.{Refusal}
 use Rattle.cyc_types.specs.declared.refusal.Refusal.TheVariants.{NoCpu, Offline, LastCpu}
-use Rattle.cyc_cpu_model.specs.Rows.{Cyclic as Timed}
+use Rattle.cyc_system_model.specs.Rows.{Cyclic as Timed}
 use Rattle.cyc_core.specs.Tables.{Tables}
 use Rattle.cyc_script.specs.declared.step.Step.TheVariants as steps
 use Rattle.cyc_text.specs.Lines.{moved}
@@ -15,8 +15,8 @@ use Rattle.cyc_cpu.specs.Cpu.{CpuView}
 use Rattle.cyc_cpu.specs.Soft.{raise_tables}
 use Rattle.cyc_system.specs.Agreement.{Agrees}
 use Rattle.cyc_system.specs.System.{SystemView, ids_of, ids_on}
-use Rattle.cyc_system.specs.Turn.{Turn as TurnThere}
-use Rattle.cyc_system.specs.Turn.TheVariants as there
+use Rattle.cyc_system.specs.declared.turning.Turn.{Turn as TurnThere}
+use Rattle.cyc_system.specs.declared.turning.Turn.TheVariants as there
 use Rattle.cyc_system.specs.Juggling.{Turns, MovesAway, counted as counted_there, single_ids as single_there}
 use Rattle.cyc_system.specs.Juggling.{last_cpu as last_there, juggle_refusals}
 use Rattle.cyc_system.specs.Calls.{Changes, Juggle}
@@ -35,7 +35,7 @@ use Rattle.cyc_model.specs.Juggle.{
   juggled,
   juggle_refusal,
 }
-use Rattle.cyc_cpu_model.specs.Shown.{shown_cyclic}
+use Rattle.cyc_system_model.specs.ShownCpu.{shown_cyclic}
 use Rattle.cyc_system_model.specs.Shown.{shown_list, ShowsSystem, IsSystem}
 use Rattle.cyc_system_model.specs.SystemWords.{GivesIndexes, IsDoneWith, IsRefusedFor}
 use Rattle.cyc_system_model.specs.Room.{HaveRoomFor}

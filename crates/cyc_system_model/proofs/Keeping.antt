@@ -42,8 +42,8 @@ use Rattle.cyc_system.specs.Removing.{counts_of_receipt, BeginsOn, Begun, Answer
 use Rattle.cyc_system.specs.SystemRemoval.TheVariants as system
 use Rattle.cyc_system.specs.Polling.{PollsOn, Polled}
 use Rattle.cyc_system.specs.Counting.{asked}
-use Rattle.cyc_system.specs.Turn.{Turn}
-use Rattle.cyc_system.specs.Turn.TheVariants as turn
+use Rattle.cyc_system.specs.declared.turning.Turn.{Turn}
+use Rattle.cyc_system.specs.declared.turning.Turn.TheVariants as turn
 use Rattle.cyc_system.specs.Juggling.{TakesTurn, Turns, single_ids}
 use Rattle.cyc_system.specs.GoingOffline.{quiet, Retires, offline_at, EndsOffline}
 use Rattle.cyc_system.specs.Omni.{entering_each}
@@ -51,7 +51,7 @@ use Rattle.cyc_system.specs.Online.{GoesOnline, staying, is_staying, returns, af
 use Rattle.cyc_system.specs.Calls.{SystemCall, Add, AddOmni, Bind, BeginRemove, PollRemove, AskTotals, Reprogram, ReprogramOn}
 use Rattle.cyc_system.specs.Calls.{Juggle, Offline, Online, FireOne, SoftInterrupt, Suspend, Resume, Changes, Does}
 use Rattle.cyc_agreement.specs.Suspending.{on_each}
-use Rattle.cyc_cpu_model.proofs.Stopping.{tied_always}
+use Rattle.cyc_system_model.proofs.Stopping.{tied_always}
 use Rattle.cyc_system_model.specs.Shown.{IsSystem}
 use Rattle.cyc_system_model.specs.Room.{HaveRoomFor}
 use Rattle.cyc_system_model.proofs.Rooms.{room_same, room_set, room_did}

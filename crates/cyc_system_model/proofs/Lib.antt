@@ -1,3 +1,18 @@
+mod CpuLists
+pub mod Levels
+mod CpuComing
+mod Leaving
+mod Raising
+mod Firing
+mod Interrupting
+pub mod Free
+mod Counting
+pub mod CpuAnswering
+mod Tying
+mod Rising
+pub mod Law
+pub mod Tied
+pub mod Stopping
 mod Lists
 pub mod Cpus
 mod Asking

@@ -24,7 +24,7 @@ use Rattle.cyc_model.specs.Report.{counts_of}
 use Rattle.cyc_model.specs.Softint.{interrupt, is_open, text_of_id, polled, poll_id, leaving_ids}
 use Rattle.cyc_model.proofs.Events.{calls_append}
 use Rattle.cyc_model.proofs.Numbers.{Has, RiseFrom, numbers_rise, numbers_pass}
-use Rattle.cyc_cpu_model.proofs.Free.{HasNoAdmit, none_admitted, no_more, clear_none, interrupt_none}
+use Rattle.cyc_system_model.proofs.Free.{HasNoAdmit, none_admitted, no_more, clear_none, interrupt_none}
 use Rattle.cyc_system_model.specs.Shown.{shown_record, ShowsSystem, IsSystem}
 use Rattle.cyc_system_model.specs.Running.{IsServed}
 use Rattle.cyc_system_model.specs.Removal.{told_by_receipt, polled_line, HavePolled, leaving_in, IsInterrupted}

@@ -11,7 +11,7 @@ use Rattle.cyc_cpu.specs.Cpu.{CpuView}
 use Rattle.cyc_places.specs.declared.record.Record.{Record}
 use Rattle.cyc_places.specs.Places.{IsRecord, HasRisingIds}
 use Rattle.cyc_agreement.proofs.Lists.{among, any_map, any_at, true_eq, false_ne, false_true}
-use Rattle.cyc_juggle.proofs.Places.{length_is}
+use Rattle.cyc_system.proofs.Places.{length_is}
 use Rattle.cyc_agreement.proofs.Shifted.{Rise, ids_rise}
 use Rattle.cyc_agreement.proofs.Who.{ids_there}
 use Rattle.cyc_system.specs.Agreement.{Agrees}

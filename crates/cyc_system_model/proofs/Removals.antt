@@ -29,7 +29,7 @@ use Rattle.cyc_model.specs.Script.{text_in}
 use Rattle.cyc_model.proofs.Placing.{placement_forgotten}
 use Rattle.cyc_model.proofs.Numbers.{Has, RiseFrom, numbers_rise, numbers_pass}
 use Rattle.cyc_model.proofs.Rising.{found, any_found}
-use Rattle.cyc_cpu_model.proofs.Free.{none_admitted}
+use Rattle.cyc_system_model.proofs.Free.{none_admitted}
 use Rattle.cyc_system_model.specs.Shown.{shown_list, ShowsSystem, IsSystem}
 use Rattle.cyc_system_model.specs.SystemWords.{ComesTo, IsRefusedFor}
 use Rattle.cyc_system_model.specs.Removal.{told_by_receipt, IsRemovedAtOnce, IsKept}

@@ -19,7 +19,7 @@ use Rattle.cyc_types.specs.Reasons.{first_refusal, or_else, when}
 use Rattle.cyc_model.specs.Refusals.{is_no_cpu, cpu_is_offline, magnitude}
 use Rattle.cyc_model.specs.Bind.{cyclic_is_absent, cyclic_is_omni}
 use Rattle.cyc_model.specs.Reprogram.{has_no_component, cpu_refusals, cpu_meant}
-use Rattle.cyc_cpu_model.specs.Answers.{IsRefused}
+use Rattle.cyc_system_model.specs.Answers.{IsRefused}
 use Rattle.cyc_system_model.specs.Shown.{shown_cpus, ShowsSystem, IsSystem}
 use Rattle.cyc_system_model.specs.SystemWords.{IsMoment, IsDone, IsRefusedFor}
 use Rattle.cyc_system_model.proofs.Cpus.{cpu_at, done_at}

@@ -46,10 +46,10 @@ use Rattle.cyc_model.specs.Online.{return_here, return_of}
 use Rattle.cyc_model.specs.Online.{return_all, go_online}
 use Rattle.cyc_model.proofs.Agreement.{agrees_with}
 use Rattle.cyc_model.proofs.Local.{Local, same_low_lock, local_nothing, local_widen, local_place}
-use Rattle.cyc_cpu_model.specs.Answers.{IsRefused, why_no_room}
+use Rattle.cyc_system_model.specs.Answers.{IsRefused, why_no_room}
 use Rattle.cyc_cpu.specs.Cpu.{CpuView}
-use Rattle.cyc_cpu_model.specs.Shown.{shown_cpu}
-use Rattle.cyc_cpu_model.proofs.Free.{none_admitted, widen_none}
+use Rattle.cyc_system_model.specs.ShownCpu.{shown_cpu}
+use Rattle.cyc_system_model.proofs.Free.{none_admitted, widen_none}
 use Rattle.cyc_system_model.proofs.Half.{half, half_works}
 use Rattle.cyc_system_model.specs.Shown.{shown_list, shown_cpus, shown_placement, shown_record, shown_counts, ShowsSystem}
 use Rattle.cyc_system_model.specs.Shown.{AreTied}

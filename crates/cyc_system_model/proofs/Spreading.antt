@@ -48,7 +48,7 @@ use Rattle.cyc_model.specs.Refusals.{no_id_left}
 use Rattle.cyc_model.specs.Add.{enter}
 use Rattle.cyc_model.specs.Omni.{component, everywhere, enter_each, omni_refusal, no_room_on_each}
 use Rattle.cyc_model.proofs.Local.{local_enter}
-use Rattle.cyc_cpu_model.specs.Answers.{IsRefused, why_no_room}
+use Rattle.cyc_system_model.specs.Answers.{IsRefused, why_no_room}
 use Rattle.cyc_system_model.specs.Shown.{shown_cpus, shown_record, ShowsSystem, AreTied, IsSystem}
 use Rattle.cyc_system_model.specs.SystemWords.{GivesIndexes, IsSeries, ComesTo, IsDone, IsRefusedFor}
 use Rattle.cyc_system_model.proofs.Cpus.{cpu_at, done_at}

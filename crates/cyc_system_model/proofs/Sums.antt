@@ -6,12 +6,12 @@ use mathlib.Core.Logic.{dite}
 use native.Mathlib.Decide.{ℕ_discrete}
 use Rattle.cyc_types.specs.declared.firing.Sent.{Sent}
 use Rattle.cyc_types.specs.Counting.{no_counts}
-use Rattle.cyc_cpu_model.specs.Rows.{Cyclic as Timed}
+use Rattle.cyc_system_model.specs.Rows.{Cyclic as Timed}
 use Rattle.cyc_cpu.specs.Cpu.{HasNoCyclic, HasRisingCyclics}
 use Rattle.cyc_model.specs.Cpu.{CyclicState, Cpu, is_of}
 use Rattle.cyc_model.specs.State.{absent, kept_if, cpus_from}
 use Rattle.cyc_model.proofs.Rising.{found, first_is, first_not, tally}
-use Rattle.cyc_cpu_model.specs.Shown.{shown_cyclic}
+use Rattle.cyc_system_model.specs.ShownCpu.{shown_cyclic}
 
 -- ---- the cyclics of one CPU
 

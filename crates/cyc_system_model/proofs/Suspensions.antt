@@ -34,8 +34,8 @@ use Rattle.cyc_system.specs.Removing.{BeginsOn, Begun}
 use Rattle.cyc_system.specs.SystemRemoval.TheVariants as system
 use Rattle.cyc_system.specs.Polling.{PollsOn, Polled}
 use Rattle.cyc_system.specs.Counting.{Counted, asked}
-use Rattle.cyc_system.specs.Turn.{Turn}
-use Rattle.cyc_system.specs.Turn.TheVariants as turn
+use Rattle.cyc_system.specs.declared.turning.Turn.{Turn}
+use Rattle.cyc_system.specs.declared.turning.Turn.TheVariants as turn
 use Rattle.cyc_system.specs.Juggling.{TakesTurn, Turns, single_ids}
 use Rattle.cyc_system.specs.GoingOffline.{quiet, Retires, EndsOffline}
 use Rattle.cyc_system.specs.Omni.{entering_each}

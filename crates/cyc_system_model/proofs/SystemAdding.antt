@@ -35,7 +35,7 @@ use Rattle.cyc_types.specs.Counting.{no_counts}
 use Rattle.cyc_model.specs.Refusals.{no_id_left}
 use Rattle.cyc_model.specs.Add.{cyclic_that_expired, added, add_refusal}
 use Rattle.cyc_model.proofs.Local.{local_enter}
-use Rattle.cyc_cpu_model.specs.Answers.{IsRefused, why_no_room}
+use Rattle.cyc_system_model.specs.Answers.{IsRefused, why_no_room}
 use Rattle.cyc_system_model.specs.Shown.{shown_cpus, shown_record, shown_counts, ShowsSystem, IsSystem}
 use Rattle.cyc_system_model.specs.SystemWords.{IsSeries, IsDone, IsRefusedFor}
 use Rattle.cyc_system_model.proofs.Lists.{same_all}

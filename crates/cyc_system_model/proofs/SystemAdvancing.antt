@@ -26,7 +26,7 @@ use Rattle.cyc_model.specs.Advance.{due_on}
 use Rattle.cyc_model.proofs.Events.{calls_append}
 use Rattle.cyc_model.proofs.Numbers.{Has}
 use Rattle.cyc_model.proofs.Refusing.{none_first, is_cpu, is_online as online_there}
-use Rattle.cyc_cpu_model.proofs.Free.{HasNoAdmit, none_admitted, no_more, fire_none}
+use Rattle.cyc_system_model.proofs.Free.{HasNoAdmit, none_admitted, no_more, fire_none}
 use Rattle.cyc_system_model.specs.Shown.{ShowsSystem, IsSystem}
 use Rattle.cyc_system_model.specs.SystemWords.{ComesTo}
 use Rattle.cyc_system_model.specs.SystemAdvancing.{at_clock, online_below, fire_each, fired_and_lost, HaveFired, HasFired}

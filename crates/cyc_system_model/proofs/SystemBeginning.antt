@@ -14,8 +14,8 @@ use Rattle.cyc_model.specs.Cpu.{begun_cpu, handler_level_of}
 use Rattle.cyc_model.specs.Serving.{level_at}
 use Rattle.cyc_types.specs.Levels.{as_level}
 use Rattle.cyc_model.specs.Script.{start}
-use Rattle.cyc_cpu_model.specs.Shown.{shown_cpu}
-use Rattle.cyc_cpu_model.specs.Tied.{IsTied}
+use Rattle.cyc_system_model.specs.ShownCpu.{shown_cpu}
+use Rattle.cyc_system_model.specs.Tied.{IsTied}
 use Rattle.cyc_system_model.specs.Shown.{shown_list, IsSystem, ShowsSystem}
 use Rattle.cyc_system_model.specs.Kept.{LevelsAreNew, new_system}
 

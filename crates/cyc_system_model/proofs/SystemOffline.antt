@@ -33,8 +33,8 @@ use Rattle.cyc_model.specs.Offline.{ids_of_cpu, retire, go_offline, retire_all, 
 use Rattle.cyc_model.proofs.Agreement.{agrees_with}
 use Rattle.cyc_model.proofs.Local.{Local, same_low_lock, local_nothing, local_take}
 use Rattle.cyc_model.proofs.Refusing.{is_cpu}
-use Rattle.cyc_cpu_model.proofs.Free.{none_admitted, take_none}
-use Rattle.cyc_cpu_model.specs.Shown.{shown_cpu}
+use Rattle.cyc_system_model.proofs.Free.{none_admitted, take_none}
+use Rattle.cyc_system_model.specs.ShownCpu.{shown_cpu}
 use Rattle.cyc_system_model.specs.Shown.{shown_list, shown_cpus, ShowsSystem, AreTied, IsSystem}
 use Rattle.cyc_system_model.specs.SystemWords.{GivesIndexes, IsDoneWith, IsRefusedFor, IsAtOnce, ComesTo}
 use Rattle.cyc_system_model.specs.Room.{HaveRoomFor}

@@ -28,7 +28,7 @@ use Rattle.cyc_model.proofs.Events.{calls_append}
 use Rattle.cyc_model.proofs.Rising.{found_map, found_gone, found_id}
 use Rattle.cyc_model.proofs.Stays.{cleared_cpu}
 use Rattle.cyc_model.proofs.Leaves.{marked_same}
-use Rattle.cyc_cpu_model.proofs.Free.{no_more, mark_none, clear_none}
+use Rattle.cyc_system_model.proofs.Free.{no_more, mark_none, clear_none}
 use Rattle.cyc_system_model.specs.Shown.{shown_cpus, ShowsSystem}
 use Rattle.cyc_system_model.proofs.Lists.{set_twice, get_set, length_set}
 use Rattle.cyc_system_model.proofs.Cpus.{cpu_at, done_at, DoneAt, long_shown}

@@ -29,7 +29,7 @@ use Rattle.cyc_model.specs.State.{State, absent, cpu_of, on_number}
 use Rattle.cyc_types.specs.Reasons.{first_refusal, or_else}
 use Rattle.cyc_model.specs.Refusals.{is_no_cpu, cpu_is_offline}
 use Rattle.cyc_model.specs.Softint.{softint_refusal}
-use Rattle.cyc_cpu_model.proofs.Free.{none_admitted, fire_none, interrupt_none}
+use Rattle.cyc_system_model.proofs.Free.{none_admitted, fire_none, interrupt_none}
 use Rattle.cyc_system_model.specs.Shown.{shown_cpus, ShowsSystem, IsSystem}
 use Rattle.cyc_system_model.specs.Running.{IsFired, IsServed}
 use Rattle.cyc_system_model.proofs.Cpus.{cpu_at, ran_at}

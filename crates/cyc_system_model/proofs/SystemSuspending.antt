@@ -25,7 +25,7 @@ use Rattle.cyc_agreement.proofs.Marked.{beside_each, marked_all}
 use Rattle.cyc_model.specs.State.{State}
 use Rattle.cyc_model.specs.Suspend.{suspend_refusal}
 use Rattle.cyc_model.specs.Resume.{resume_refusal}
-use Rattle.cyc_cpu_model.specs.Shown.{shown_cpu}
+use Rattle.cyc_system_model.specs.ShownCpu.{shown_cpu}
 use Rattle.cyc_system_model.specs.Shown.{shown_list, shown_cpus, ShowsSystem, IsSystem}
 use Rattle.cyc_system_model.specs.SystemWords.{IsDone, IsRefusedFor}
 use Rattle.cyc_system_model.proofs.Asking.{or_none, some_refused, same_error, no_memory_when, no_memory_else}

@@ -12,16 +12,16 @@ use Rattle.cyc_cpu.specs.Soft.{raise_tables}
 use Rattle.cyc_cpu.specs.Calls.{AskPending, Reserve}
 use Rattle.cyc_places.specs.declared.record.Placement.TheVariants as placements
 use Rattle.cyc_agreement.proofs.Given.{agrees_same}
-use Rattle.cyc_juggle.proofs.MayGo
-use Rattle.cyc_juggle.proofs.Replaced.{not_elsewhere}
+use Rattle.cyc_system.proofs.MayGo
+use Rattle.cyc_system.proofs.Replaced.{not_elsewhere}
 use Rattle.cyc_agreement.proofs.Who.{same_changed, same_asked, has_same}
 use Rattle.cyc_system.specs.Agreement.{Agrees}
 use Rattle.cyc_system.specs.Cpus.{CpusView, IsCpu, DoesAt, on as on_cpu}
 use Rattle.cyc_system.specs.Destination.{destination as destination_in}
 use Rattle.cyc_system.specs.System.{SystemView}
 use Rattle.cyc_system.specs.Binding.{HasPlacement, Records}
-use Rattle.cyc_system.specs.Turn.{Turn as TurnThere}
-use Rattle.cyc_system.specs.Turn.TheVariants as there
+use Rattle.cyc_system.specs.declared.turning.Turn.{Turn as TurnThere}
+use Rattle.cyc_system.specs.declared.turning.Turn.TheVariants as there
 use Rattle.cyc_system.specs.Juggling.{TakesTurn}
 use Rattle.cyc_model.specs.Acts.{calls_of, events_at}
 use Rattle.cyc_model.specs.Cpu.{CyclicState, cyclic_with_id}
@@ -35,8 +35,8 @@ use Rattle.cyc_model.specs.Add.{cyclic_that_expired, enter}
 use Rattle.cyc_model.specs.Bind.{bring, move}
 use Rattle.cyc_model.specs.Juggle.{Turn, IsBound, IsPending, IsRefused as IsTurnedAway, Moves, turn_to, turn, take_turn}
 use Rattle.cyc_model.proofs.Local.{local_enter, local_take}
-use Rattle.cyc_cpu_model.specs.Answers.{IsRefused, why_no_room}
-use Rattle.cyc_cpu_model.proofs.Free.{none_admitted, take_none}
+use Rattle.cyc_system_model.specs.Answers.{IsRefused, why_no_room}
+use Rattle.cyc_system_model.proofs.Free.{none_admitted, take_none}
 use Rattle.cyc_system_model.specs.Shown.{shown_cpus, ShowsSystem}
 use Rattle.cyc_system_model.specs.SystemWords.{GivesIndexes}
 use Rattle.cyc_system_model.specs.Room.{HaveRoomFor}

@@ -1,3 +1,7 @@
+pub mod ShownCpu
+pub mod Here
+pub mod Answers
+pub mod Tied
 pub mod Shown
 pub mod SystemWords
 pub mod Running
@@ -5,3 +9,4 @@ pub mod Kept
 pub mod SystemAdvancing
 pub mod Removal
 pub mod Room
+pub use Rattle.cyc_timers.specs.Rows

@@ -15,8 +15,8 @@ use Rattle.cyc_system.specs.System.{SystemView}
 use Rattle.cyc_system.specs.Agreement.{Agrees}
 use Rattle.cyc_model.specs.Cpu.{Cpu}
 use Rattle.cyc_model.specs.State.{State, Placement, On, OnAll, Placed, Ended}
-use Rattle.cyc_cpu_model.specs.Shown.{shown_cpu}
-use Rattle.cyc_cpu_model.specs.Tied.{IsTied}
+use Rattle.cyc_system_model.specs.ShownCpu.{shown_cpu}
+use Rattle.cyc_system_model.specs.Tied.{IsTied}
 
 -- the CPUs by number, each with whether it is online
 abbrev pub shown_list : List Bool → List (CpuView Tables) → List Cpu

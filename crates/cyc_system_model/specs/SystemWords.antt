@@ -15,7 +15,7 @@ use Rattle.cyc_types.specs.Reasons.{first_refusal}
 use Rattle.cyc_model.specs.Refusals.{bad_when, magnitude}
 use Rattle.cyc_model.specs.Free.{AllCanBeAdmitted}
 use Rattle.cyc_model.specs.Script.{refusal_of, does}
-use Rattle.cyc_cpu_model.specs.Answers.{IsRefused}
+use Rattle.cyc_system_model.specs.Answers.{IsRefused}
 use Rattle.cyc_system_model.specs.Shown.{ShowsSystem}
 
 -- the next cyclics that are put on a CPU get these indexes

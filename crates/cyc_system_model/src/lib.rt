@@ -1,6 +1,8 @@
-//! What the calls of a system over plain levels are in the definition of a script (`cyc_model`). The functions here do
-//! nothing: each one's contract is a law.
+//! What the calls of a CPU and of a system over plain levels are in the definition of a script (`cyc_model`). The functions here
+//! do nothing: each one's contract is a law.
 #![tactic(auto)]
+
+mod cpu_laws;
 
 ghost use Rattle.std.specs.Prelude.{◌≡◌, ℕ, ◌+◌, List, [], ◌∷◌, ◌++◌, length, Option, Some, None, true, false, ◌<◌, Result, Ok};
 ghost use Rattle.std.specs.Prelude.{Err};
@@ -51,6 +53,7 @@ ghost use Rattle.cyc_system_model.specs.Running.{IsFired, IsServed};
 ghost use Rattle.cyc_system_model.specs.SystemAdvancing.{at_clock, fired_and_lost, HasFired, IsAdvanced};
 ghost use Rattle.cyc_system_model.specs.SystemWords.{IsSeries, IsMoment, IsDone, IsDoneWith, IsRefusedFor, IsAtOnce};
 
+pub use cpu_laws::{answers_law, here_law, tied_law};
 use cyc_types::Calls;
 
 /// The machine before the first step of a script shows a new system over as many CPUs.

@@ -18,7 +18,8 @@ use Rattle.cyc_timers.specs.Rows.{Cyclic, timers}
 use Rattle.cyc_cpu.specs.Cpu.{CpuView, Running, running, HasNoCyclic}
 use Rattle.cyc_cpu.specs.Laws.{IsLawful}
 use Rattle.cyc_cpu.specs.Calls.{CpuDoes as CpuDoes, Fire, no_interrupts}
-use Rattle.cyc_system_laws.specs.Accounts.{account_of, made_by, Proceeds, expired_of, lost_of}
+use Rattle.cyc_system_laws.specs.Accounts.{account_of, made_by, Proceeds}
+use Rattle.cyc_cpu.specs.Carried.{expired_of, lost_of}
 use Rattle.cyc_system_laws.proofs.Accounting.{proceeds_one}
 use Rattle.cyc_system_laws.proofs.Fires.{no_share, no_cyclic, fired_away}
 use Rattle.cyc_system_laws.proofs.Ways.{passes_few}

@@ -29,7 +29,7 @@ use Rattle.cyc_system_laws.proofs.Who.{kept_at}
 use Rattle.cyc_system_laws.proofs.Folds.{find_set, find_remove, folds_keep}
 use Rattle.cyc_system_laws.proofs.Others.{at_position}
 use Rattle.cyc_system_laws.specs.System.{SystemView, has, ids_on, removal_on, is_omnipresent}
-use Rattle.cyc_juggle.specs.Juggling.{single_ids}
+use Rattle.cyc_system.specs.Juggling.{single_ids}
 use Rattle.cyc_system_laws.specs.Laws.{cyclic_in, cyclic_on}
 use Rattle.cyc_system_laws.specs.Removing.{Begun, BeginsOn, BeginsRemoval}
 use Rattle.cyc_system_laws.specs.Polling.{Polled, PollsOn, PollsRemoval}

@@ -24,7 +24,7 @@ use Rattle.cyc_cpu.specs.Cpu.{CpuView, with_moment}
 use Rattle.cyc_cpu.specs.Gone.{PutsNot}
 use Rattle.cyc_cpu.specs.Calls.{CpuCall, Reserve, Widen, AskPending, TakeNow, Reprogram as CpuReprogram}
 use Rattle.cyc_cpu.specs.Calls.{BeginRemove as CpuBeginRemove, PollRemove as CpuPollRemove}
-use Rattle.cyc_system_laws.proofs.Shifts.{Shifts, changes_shift}
+use Rattle.cyc_cpu.proofs.Shifts.{Shifts, changes_shift}
 use Rattle.cyc_places.specs.declared.record.Placement.{Placement}
 use Rattle.cyc_places.specs.declared.record.Placement.TheVariants as stands
 use Rattle.cyc_places.specs.declared.record.Record.{Record}
@@ -37,10 +37,10 @@ use Rattle.cyc_system_laws.specs.SystemRemoval.TheVariants as over
 use Rattle.cyc_system_workers.specs.Adding.{OnlyWorks, entering}
 use Rattle.cyc_system_laws.specs.Removing.{Begun, BeginsOn, BeginsRemoval}
 use Rattle.cyc_system_laws.specs.Polling.{Polled, PollsOn, PollsRemoval}
-use Rattle.cyc_juggle.specs.declared.turning.Turn.{Turn}
-use Rattle.cyc_juggle.specs.declared.turning.Turn.TheVariants.{StaysBound, StaysPending, StaysRefused, Moves}
-use Rattle.cyc_juggle.specs.Juggling.{TakesTurn, Turns, single_ids}
-use Rattle.cyc_juggle.specs.GoingOffline.{quiet, Retires, EndsOffline}
+use Rattle.cyc_system.specs.declared.turning.Turn.{Turn}
+use Rattle.cyc_system.specs.declared.turning.Turn.TheVariants.{StaysBound, StaysPending, StaysRefused, Moves}
+use Rattle.cyc_system.specs.Juggling.{TakesTurn, Turns, single_ids}
+use Rattle.cyc_system.specs.GoingOffline.{quiet, Retires, EndsOffline}
 use Rattle.cyc_agreement.specs.Omni.{entering_each}
 use Rattle.cyc_agreement.specs.Online.{GoesOnline, staying, is_staying, returns, return_at}
 use Rattle.cyc_system_laws.specs.SystemCalls.{SystemCall, Changes, Add, AddOmni, Bind, BeginRemove, PollRemove}

@@ -29,7 +29,7 @@ use Rattle.cyc_system_laws.proofs.Folds.{Known, folds_known}
 use Rattle.cyc_system_laws.proofs.Others.{polls_elsewhere}
 use Rattle.cyc_system_laws.specs.System.{SystemView, has, ids_of, removal_on, is_leaving_here, record_of}
 use Rattle.cyc_system_workers.specs.Refusals.{no_cyclic}
-use Rattle.cyc_juggle.specs.Juggling.{single_ids}
+use Rattle.cyc_system.specs.Juggling.{single_ids}
 use Rattle.cyc_agreement.specs.Online.{is_staying}
 use Rattle.cyc_system_laws.specs.Laws.{IsUntouched}
 use Rattle.cyc_system_laws.specs.Removing.{Begun, BeginsOn, BeginsRemoval, cpus_with}

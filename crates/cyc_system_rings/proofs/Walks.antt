@@ -27,10 +27,10 @@ use Rattle.cyc_system_laws.specs.System.{SystemView, ids_on, removal_on}
 use Rattle.cyc_system_workers.specs.Adding.{add_request, Adds, entering}
 use Rattle.cyc_system_workers.specs.Binding.{Binds}
 use Rattle.cyc_system_workers.specs.Refusals.{no_cyclic, omnipresent, no_cpu, offline_cpu, no_component}
-use Rattle.cyc_juggle.specs.declared.turning.Turn.{Turn}
-use Rattle.cyc_juggle.specs.declared.turning.Turn.TheVariants.{StaysBound, StaysPending, StaysRefused, Moves}
-use Rattle.cyc_juggle.specs.Juggling.{TakesTurn, Turns, single_ids, last_cpu}
-use Rattle.cyc_juggle.specs.GoingOffline.{quiet, Retires}
+use Rattle.cyc_system.specs.declared.turning.Turn.{Turn}
+use Rattle.cyc_system.specs.declared.turning.Turn.TheVariants.{StaysBound, StaysPending, StaysRefused, Moves}
+use Rattle.cyc_system.specs.Juggling.{TakesTurn, Turns, single_ids, last_cpu}
+use Rattle.cyc_system.specs.GoingOffline.{quiet, Retires}
 use Rattle.cyc_agreement.specs.Omni.{AddsOmni, entering_each, component_first}
 use Rattle.cyc_agreement.specs.Online.{staying, returns, return_at, switched_on}
 use Rattle.cyc_system_laws.specs.Counting.{asked}

@@ -24,7 +24,7 @@ pub use Rattle.cyc_system_workers.specs.Adding
 pub use Rattle.cyc_system_laws.specs.Removing
 pub use Rattle.cyc_system_workers.specs.Binding
 pub use Rattle.cyc_system_laws.specs.Counting
-pub use Rattle.cyc_juggle.specs.declared.turning.Turn
-pub use Rattle.cyc_juggle.specs.Juggling
+pub use Rattle.cyc_system.specs.declared.turning.Turn
+pub use Rattle.cyc_system.specs.Juggling
 pub use Rattle.cyc_agreement.specs.Omni
 pub use Rattle.cyc_agreement.specs.Online

@@ -4,7 +4,7 @@ ghost use Rattle.cyc_ring.specs.Ends.{IsRaiseSeatOf, IsDrainSeatOf, raise_trail,
 ghost use Rattle.cyc_cpu.specs.Cpu.{IsFresh};
 
 use crate::help::{id, two};
-use cyc_removal::{SystemRemoval, SystemTotals};
+use cyc_agreement::{SystemRemoval, SystemTotals};
 use cyc_ring::{DrainEnd, DrainSeat, RaiseEnd, RaiseSeat, Ring, softint};
 use cyc_soft::Ran;
 use cyc_system::{CpuOrOmni, System, away_law};

@@ -1,8 +1,8 @@
 //! Calls of a system as values, so that a worked row is a table.
 
 use crate::help::{id, of_one_cpu, of_two_cpus};
+use cyc_agreement::{SystemRemoval, SystemTotals};
 use cyc_core::LevelCore;
-use cyc_removal::{SystemRemoval, SystemTotals};
 use cyc_soft::{Ran, SoftRefused};
 use cyc_system::{CpuOrOmni, SoftFault, System};
 use cyc_timers::{FireRefused, Fired};

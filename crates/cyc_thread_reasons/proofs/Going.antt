@@ -11,7 +11,7 @@ use Rattle.cyc_places.specs.declared.record.Record.{Record}
 use Rattle.cyc_places.specs.Places.{ended_on}
 use Rattle.cyc_agreement.specs.Cpus.{CpusView, on, Works}
 use Rattle.cyc_agreement.specs.System.{ids_on}
-use Rattle.cyc_juggle.specs.GoingOffline.{quiet, Retires}
+use Rattle.cyc_system.specs.GoingOffline.{quiet, Retires}
 use Rattle.cyc_agreement.specs.Online.{staying, returns, return_at}
 use Rattle.cyc_agreement.specs.Omni.{component_first}
 use Rattle.cyc_thread_calls.specs.System.{SystemView}

@@ -18,7 +18,7 @@ use Rattle.cyc_agreement.specs.Cpus.{IsCpu, IsOnline, online_cpus}
 use Rattle.cyc_agreement.specs.Agreement.{Stands}
 use Rattle.cyc_agreement.specs.Binding.{HasPlacement}
 use Rattle.cyc_agreement.specs.Destination.{destination}
-use Rattle.cyc_juggle.specs.Juggling.{juggle_refusals}
+use Rattle.cyc_system.specs.Juggling.{juggle_refusals}
 use Rattle.cyc_agreement.specs.System.{ids_on, has}
 use Rattle.cyc_agreement.proofs.CpuSpots.{cpu_beside}
 use Rattle.cyc_agreement.proofs.Destinations.{destination_fits}

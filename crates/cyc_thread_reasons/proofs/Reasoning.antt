@@ -12,7 +12,7 @@ use Rattle.cyc_types.specs.declared.refusal.Refusal.{Refusal}
 use Rattle.cyc_types.specs.declared.refusal.Refusal.TheVariants as why
 use Rattle.cyc_types.specs.Reasons.{first_refusal, when, busy, bad_now}
 use Rattle.cyc_agreement.specs.Cpus.{numbers_from, online_cpus}
-use Rattle.cyc_juggle.specs.Juggling.{last_cpu, juggle_refusals}
+use Rattle.cyc_system.specs.Juggling.{last_cpu, juggle_refusals}
 use Rattle.cyc_system_laws.proofs.Settles.{first_of}
 use Rattle.cyc_thread_calls.specs.CpuLawsSettled.{IsUntil}
 use Rattle.cyc_thread_calls.proofs.FirstReason.{not_when, not_never}

@@ -23,17 +23,17 @@ use Rattle.cyc_places.specs.Places.{IsRecord, HasRisingIds, new_record, with_pla
 use Rattle.cyc_places.specs.Places.{is_everywhere as is_placed_everywhere}
 use Rattle.cyc_agreement.specs.Cpus.{CpusView}
 use Rattle.cyc_agreement.specs.Binding.{Records, HasPlacement, Binds}
-use Rattle.cyc_removal.specs.RemovalLaws.{IsUntouched}
-use Rattle.cyc_juggle.specs.GoingOffline.{Retires, EndsOffline}
+use Rattle.cyc_agreement.specs.RemovalLaws.{IsUntouched}
+use Rattle.cyc_system.specs.GoingOffline.{Retires, EndsOffline}
 use Rattle.cyc_agreement.specs.Online.{GoesOnline, is_staying, after_return}
 use Rattle.cyc_agreement.specs.System.{ids_on}
 use Rattle.cyc_agreement.proofs.CpuSpots.{get_set_same}
 use Rattle.cyc_agreement.proofs.Lists.{eq_true, false_ne}
 use Rattle.cyc_agreement.proofs.Spots.{same_some, get_last}
 use Rattle.cyc_agreement.proofs.Recording.{found, one_record, record_here}
-use Rattle.cyc_removal.proofs.Forgetting.{rising_set, begins_forgotten, polls_forgotten}
-use Rattle.cyc_removal.proofs.Others.{begins_others, polls_others}
-use Rattle.cyc_removal.proofs.Folds.{folds_keep}
+use Rattle.cyc_agreement.proofs.Forgetting.{rising_set, begins_forgotten, polls_forgotten}
+use Rattle.cyc_agreement.proofs.Others.{begins_others, polls_others}
+use Rattle.cyc_agreement.proofs.Folds.{folds_keep}
 use Rattle.cyc_thread_calls.specs.System.{SystemView, record_of, is_unknown, is_omnipresent}
 use Rattle.cyc_thread_calls.specs.Adding.{add_request, Adds}
 use Rattle.cyc_thread_calls.specs.Omni.{AddsOmni}

@@ -29,7 +29,7 @@ use Rattle.cyc_agreement.specs.Cpus.{CpusView, OfCpu, new_cpu, new_cpus}
 use Rattle.cyc_script.specs.WellFormed.{IsWellFormed}
 use Rattle.cyc_script.specs.declared.step.Step.{Step}
 use Rattle.cyc_workers.specs.Refusals.{HandlerRefuses}
-use Rattle.cyc_system_laws.specs.Accounts.{expired_of}
+use Rattle.cyc_cpu.specs.Carried.{expired_of}
 use Rattle.cyc_system_laws.specs.Counts.{all_expired}
 use Rattle.cyc_system_laws.specs.Gone.{IsOver}
 use Rattle.cyc_system_laws.specs.Keeping.{EndsRemoval}

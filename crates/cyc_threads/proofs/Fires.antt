@@ -26,7 +26,8 @@ use Rattle.cyc_timers.specs.Shares.{share}
 use Rattle.cyc_cpu.specs.Cpu.{CpuView, Running, running}
 use Rattle.cyc_cpu.specs.Laws.{IsLawful}
 use Rattle.cyc_cpu.specs.Calls.{CpuDoes, Fire, no_interrupts}
-use Rattle.cyc_system_laws.specs.Accounts.{expired_of, made_by}
+use Rattle.cyc_system_laws.specs.Accounts.{made_by}
+use Rattle.cyc_cpu.specs.Carried.{expired_of}
 use Rattle.cyc_system_laws.proofs.Accounting.{proceeds_one}
 use Rattle.cyc_system_laws.proofs.Flow.{on_cpu}
 use Rattle.cyc_system_laws.proofs.Found.{stays_found}

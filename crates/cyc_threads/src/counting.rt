@@ -6,7 +6,7 @@ ghost use Rattle.cyc_words.specs.Names.{named_at};
 ghost use Rattle.cyc_threads.specs.Counting.{AsksTotalsOf, TellsOf, Reports, no_line, receipt_line, totals_line};
 
 use crate::progress::{Progress, sound};
-use cyc_removal::SystemTotals;
+use cyc_agreement::SystemTotals;
 use cyc_types::{CyclicId, Raise, Receipt};
 use cyc_words::Named;
 use std::alloc::{AllocError, Global};

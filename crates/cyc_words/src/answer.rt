@@ -1,6 +1,6 @@
 //! What a word answers.
 
-use cyc_removal::SystemRemoval;
+use cyc_agreement::SystemRemoval;
 use cyc_types::{CyclicId, JuggleReport};
 
 /// What a word that was done answers.

@@ -10,7 +10,7 @@ use crate::answer::WordAnswer;
 use crate::changing::id_of;
 use crate::named::{Named, Names};
 use crate::word::sound;
-use cyc_removal::SystemRemoval;
+use cyc_agreement::SystemRemoval;
 use cyc_script::Name;
 use cyc_system::System;
 use cyc_types::{CyclicId, Raise, Receipt, Refusal};

@@ -18,7 +18,7 @@ use Rattle.cyc_agreement.proofs.Lists.{false_true}
 use Rattle.cyc_agreement.proofs.Presence.{has_low, cyclic_here, online_read, present_clear, single_clear, cpu_clear, online_clear}
 use Rattle.cyc_agreement.proofs.Presence.{home_is}
 use Rattle.cyc_agreement.proofs.FirstReason.{passes}
-use Rattle.cyc_juggle.proofs.Replaced.{standing, agrees_replaced}
+use Rattle.cyc_system.proofs.Replaced.{standing, agrees_replaced}
 use Rattle.cyc_agreement.proofs.Shifted.{most_same, rise_on, went, stayed}
 use Rattle.cyc_system.proofs.system.System.bind.Goals as goal
 

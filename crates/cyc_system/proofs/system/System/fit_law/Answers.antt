@@ -1,6 +1,6 @@
 use Rattle.std.proofs.Common.{subst}
 use Rattle.cyc_agreement.specs.System.{SystemView}
-use Rattle.cyc_removal.specs.Counts.{AreLawful}
+use Rattle.cyc_agreement.specs.Counts.{AreLawful}
 use Rattle.cyc_system.proofs.system.System.fit_law.Goals as goal
 
 pub returns-clause-lawful : goal.returns-clause-lawful

@@ -1,7 +1,7 @@
 use Rattle.std.proofs.Common.{subst}
 use Rattle.cyc_agreement.specs.System.{SystemView}
 use Rattle.cyc_agreement.proofs.Spots.{seen}
-use Rattle.cyc_juggle.specs.Juggling.{Juggles}
+use Rattle.cyc_system.specs.Juggling.{Juggles}
 use Rattle.cyc_system.proofs.Left.{holds_juggled}
 use Rattle.cyc_system.proofs.system.System.juggle.Goals as goal
 

@@ -1,7 +1,7 @@
 use Rattle.std.proofs.Common.{subst}
 use Rattle.cyc_agreement.specs.System.{SystemView}
 use Rattle.cyc_agreement.proofs.Spots.{seen}
-use Rattle.cyc_juggle.specs.GoingOffline.{GoesOffline}
+use Rattle.cyc_system.specs.GoingOffline.{GoesOffline}
 use Rattle.cyc_system.proofs.Left.{holds_offline}
 use Rattle.cyc_system.proofs.system.System.offline.Goals as goal
 

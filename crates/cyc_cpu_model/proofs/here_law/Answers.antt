@@ -1,8 +1,0 @@
-use Rattle.cyc_cpu_model.proofs.Law.{is_here}
-use Rattle.cyc_cpu_model.proofs.Tied.{rises}
-use Rattle.cyc_cpu_model.proofs.here_law.Goals as goal
-
-pub returns : goal.returns
-returns g c = λ n online call s t h goes does.
-    is_here g.C.Calls n online call s t h.rising
-    (rises g.C.Calls call s t goes does h.rising) goes does

@@ -1,9 +1,0 @@
-use Rattle.cyc_cpu_model.proofs.Tied.{lawful_tied}
-use Rattle.cyc_cpu_model.proofs.Stopping.{tied_always}
-use Rattle.cyc_cpu_model.proofs.tied_law.Goals as goal
-
-pub returns-clause-lawful : goal.returns-clause-lawful
-returns-clause-lawful g c = lawful_tied
-
-pub returns-clause-kept : goal.returns-clause-kept
-returns-clause-kept g c = λ call s t does h. tied_always g.C.Calls call s t does h

@@ -1,3 +1,0 @@
-pub mod Juggling
-pub mod GoingOffline
-pub mod Walking

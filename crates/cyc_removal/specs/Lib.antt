@@ -1,6 +1,0 @@
-pub mod Removing
-pub mod Polling
-pub mod Counting
-pub mod Withdrawing
-pub mod RemovalLaws
-pub mod Counts
