@@ -1,7 +1,7 @@
 -- A step's start and interval, and the series and the moment that they are.
 use Rattle.std.proofs.Common.{◌≡◌, ◌⊎◌, inl, inr, cond, ℕ, Bool, [], ◌∷◌, Option, ◌<◌, ◌+◌, true, false}
 use Rattle.std.proofs.Common.{refl, ap, sym, ◌∙◌, arith}
-use Rattle.std.specs.Prelude.{T, ◌<ℤ◌, ℤ, pos, int_lt, nat_lt, None, Some}
+use Rattle.std.specs.Prelude.{◌<ℤ◌, ℤ, pos, int_lt, nat_lt, None, Some}
 use Rattle.std.proofs.lemmas.Bool.Decides.{nat_tests}
 use Rattle.cyc_types.specs.declared.moment.When.{When}
 use Rattle.cyc_types.specs.declared.refusal.Refusal.TheVariants.{BadWhen, BadInterval, NoCyclic}

@@ -1,5 +1,5 @@
 -- A juggle and an offline as words.
-use Rattle.std.proofs.Common.{◌≡◌, ◌≢◌, ℕ, List, [], ◌∷◌, refl, ap, sym, ◌∙◌, arith}
+use Rattle.std.proofs.Common.{◌≡◌, ◌≢◌, ℕ, List, refl, ap, sym, ◌∙◌, arith}
 use Rattle.std.specs.Prelude.{Result, Ok, Err}
 use Rattle.cyc_types.specs.declared.refusal.JuggleReport.{JuggleReport}
 use Rattle.cyc_types.specs.declared.refusal.Refusal.{Refusal}
@@ -8,7 +8,7 @@ use Rattle.cyc_types.specs.Refusals.{number_of}
 use Rattle.cyc_text.specs.Lines.{accepted, refused, moved, cyclics_left}
 use Rattle.cyc_script.specs.declared.step.Step.TheVariants as steps
 use Rattle.cyc_model.specs.Questions.{plain}
-use Rattle.cyc_model.specs.State.{State, Outcome, each}
+use Rattle.cyc_model.specs.State.{State}
 use Rattle.cyc_model.specs.Script.{refusal_of}
 use Rattle.cyc_model.proofs.Still.{still_juggle, still_offline}
 use Rattle.cyc_system_model.specs.SystemWords.{IsDoneWith, IsRefusedFor, IsAtOnce}

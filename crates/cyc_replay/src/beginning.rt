@@ -6,6 +6,8 @@ ghost use Rattle.cyc_types.specs.declared.refusal.Refusal.TheVariants.{Memory};
 ghost use Rattle.cyc_types.specs.Tally.{tally_made};
 ghost use Rattle.cyc_types.specs.Pairs.{EachTwo};
 ghost use Rattle.cyc_types.specs.Limits.{most_cpus};
+ghost use Rattle.cyc_level.specs.Level.{empty_level};
+ghost use Rattle.cyc_core.specs.Tables.{level_of};
 ghost use Rattle.cyc_model.specs.Script.{start};
 ghost use Rattle.cyc_words.specs.declared.named.Named.TheVariants.{Nothing};
 ghost use Rattle.cyc_system_model.specs.Kept.{LevelsAreNew};
@@ -28,6 +30,17 @@ fn first_id() -> CyclicId
     CyclicId::new(1).unwrap()
 }
 
+/// The two soft levels of a CPU, both new.
+fn new_pair(alloc: Global, ceiling: Ceiling) -> Result<(LevelCore, LevelCore), Refusal>
+    ensures lock { IfOk result (λ e. level_of e.0 ≡ empty_level ceiling) }
+    ensures low { IfOk result (λ e. level_of e.1 ≡ empty_level ceiling) }
+    ensures err { IfErr result (λ refusal. refusal ≡ Memory) }
+{
+    let lock = LevelCore::new(alloc, ceiling)?;
+    let low = LevelCore::new(alloc, ceiling)?;
+    Ok((lock, low))
+}
+
 /// New levels for so many CPUs: of each its lock and its low level.
 fn new_levels(
     alloc: Global,
@@ -38,11 +51,9 @@ fn new_levels(
     ensures new { IfOk result (λ ends. LevelsAreNew ceiling ends.items) }
     ensures err { IfErr result (λ refusal. refusal ≡ Memory) }
 {
-    let mut ends = Vec::new(alloc);
+    let mut ends = Vec::with_capacity(alloc, cpus as usize)?;
     for _ in 0..cpus {
-        let lock = LevelCore::new(alloc, ceiling)?;
-        let low = LevelCore::new(alloc, ceiling)?;
-        ends.push((lock, low))?;
+        ends.push_reserved(new_pair(alloc, ceiling)?);
     }
     Ok(ends)
 }

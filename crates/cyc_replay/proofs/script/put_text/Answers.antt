@@ -1,19 +1,29 @@
 use Rattle.std.proofs.Common.{◌+◌, List, ℕ, length, subst, arith}
-use Rattle.std.specs.Prelude.{Result, Ok, Err, OnOk}
+use Rattle.std.specs.Prelude.{Result, Ok, Err, OnOk, Option}
 use Rattle.std.proofs.lemmas.Result.{err_from_is_err_and}
-use Rattle.cyc_text.specs.Puts.{Puts}
+use Rattle.cyc_text.specs.Puts.{Puts, AppendsPrefix}
 use Rattle.cyc_text.proofs.Puts.{more, stops}
-use Rattle.cyc_model.specs.Script.{names_of, run_of, text_with}
+use Rattle.cyc_script.specs.declared.script.Script.{Script}
+use Rattle.cyc_model.specs.Report.{reports}
+use Rattle.cyc_model.specs.Script.{names_of, no_indexes, run_on, run_of, text_of, text_with}
 use Rattle.cyc_replay.proofs.Introduced.{all_names}
 use Rattle.cyc_replay.proofs.RunningMachine.{reached_so}
 use Rattle.cyc_replay.proofs.Running.{runs_shown, whole_text}
 use Rattle.cyc_replay.proofs.script.put_text.Goals as goal
 
-pub returns-in_err-put_steps-clause-text : goal.returns-in_err-put_steps-clause-text
+stops_early : (script : Script) (old new : Option (List ℕ))
+    → AppendsPrefix old new (run_on no_indexes script.cpus script.ceiling (names_of script) script.steps.items).line
+    → AppendsPrefix old new (text_of script)
 unfolding text_with run_of
+stops_early script old new p = stops old new
+    (run_on no_indexes script.cpus script.ceiling (names_of script) script.steps.items).line
+    (reports 0 (names_of script) (run_on no_indexes script.cpus script.ceiling (names_of script) script.steps.items).state) p
+
+pub returns-in_err-put_steps-clause-text : goal.returns-in_err-put_steps-clause-text
 returns-in_err-put_steps-clause-text g c =
     let p = err_from_is_err_and c.from_residual.result c.from_residual.ensures.1 in
-    rw p.1 (stops _ _ _ _ c.in_err-put_steps.ensures.text)
+    rw p.1 (stops_early c.args.script.now (g.S.Sink.written c.args.sink.now) (g.S.Sink.written c.put_steps.new.sink)
+    c.in_err-put_steps.ensures.text)
 
 pub returns-clause-text : goal.returns-clause-text
 returns-clause-text g c =

@@ -72,8 +72,8 @@ returns-in_default-why g c = let (r, is, named, placement) = c.requires.record i
         (
           MayGo.refused g.R.Raise c.args.id c.args.source c.in-Some.target c.args.cpus.now c.shift.new.self
               c.in-Err.why c.requires.still c.in_default-why.not-Pending c.in-Err.ensures,
-          refl,
-          refl,
+          refl {a = c.args.records.now.list},
+          refl {a = last},
         ),
       );
       agrees = λ last a.
