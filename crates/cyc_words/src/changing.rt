@@ -82,28 +82,6 @@ fn reprogram_at<R: Raise>(
     }
 }
 
-/// The same of the cyclic of a name.
-fn reprogram_named<R: Raise>(
-    system: &mut System<R>,
-    names: &Names,
-    name: Name,
-    cpu: Option<u32>,
-    moment: Moment,
-) -> Result<WordAnswer, Refusal>
-    ensures { WithId (cyclic_id (named_at names.now name)) (λ id. (answer : Result (Unit {0}) AnyRefusal)
-        × (result ≡ word_answer done answer)
-        × DoesCall R.Raise name (reprograms cpu id moment answer) (word_state system.old names.now)
-        (word_state system.new names.now))
-        ((result ≡ Err NoCyclic) × (word_state system.new names.now ≡ word_state system.old names.now)) }
-{
-    let Some(id) = id_of(names.at(name.number())) else {
-        return Err(Refusal::NoCyclic);
-    };
-    let answer = reprogram_at(system, id, cpu, moment);
-    sound(system);
-    told(answer)
-}
-
 /// The word `reprogram`.
 pub(crate) fn reprogram<R: Raise>(
     system: &mut System<R>,
@@ -114,7 +92,12 @@ pub(crate) fn reprogram<R: Raise>(
         (word_state system.old names.now) (word_state system.new names.now) }
 {
     let moment = moment_of(reprogram)?;
-    reprogram_named(system, names, reprogram.name, reprogram.cpu, moment)
+    let Some(id) = id_of(names.at(reprogram.name.number())) else {
+        return Err(Refusal::NoCyclic);
+    };
+    let answer = reprogram_at(system, id, reprogram.cpu, moment);
+    sound(system);
+    told(answer)
 }
 
 /// The word `juggle`.
