@@ -56,7 +56,8 @@ FIRST = {
     for name, word in (("cyclic_replay", "replay"), ("cyclic", "run"))
 }
 PROVED = {"cyclic_replay": "proved 1 of 1: low, T\n", "cyclic": "proved 1 of 2: low, T\nproved 2 of 2: high, T\n"}
-REPLAY, RUN = ["low: lib", "cyclic_replay: run"], ["low: lib", "high: lib", "cyclic: run -- replay"]
+REPLAY = ["low: lib --jobs 2", "cyclic_replay: run"]
+RUN = ["low: lib --jobs 2", "high: lib --jobs 2", "cyclic: run -- replay"]
 
 
 class Start:
@@ -201,8 +202,7 @@ def tries(start):
         start.builds(f"after {number.name}", "run")
     start.write("crates/wide/src/lib.rt", "w")
     start.write("crates.txt", "low: thiserror\nhigh: low\nwide: low\ncyclic_replay: low\ncyclic: high wide low\n")
-    with_two = ["low: lib", "high: lib --jobs 2", "cyclic: run -- replay"]
-    start.side_by_side("side by side", [*with_two, "wide: lib --jobs 2, in a copy", "wide: lib"])
+    start.side_by_side("side by side", [*RUN, "wide: lib --jobs 2, in a copy", "wide: lib"])
     said, calls = "the kit's line\n", ["cyclic: try -- replay x"]
     start.run("a look", ["replay", "x"], 3, "look -- replay x\nscript", said, calls, script="look")
     start.write("crates/low/src/lib.rt", "no kit")
